@@ -1,0 +1,11 @@
+pub mod Rows
+pub mod Limits
+pub mod Sums
+pub mod Leaves
+pub mod Calls
+pub mod Bounds
+pub mod Callable
+pub mod Verdicts
+pub mod Once
+pub mod Totals
+pub mod Spent

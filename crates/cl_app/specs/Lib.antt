@@ -1,0 +1,15 @@
+pub mod Items
+pub mod Reserved
+pub mod Contract
+pub mod Seen
+pub mod Meaning
+pub mod Cost
+pub mod Run
+pub mod Law
+pub mod Result
+pub mod Report
+pub mod Words
+pub mod Argument
+pub mod Answer
+pub mod Top
+pub mod Reply

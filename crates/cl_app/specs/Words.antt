@@ -1,0 +1,27 @@
+-- What the words of a command line ask for.
+use Rattle.std.specs.Prelude.{ℕ, Bool, false, List, [], ◌∷◌, Option, Some, None, codes, if◌then◌else◌, ◌==◌, string_bytes, map}
+use Rattle.std.specs.List.{list_any}
+use Rattle.std.specs.Str.{bytes_eq}
+use Rattle.std.specs.declared.alloc.Global.{Global}
+use Rattle.std.specs.declared.string.String.{String}
+
+-- the words as bytes
+abbrev pub texts : List (String Global) → List (List ℕ)
+texts words = map string_bytes words
+
+-- a command with its words
+pub data Command : Type 0 where
+  Call : (file function : List ℕ) (args : List (List ℕ)) → Command
+
+abbrev pub begins_with_dash : List ℕ → Bool
+begins_with_dash [] = false
+begins_with_dash (b ∷ bytes) = b == 45
+
+-- the command of the first word, where it has enough words
+abbrev pub command_of : List (List ℕ) → Option Command
+command_of (word ∷ file ∷ function ∷ args) = if bytes_eq word (codes "call") then Some (Call file function args) else None
+command_of words = None
+
+-- the command that the words give, where they are of the table; no word begins with a dash
+abbrev pub taken : List (List ℕ) → Option Command
+taken words = if list_any begins_with_dash words then None else command_of words

@@ -1,0 +1,92 @@
+//! The call of a function of a deployed contract.
+ghost use Rattle.std.specs.Prelude.{◌≡◌, Some, length};
+ghost use Rattle.cl_app.specs.Contract.{IsCallable};
+ghost use Rattle.cl_app.specs.Seen.{function_seen};
+ghost use Rattle.cl_app.specs.Meaning.{applied};
+ghost use Rattle.cl_app.specs.Cost.{limited, ended};
+ghost use Rattle.cl_app.specs.Result.{cost_of_abort, call_result};
+
+use crate::contract::Function;
+use crate::evaluate::{Abort, INT_SIZE, evaluate, pay};
+use cl_shapes::{Cost5, CostName, Meter};
+
+/// Why an entry isn't run.
+#[derive(Clone, Copy, Debug, PartialEq, Eq)]
+pub(crate) enum EntryRefusal {
+    /// E2: the contract has no function of this name.
+    NoFunction,
+    /// E4: the function has another number of parameters.
+    ArgumentCount,
+}
+
+/// How a call ended.
+#[derive(Clone, Copy, Debug, PartialEq, Eq)]
+pub(crate) enum Outcome {
+    /// The answer of a read-only function.
+    Plain(i128),
+    Aborted(Abort),
+    Refused(EntryRefusal),
+}
+
+/// How a call ended, and what it cost unless it was refused.
+#[derive(Clone, Copy, Debug, PartialEq, Eq)]
+pub(crate) struct CallResult {
+    pub(crate) outcome: Outcome,
+    pub(crate) cost: Option<Cost5>,
+}
+
+/// Charges for each value that is bound to a parameter, and evaluates the body.
+fn apply(function: &Function, values: &[i128], meter: &mut Meter) -> Result<i128, Abort>
+    requires callable { IsCallable (function_seen function.now) }
+    requires values { length values.now ≡ length function.now.parameters.keys }
+    ensures { limited meter.old (applied (function_seen function.now) values.now) ≡ ended result meter.new }
+{
+    pay(meter, CostName::Call, values.len() as u64)?;
+    for _value in values {
+        pay(meter, CostName::Bind, INT_SIZE)?;
+    }
+    evaluate(&function.parameters, values, function.body, meter)
+}
+
+/// The cost of a run that was aborted: its charges, the one that passed the limit included.
+fn cost_of_abort(abort: Abort, meter: &Meter) -> Cost5
+    ensures { result ≡ cost_of_abort abort meter.now }
+{
+    match abort {
+        Abort::Overflow | Abort::Underflow => meter.spent(),
+        Abort::CostLimit(over) => over.attempted,
+    }
+}
+
+fn refused(refusal: EntryRefusal) -> CallResult
+    ensures { result ≡ record { outcome = Outcome.Refused refusal; cost = None } }
+{
+    CallResult {
+        outcome: Outcome::Refused(refusal),
+        cost: None,
+    }
+}
+
+/// Calls the contract's one function by a name, with no stated limits.
+pub(crate) fn call(function: &Function, name: &str, values: &[i128]) -> CallResult
+    requires { IsCallable (function_seen function.now) }
+    ensures { call_result (function_seen function.now) name.now values.now ≡ Some result }
+{
+    if function.name.bytes() != name.as_bytes() {
+        return refused(EntryRefusal::NoFunction);
+    }
+    if values.len() != function.parameters.len() {
+        return refused(EntryRefusal::ArgumentCount);
+    }
+    let mut meter = Meter::new([u64::MAX; 5]);
+    match apply(function, values, &mut meter) {
+        Ok(value) => CallResult {
+            outcome: Outcome::Plain(value),
+            cost: Some(meter.spent()),
+        },
+        Err(abort) => CallResult {
+            outcome: Outcome::Aborted(abort),
+            cost: Some(cost_of_abort(abort, &meter)),
+        },
+    }
+}

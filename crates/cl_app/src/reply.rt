@@ -1,0 +1,267 @@
+//! The reply to a command: the pieces that are written, and the status.
+ghost use Rattle.std.specs.Prelude.{◌≡◌, ◌≢◌, ◌↔◌, ◌<◌, ◌^◌, ◌++◌, ◌∷◌, [], None, Some, IfOk, IfErr, string_bytes};
+ghost use Rattle.cl_ports.specs.Growth.{GrowsPart};
+ghost use Rattle.cl_sexpr.specs.Tree.{forest, forest_size};
+ghost use Rattle.cl_app.specs.Contract.{IsCallable, function_in};
+ghost use Rattle.cl_app.specs.Seen.{function_seen};
+ghost use Rattle.cl_app.specs.Cost.{function_bound};
+ghost use Rattle.cl_app.specs.Report.{deployment_text};
+ghost use Rattle.cl_app.specs.Answer.{usage_answer, long_file_answer, refused_word_answer, refused_source_answer, status_of, IsReportOf, IsReport};
+ghost use Rattle.cl_app.specs.Words.{Call, taken, texts};
+ghost use Rattle.cl_app.specs.Reply.{answer_of, CountsStop, IsHeldAnswer};
+ghost use Rattle.cl_app.specs.Top.{IsAnswer, IsOwnStatus, AsksPart};
+
+use crate::argument::ints;
+use crate::bound::function_bound;
+use crate::call::{Outcome, call};
+use crate::contract::{Function, function_in};
+use crate::report::{call_text, deployment_back, deployment_front};
+use crate::words::has_dash;
+use cl_ports::{Files, ReadRefusal};
+use cl_sexpr::{Sexpr, one_reading, read};
+use cl_types::{Fault, NoMemory};
+use std::alloc::{AllocError, Global};
+
+/// What is written, piece by piece, and the status.
+#[derive(Drop)]
+pub(crate) struct Reply {
+    pub(crate) pieces: Vec<Vec<u8>>,
+    pub(crate) status: u8,
+}
+
+/// Why there is no reply.
+#[derive(Drop)]
+pub(crate) enum Stop {
+    ReadFailed,
+    NoMemory,
+}
+
+impl From<AllocError> for Stop {
+    ghost use Rattle.std.specs.Prelude.{◌≡◌};
+    ghost use Rattle.cl_app.specs.declared.reply.Stop.TheVariants.{NoMemory};
+
+    ghost from_gives = { λ _ e. e ≡ NoMemory };
+
+    fn from(_error: AllocError) -> Self {
+        Stop::NoMemory
+    }
+}
+
+impl From<NoMemory> for Stop {
+    ghost use Rattle.std.specs.Prelude.{◌≡◌};
+    ghost use Rattle.cl_app.specs.declared.reply.Stop.TheVariants.{NoMemory as OutOfMemory};
+
+    ghost from_gives = { λ _ e. e ≡ OutOfMemory };
+
+    fn from(_error: NoMemory) -> Self {
+        Stop::NoMemory
+    }
+}
+
+fn one_piece(alloc: Global, line: String, status: u8) -> Result<Reply, AllocError>
+    ensures { IfOk result (λ reply. answer_of reply ≡ record { bytes = string_bytes line; status = status }) }
+{
+    let mut pieces = Vec::new(alloc);
+    pieces.push(line.into_bytes())?;
+    Ok(Reply { pieces, status })
+}
+
+fn two_pieces(
+    alloc: Global,
+    first: Vec<u8>,
+    second: String,
+    status: u8,
+) -> Result<Reply, AllocError>
+    ensures { IfOk result (λ reply. answer_of reply ≡ record { bytes = first.items ++ string_bytes second; status = status }) }
+{
+    let mut pieces = Vec::new(alloc);
+    pieces.push(first)?;
+    pieces.push(second.into_bytes())?;
+    Ok(Reply { pieces, status })
+}
+
+fn fixed_line(alloc: Global, line: &str, status: u8) -> Result<Reply, AllocError>
+    ensures { IfOk result (λ reply. answer_of reply ≡ record { bytes = line.now; status = status }) }
+{
+    one_piece(alloc, String::from_str(alloc, line)?, status)
+}
+
+/// The reply to words that are not of the table.
+fn usage(alloc: Global) -> Result<Reply, AllocError>
+    ensures { IfOk result (λ reply. answer_of reply ≡ usage_answer) }
+{
+    fixed_line(alloc, "usage: clarity COMMAND WORDS\n", 2)
+}
+
+/// The reply to an argument that isn't taken.
+fn refused_word(alloc: Global) -> Result<Reply, AllocError>
+    ensures { IfOk result (λ reply. answer_of reply ≡ refused_word_answer) }
+{
+    fixed_line(alloc, "refused NotYet\n", 8)
+}
+
+/// The reply to a file that is too long.
+fn long_file(alloc: Global, name: &str) -> Result<Reply, AllocError>
+    ensures { IfOk result (λ reply. answer_of reply ≡ long_file_answer name.now) }
+{
+    let line = format!(in alloc; "bad file {name} TooLong\n")?;
+    one_piece(alloc, line, 5)
+}
+
+/// The reply to a source that is refused.
+fn refused_source(alloc: Global) -> Result<Reply, AllocError>
+    ensures { IfOk result (λ reply. answer_of reply ≡ refused_source_answer) }
+{
+    fixed_line(
+        alloc,
+        "0 deploy 'SP000000000000000000002Q6VF78.main refused E7 ContractRefused N0 NotYet 0..0\n",
+        6,
+    )
+}
+
+#[tactic(auto, using(std::proofs::Common::append_assoc))]
+fn joined(front: Vec<u8>, middle: &[u8], back: &[u8]) -> Result<Vec<u8>, AllocError>
+    ensures { IfOk result (λ text. text.items ≡ front.items ++ (middle.now ++ back.now)) }
+{
+    let mut text = front;
+    text.extend_from_slice(middle)?;
+    text.extend_from_slice(back)?;
+    Ok(text)
+}
+
+/// The lines of the deployment of a text of `count` bytes.
+fn deployment(alloc: Global, count: usize, function: &Function) -> Result<Vec<u8>, AllocError>
+    requires { IsCallable (function_seen function.now) }
+    ensures { IfOk result (λ text. text.items ≡ deployment_text count (function_seen function.now)) }
+{
+    let front = deployment_front(alloc, count)?;
+    let back = deployment_back(alloc, &function_bound(function))?;
+    joined(front.into_bytes(), function.name.bytes(), back.as_bytes())
+}
+
+fn status_of(outcome: Outcome) -> u8
+    ensures value { result ≡ status_of outcome }
+    ensures own { IsOwnStatus result × (result ≢ 2) }
+{
+    match outcome {
+        Outcome::Plain(_) => 0,
+        Outcome::Aborted(_) | Outcome::Refused(_) => 7,
+    }
+}
+
+/// The report of an accepted text of `count` bytes.
+fn called(
+    alloc: Global,
+    count: usize,
+    function: &Function,
+    name: &str,
+    values: &[i128],
+) -> Result<Reply, AllocError>
+    requires { IsCallable (function_seen function.now) }
+    ensures answer { IfOk result (λ reply. IsReportOf (Some (function_seen function.now)) count name.now values.now (answer_of reply)) }
+    ensures status { IfOk result (λ reply. IsOwnStatus reply.status × (reply.status ≢ 2)) }
+{
+    let deployed = deployment(alloc, count, function)?;
+    let ended = call(function, name, values);
+    let line = call_text(alloc, name, &ended)?;
+    two_pieces(alloc, deployed, line, status_of(ended.outcome))
+}
+
+/// The report of the items of a text of `count` bytes.
+fn items_report(
+    alloc: Global,
+    count: usize,
+    items: &[Sexpr],
+    name: &str,
+    values: &[i128],
+) -> Result<Reply, AllocError>
+    requires { forest_size (forest items.now) < 2 ^ 40 }
+    ensures answer { IfOk result (λ reply. IsReportOf (function_in items.now) count name.now values.now (answer_of reply)) }
+    ensures status { IfOk result (λ reply. IsOwnStatus reply.status × (reply.status ≢ 2)) }
+{
+    match function_in(alloc, items) {
+        Ok(Some(function)) => called(alloc, count, &function, name, values),
+        Ok(None) => refused_source(alloc),
+        Err(error) => Err(error),
+    }
+}
+
+/// The report of two entries: the source is deployed, and then a function is called.
+fn report(alloc: Global, source: &[u8], name: &str, values: &[i128]) -> Result<Reply, NoMemory>
+    ensures answer { IfOk result (λ reply. IsReport source.now name.now values.now (answer_of reply)) }
+    ensures status { IfOk result (λ reply. IsOwnStatus reply.status × (reply.status ≢ 2)) }
+{
+    one_reading();
+    match read(alloc, source) {
+        Ok(items) => Ok(items_report(alloc, source.len(), &items, name, values)?),
+        Err(Fault::Refused(_)) => Ok(refused_source(alloc)?),
+        Err(Fault::NoMemory) => Err(NoMemory),
+    }
+}
+
+/// The reply to `call` whose arguments are ints.
+fn file_reply<F: Files>(
+    alloc: Global,
+    file: &str,
+    name: &str,
+    values: &[i128],
+    files: &mut F,
+) -> Result<Reply, Stop>
+    ensures answer { IfOk result (λ reply. IsHeldAnswer file.now name.now values.now (F.held files.old) (answer_of reply)) }
+    ensures status { IfOk result (λ reply. IsOwnStatus reply.status × (reply.status ≢ 2)) }
+    ensures cause { CountsStop (F.faults files.old) (F.faults files.new) result }
+    ensures asked { GrowsPart (F.asked files.old) (F.asked files.new) (file.now ∷ []) }
+{
+    match files.read(file) {
+        Ok(source) => Ok(report(alloc, &source, name, values)?),
+        Err(ReadRefusal::TooLong { .. }) => Ok(long_file(alloc, file)?),
+        Err(ReadRefusal::Failed) => Err(Stop::ReadFailed),
+        Err(ReadRefusal::NoMemory) => Err(Stop::NoMemory),
+    }
+}
+
+/// The reply to `call`.
+fn call_reply<F: Files>(
+    alloc: Global,
+    file: &str,
+    name: &str,
+    args: &[String],
+    files: &mut F,
+) -> Result<Reply, Stop>
+    ensures answer { IfOk result (λ reply. IsAnswer (Some (Call file.now name.now (texts args.now))) (F.held files.old) (answer_of reply)) }
+    ensures status { IfOk result (λ reply. IsOwnStatus reply.status × (reply.status ≢ 2)) }
+    ensures cause { CountsStop (F.faults files.old) (F.faults files.new) result }
+    ensures asked { AsksPart (Some (Call file.now name.now (texts args.now))) (F.held files.old) (F.asked files.old) (F.asked files.new) }
+{
+    let Some(values) = ints(alloc, args)? else {
+        return Ok(refused_word(alloc)?);
+    };
+    file_reply(alloc, file, name, &values, files)
+}
+
+/// The reply to the words.
+pub(crate) fn reply_to<F: Files>(
+    alloc: Global,
+    words: &[String],
+    files: &mut F,
+) -> Result<Reply, Stop>
+    ensures answer { IfOk result (λ reply. IsAnswer (taken (texts words.now)) (F.held files.old) (answer_of reply)) }
+    ensures status { IfOk result (λ reply. IsOwnStatus reply.status × ((reply.status ≡ 2) ↔ (taken (texts words.now) ≡ None))) }
+    ensures usage { IfOk result (λ reply. reply.status ≡ 2 → answer_of reply ≡ usage_answer) }
+    ensures reads { IfErr result (λ stop. stop ≡ Stop.ReadFailed → taken (texts words.now) ≢ None) }
+    ensures cause { CountsStop (F.faults files.old) (F.faults files.new) result }
+    ensures asked { AsksPart (taken (texts words.now)) (F.held files.old) (F.asked files.old) (F.asked files.new) }
+{
+    if has_dash(words) {
+        return Ok(usage(alloc)?);
+    }
+    match words {
+        [command, file, name, args @ ..] => {
+            if command.as_str() != "call" {
+                return Ok(usage(alloc)?);
+            }
+            call_reply(alloc, file.as_str(), name.as_str(), args, files)
+        }
+        _ => Ok(usage(alloc)?),
+    }
+}

@@ -1,0 +1,267 @@
+use crate::clarity;
+use cl_ports::{MemoryFiles, MemorySink};
+use std::alloc::{AllocError, Global};
+use std::test::Fail;
+
+const INC: &[u8] = b"(define-read-only (add1 (x int)) (+ x 1))";
+
+const DEPLOYED: &str =
+    "0 deploy 'SP000000000000000000002Q6VF78.main done\n  cost 2 0 0 2 41\n  deploy-bound 2 0 0 2 41\n  bound add1 5 0 0 0 0 int\n";
+
+const CALLED: &str = "1 call 'SP000000000000000000002Q6VF78.main ";
+
+const REFUSED: &str =
+    "0 deploy 'SP000000000000000000002Q6VF78.main refused E7 ContractRefused N0 NotYet 0..0\n";
+
+fn owned(alloc: Global, words: &[&str]) -> Result<Vec<String>, AllocError> {
+    let mut all = Vec::new(alloc);
+    for word in words {
+        all.push(String::from_str(alloc, *word)?)?;
+    }
+    Ok(all)
+}
+
+/// What a run ended with, wrote and asked for.
+#[derive(Drop)]
+struct Ended {
+    status: u8,
+    text: String,
+    asked: usize,
+}
+
+// What the words give over one file `inc.clar`, where these reads and writes fail.
+fn run(
+    alloc: Global,
+    words: &[&str],
+    source: &[u8],
+    reads: &[u32],
+    writes: &[u32],
+) -> Result<Ended, Fail> {
+    let mut entries = Vec::new(alloc);
+    entries.push((
+        String::from_str(alloc, "inc.clar")?,
+        Vec::from_slice(alloc, source)?,
+    ))?;
+    let reads = Vec::from_slice(alloc, reads)?;
+    let writes = Vec::from_slice(alloc, writes)?;
+    let mut files = MemoryFiles::new(alloc, entries, reads);
+    let mut out = MemorySink::new(alloc, 1000, writes)?;
+    let words = owned(alloc, words)?;
+    let status = clarity(alloc, &words, &mut files, &mut out);
+    let text = std::str::from_utf8(out.bytes())?;
+    Ok(Ended {
+        status,
+        text: String::from_str(alloc, text)?,
+        asked: files.asked().len(),
+    })
+}
+
+#[test]
+fn each_outcome_of_a_call(rt: HostRuntime) -> Result<(), Fail> {
+    let alloc = rt.alloc();
+    let greatest = "170141183460469231731687303715884105727";
+    for (name, arg, status, end) in [
+        ("add1", "41", 0, "add1 value 42\n  cost 5 0 0 0 0\n"),
+        ("add1", "0041", 0, "add1 value 42\n  cost 5 0 0 0 0\n"),
+        (
+            "add1",
+            greatest,
+            7,
+            "add1 aborted A1 Overflow\n  cost 5 0 0 0 0\n",
+        ),
+        ("add2", "41", 7, "add2 refused E2 NoFunction\n"),
+        ("", "41", 7, " refused E2 NoFunction\n"),
+    ] {
+        let ended = run(alloc, &["call", "inc.clar", name, arg], INC, &[], &[])?;
+        let all = format!(in alloc; "{DEPLOYED}{CALLED}{end}")?;
+        assert_eq!(rt; ended.text.as_str(), all.as_str(), "{name} {arg}");
+        assert_eq!(rt; ended.status, status, "{name} {arg}");
+        assert_eq!(rt; ended.asked, 1);
+    }
+    let ended = run(alloc, &["call", "inc.clar", "add1"], INC, &[], &[])?;
+    let all = format!(in alloc; "{DEPLOYED}{CALLED}add1 refused E4 ArgumentCount\n")?;
+    assert_eq!(rt; ended.text.as_str(), all.as_str());
+    assert_eq!(rt; ended.status, 7);
+    Ok(())
+}
+
+// The line of the bound of `f`, and the end of the report.
+#[test]
+fn sums_with_their_charges(rt: HostRuntime) -> Result<(), Fail> {
+    let alloc = rt.alloc();
+    for (source, bound, end) in [
+        (
+            "(define-read-only (f) -7)",
+            2,
+            "value -7\n  cost 2 0 0 0 0\n",
+        ),
+        (
+            "(define-read-only (f) (+ 5))",
+            3,
+            "value 5\n  cost 3 0 0 0 0\n",
+        ),
+        (
+            "\n(define-read-only\t(f) (+ (+ 1 2) -4 (+ 007)) ) ",
+            8,
+            "value 6\n  cost 8 0 0 0 0\n",
+        ),
+        // The first partial sum out of range stops a sum, when all its parts are there.
+        (
+            "(define-read-only (f) (+ 170141183460469231731687303715884105727 1 -1))",
+            5,
+            "aborted A1 Overflow\n  cost 5 0 0 0 0\n",
+        ),
+        (
+            "(define-read-only (f) (+ -170141183460469231731687303715884105728 -1 1))",
+            5,
+            "aborted A2 Underflow\n  cost 5 0 0 0 0\n",
+        ),
+        // A part that is aborted leaves the parts behind it and the outer sum uncharged.
+        (
+            "(define-read-only (f) (+ 1 (+ -170141183460469231731687303715884105728 -1) 2))",
+            7,
+            "aborted A2 Underflow\n  cost 5 0 0 0 0\n",
+        ),
+    ] {
+        let ended = run(
+            alloc,
+            &["call", "inc.clar", "f"],
+            source.as_bytes(),
+            &[],
+            &[],
+        )?;
+        let count = source.len();
+        let all = format!(in alloc;
+            "0 deploy 'SP000000000000000000002Q6VF78.main done\n  cost 2 0 0 2 {count}\n  deploy-bound 2 0 0 2 {count}\n  bound f {bound} 0 0 0 0 int\n{CALLED}f {end}"
+        )?;
+        assert_eq!(rt; ended.text.as_str(), all.as_str());
+    }
+    Ok(())
+}
+
+#[test]
+fn values_go_to_their_parameters(rt: HostRuntime) -> Result<(), Fail> {
+    let alloc = rt.alloc();
+    let source = b"(define-read-only (= (int int) (b! int)) (+ b! b! int))";
+    let ended = run(
+        alloc,
+        &["call", "inc.clar", "=", "5", "1000"],
+        source,
+        &[],
+        &[],
+    )?;
+    assert_eq!(rt; ended.status, 0);
+    assert!(rt;
+        ended
+            .text
+            .as_str()
+            .ends_with("= value 2005\n  cost 7 0 0 0 0\n")
+    );
+    Ok(())
+}
+
+#[test]
+fn sources_that_are_refused(rt: HostRuntime) -> Result<(), Fail> {
+    let alloc = rt.alloc();
+    for source in [
+        "",
+        "x",
+        "()",
+        "(define-read-only (f) 1)(define-read-only (g) 1)",
+        "(define-public (f) 1)",
+        "(define-read-only f 1)",
+        "(define-read-only () 1)",
+        "(define-read-only (f) 1 2)",
+        "(define-read-only (f))",
+        "(define-read-only (1) 1)",
+        "(define-read-only (u1) 1)",
+        "(define-read-only (f (u1 int)) 1)",
+        "(define-read-only (f (x uint)) 1)",
+        "(define-read-only (f (x int int)) 1)",
+        "(define-read-only (f x) 1)",
+        "(define-read-only (f (x int) (x int)) 1)",
+        "(define-read-only (f (f int)) 1)",
+        "(define-read-only (+) 1)",
+        "(define-read-only (get) 1)",
+        "(define-read-only (hash160) 1)",
+        "(define-read-only (f (tx-sender int)) 1)",
+        "(define-read-only (f (define-map int)) 1)",
+        "(define-read-only (f) y)",
+        "(define-read-only (f) f)",
+        "(define-read-only (f) u1)",
+        "(define-read-only (f) ())",
+        "(define-read-only (f) (+))",
+        "(define-read-only (f) (- 1))",
+        "(define-read-only (f) ((+) 1))",
+        "(define-read-only (f) 170141183460469231731687303715884105728)",
+        "(define-read-only (f) 1) ;; one",
+        "(define-read-only (f) {a: 1})",
+        "(define-read-only (f) \"a\")",
+    ] {
+        let words = ["call", "inc.clar", "f"];
+        let ended = run(alloc, &words, source.as_bytes(), &[], &[])?;
+        assert_eq!(rt; ended.text.as_str(), REFUSED, "{source}");
+        assert_eq!(rt; ended.status, 6, "{source}");
+    }
+    for count in 0..INC.len() {
+        let words = ["call", "inc.clar", "add1", "41"];
+        let ended = run(alloc, &words, &INC[..count], &[], &[])?;
+        assert_eq!(rt; ended.text.as_str(), REFUSED, "{count}");
+    }
+    Ok(())
+}
+
+#[test]
+fn words_that_are_refused(rt: HostRuntime) -> Result<(), Fail> {
+    let alloc = rt.alloc();
+    let above = "170141183460469231731687303715884105728";
+    for word in ["u41", "", "4a", "+4", " 4", above] {
+        let words = ["call", "missing.clar", "add1", "1", word];
+        let ended = run(alloc, &words, INC, &[1], &[])?;
+        assert_eq!(rt; ended.text.as_str(), "refused NotYet\n", "{word}");
+        assert_eq!(rt; ended.status, 8, "{word}");
+        assert_eq!(rt; ended.asked, 0, "{word}");
+    }
+    let none: &[&str] = &[];
+    for words in [
+        none,
+        &["call"],
+        &["call", "inc.clar"],
+        &["Call", "inc.clar", "add1", "41"],
+        &["check", "inc.clar", "add1", "41"],
+        &["call", "inc.clar", "add1", "-41"],
+        &["call", "inc.clar", "add1", "41", "-"],
+        &["--help", "inc.clar", "add1", "41"],
+        &["call", "-inc.clar", "add1", "41"],
+    ] {
+        let ended = run(alloc, words, INC, &[], &[])?;
+        assert_eq!(rt; ended.text.as_str(), "usage: clarity COMMAND WORDS\n");
+        assert_eq!(rt; ended.status, 2);
+        assert_eq!(rt; ended.asked, 0);
+    }
+    Ok(())
+}
+
+#[test]
+fn files_and_sinks_that_fail(rt: HostRuntime) -> Result<(), Fail> {
+    let alloc = rt.alloc();
+    let words = ["call", "inc.clar", "add1", "41"];
+    let ended = run(alloc, &words, INC, &[1], &[])?;
+    assert_eq!(rt; ended.status, 3);
+    assert_eq!(rt; ended.text.as_str(), "");
+    let missing = run(alloc, &["call", "no.clar", "add1", "41"], INC, &[], &[])?;
+    assert_eq!(rt; missing.status, 3);
+    assert_eq!(rt; missing.text.as_str(), "");
+    for (write, text) in [(1, ""), (2, DEPLOYED)] {
+        let ended = run(alloc, &words, INC, &[], &[write])?;
+        assert_eq!(rt; ended.status, 4);
+        assert_eq!(rt; ended.text.as_str(), text);
+    }
+    let last = run(alloc, &words, INC, &[], &[3])?;
+    assert_eq!(rt; last.status, 0);
+    let long = vec![in alloc; b' '; 16_777_217]?;
+    let ended = run(alloc, &words, &long, &[], &[])?;
+    assert_eq!(rt; ended.status, 5);
+    assert_eq!(rt; ended.text.as_str(), "bad file inc.clar TooLong\n");
+    Ok(())
+}

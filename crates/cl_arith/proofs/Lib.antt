@@ -1,0 +1,4 @@
+pub mod Examples
+pub mod Greatest
+pub mod Laws
+pub mod Powers

@@ -1,0 +1,5 @@
+pub mod Characters
+pub mod Numbers
+pub mod Padding
+pub mod RoundTrip
+pub mod Texts

@@ -1,0 +1,6 @@
+pub mod Address
+pub mod Alphabet
+pub mod Cells
+pub mod Codec
+pub mod ContractName
+pub mod Digits

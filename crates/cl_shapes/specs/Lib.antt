@@ -1,0 +1,4 @@
+pub mod Costs
+pub mod Functions
+pub mod Limits
+pub mod Names
