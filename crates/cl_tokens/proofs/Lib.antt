@@ -1,0 +1,4 @@
+pub mod Slots
+pub mod Balances
+pub mod Acts
+pub mod AssetActs
