@@ -1,0 +1,5 @@
+mod Mapped
+mod Parts
+pub mod Functions
+mod EachName
+mod EveryTable

@@ -1,0 +1,4 @@
+pub mod CostFile
+pub mod Shapes
+pub mod Tables
+pub mod Written

@@ -1,0 +1,4 @@
+pub mod Faults
+mod Least
+mod Order
+mod Texts
