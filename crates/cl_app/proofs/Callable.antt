@@ -1,7 +1,7 @@
 -- A function of a text can be called.
 use Rattle.std.proofs.Common.{◌≡◌, ℕ, List, [], ◌∷◌, ◌++◌, length, ◌+◌, ◌^◌, ◌<◌, ◌≤◌, Bool, true, false, if◌then◌else◌, codes, refl, ap, subst, arith, length-append}
 use Rattle.std.specs.Prelude.{Option, Some, None, option_and_then}
-use Rattle.cl_sexpr.specs.Tree.{Tree, Forest, LeafAt, ListAt, Empty, Then, forest, tree_size, forest_size}
+use Rattle.cl_sexpr.specs.Tree.{Tree, Forest, LeafAt, ListAt, TupleAt, Empty, Then, forest, tree_size, forest_size}
 use Rattle.cl_app.specs.Items.{trees, parts_of, atom_of, is_atom}
 use Rattle.cl_app.specs.Reserved.{is_reserved}
 use Rattle.cl_app.specs.Contract.{Function, is_expression, is_free, parameter_of, parameters_from, with_body, with_name, with_signature, definition_in, function_in, IsCallable}
@@ -58,6 +58,7 @@ length-trees (Then t f) = omega (arith, length-trees f)
 
 length-parts : (t : Tree) (ts : List Tree) → parts_of t ≡ Some ts → length ts ≤ tree_size t
 length-parts (LeafAt l s) ts h = absurd cc
+length-parts (TupleAt ps s) ts h = absurd cc
 length-parts (ListAt f s) ts h = let same : trees f ≡ ts = cc in omega (arith, ap length same, length-trees f)
 
 -- what is callable, below a size
@@ -81,6 +82,7 @@ forest_trees (Then t f) = ap (λ n. tree_size t + n + 1) (forest_trees f)
 
 length-inner : (t : Tree) (ts : List Tree) → parts_of t ≡ Some ts → forest_size (forest ts) ≤ tree_size t
 length-inner (LeafAt l s) ts h = absurd cc
+length-inner (TupleAt ps s) ts h = absurd cc
 length-inner (ListAt f s) ts h = let same : trees f ≡ ts = cc in omega (arith, ap (λ us. forest_size (forest us)) same, forest_trees f)
 
 within_items : (items : List Tree) (f : Function) → function_in items ≡ Some f → IsWithin f (forest_size (forest items))

@@ -4,7 +4,7 @@ use Rattle.std.specs.Prelude.{Option}
 use Rattle.cl_shapes.specs.Costs.{IsAtMost, plus, zero_cost}
 use Rattle.cl_shapes.specs.declared.cost.Cost5.{Cost5}
 use Rattle.cl_shapes.specs.declared.name.CostName.TheVariants.{Literal, Lookup, Call, Bind, Arith}
-use Rattle.cl_sexpr.specs.Tree.{Tree, Forest, Named, Signed, Unsigned, LeafAt, ListAt, Empty, Then}
+use Rattle.cl_sexpr.specs.Tree.{Tree, Forest, Named, Signed, LeafAt, ListAt, Empty, Then}
 use Rattle.cl_app.specs.Items.{trees, is_atom}
 use Rattle.cl_app.specs.Contract.{Function}
 use Rattle.cl_app.specs.Meaning.{Charge, Outcome, Gives, Aborts, Wrong, Meant, stop, charged, go_on, and_then, int_size, literal, looked_up, value_of, found, sum_of, sum_form, means, list_means, all_mean, bound_to, applied}
@@ -99,8 +99,8 @@ mutual
   costs_mean : (names : List (List ℕ)) (values : List ℤ) (t : Tree) → Costs (means names values t) (bound_of t)
   costs_mean names values (LeafAt (Signed n) span) = costs_literal n
   costs_mean names values (LeafAt (Named name) span) = costs_name (value_of names values name)
-  costs_mean names values (LeafAt (Unsigned n) span) = costs_stop Wrong zero_cost
   costs_mean names values (ListAt items span) = costs_list names values items
+  costs_mean names values t = costs_stop Wrong zero_cost
 
   costs_list : (names : List (List ℕ)) (values : List ℤ) (items : Forest) → Costs (list_means names values items) (list_bound items)
   costs_list names values Empty = costs_stop Wrong zero_cost

@@ -5,8 +5,8 @@ use Rattle.cl_sexpr.specs.Tree.{Tree, Forest, forest}
 use Rattle.cl_sexpr.specs.Text.{Reads, Breaks}
 use Rattle.cl_sexpr.specs.declared.rule.Refusal.{Refusal}
 use Rattle.cl_app.specs.Items.{trees}
-use Rattle.cl_app.specs.Contract.{Function, function_in, IsContract}
-use Rattle.cl_app.specs.Answer.{Answer, called_answer, IsVerdict, IsReport, IsReportOf}
+use Rattle.cl_app.specs.Contract.{Function, function_in}
+use Rattle.cl_app.specs.Answer.{Answer, called_answer, Verdict, Accepted, NotYet, Broken, IsVerdict, verdict_of, IsReport, IsReportOf}
 use Rattle.cl_app.proofs.Rows.{trees_forest}
 
 -- a text has one list of items
@@ -17,44 +17,58 @@ ReadsOnce = (bytes : List ℕ) (a b : Forest) → Reads bytes a → Reads bytes 
 abbrev pub ReadsOrBreaks : Type 0
 ReadsOrBreaks = (bytes : List ℕ) (a : Forest) (r : Refusal) → Reads bytes a → Breaks bytes r → ⊥
 
--- the function of a contract is that of the items that were read
-function_is : ReadsOnce → (source : List ℕ) (items : List Tree) (f : Function) → Reads source (forest items) → IsContract source f → function_in items ≡ Some f
-function_is once source items f reads contract =
-    let same : forest items ≡ contract.items = once source (forest items) contract.items reads contract.reads in
-    ap function_in (sym (trees_forest items) ∙ ap trees same) ∙ contract.is
+-- a text has one first break
+abbrev pub BreaksOnce : Type 0
+BreaksOnce = (bytes : List ℕ) (r s : Refusal) → Breaks bytes r → Breaks bytes s → r ≡ s
 
-verdict_of : ReadsOnce → (source : List ℕ) (items : List Tree) (o : Option Function) → Reads source (forest items) → function_in items ≡ o → IsVerdict source o
-verdict_of once source items None reads is = λ f contract. let e : function_in items ≡ Some f = function_is once source items f reads contract in none_some f (sym is ∙ e)
-  where
-    none_some : (f : Function) → ◌≡◌ {A = Option Function} None (Some f) → ⊥
-    none_some f e = cc
-verdict_of once source items (Some f) reads is = record { items = forest items; reads = reads; is = ap function_in (trees_forest items) ∙ is }
+-- the laws of reading
+pub record ReadingLaws : Type 0 where
+  pub once : ReadsOnce
+  pub either : ReadsOrBreaks
+  pub first : BreaksOnce
 
-pub report_read : ReadsOnce → (source name : List ℕ) (args : List ℤ) (items : List Tree) (answer : Answer) → Reads source (forest items) → IsReportOf (function_in items) (length source) name args answer → IsReport source name args answer
-report_read once source name args items answer reads report =
-    record { function = function_in items; verdict = verdict_of once source items (function_in items) reads refl; report = report }
+verdict_read : (source : List ℕ) (items : List Tree) (o : Option Function) → Reads source (forest items) → function_in items ≡ o → IsVerdict source (verdict_of o)
+verdict_read source items None reads is = record { items = forest items; reads = reads; none = ap function_in (trees_forest items) ∙ is }
+verdict_read source items (Some f) reads is = record { items = forest items; reads = reads; is = ap function_in (trees_forest items) ∙ is }
 
-pub report_broken : ReadsOrBreaks → (source name : List ℕ) (args : List ℤ) (r : Refusal) (answer : Answer) → Breaks source r → IsReportOf None (length source) name args answer → IsReport source name args answer
-report_broken either source name args r answer breaks report =
-    record { function = None; verdict = λ f contract. either source contract.items r contract.reads breaks; report = report }
+pub report_read : (source name : List ℕ) (args : List ℤ) (items : List Tree) (answer : Answer) → Reads source (forest items) → IsReportOf (verdict_of (function_in items)) (length source) name args answer → IsReport source name args answer
+report_read source name args items answer reads report =
+    record { verdict = verdict_of (function_in items); is_verdict = verdict_read source items (function_in items) reads refl; report = report }
 
-verdicts_same : ReadsOnce → (source : List ℕ) (o o' : Option Function) → IsVerdict source o → IsVerdict source o' → o ≡ o'
-verdicts_same once source None None v v' = refl
-verdicts_same once source None (Some f) v v' = absurd (v f v')
-verdicts_same once source (Some f) None v v' = absurd (v' f v)
-verdicts_same once source (Some f) (Some g) v v' =
-    let same : v.items ≡ v'.items = once source v.items v'.items v.reads v'.reads in
-    sym v.is ∙ ap (λ items. function_in (trees items)) same ∙ v'.is
+pub report_broken : (source name : List ℕ) (args : List ℤ) (r : Refusal) (answer : Answer) → Breaks source r → IsReportOf (Broken r) (length source) name args answer → IsReport source name args answer
+report_broken source name args r answer breaks report = record { verdict = Broken r; is_verdict = breaks; report = report }
 
-reports_same : (o : Option Function) (count : ℕ) (name : List ℕ) (args : List ℤ) (a b : Answer) → IsReportOf o count name args a → IsReportOf o count name args b → a ≡ b
-reports_same None count name args a b p q = p ∙ sym q
-reports_same (Some f) count name args a b p q =
+-- of items that are those of a text there is one function
+functions_same : ReadingLaws → (source : List ℕ) (a b : Forest) (o p : Option Function) → Reads source a → Reads source b → function_in (trees a) ≡ o → function_in (trees b) ≡ p → o ≡ p
+functions_same laws source a b o p r s h k = sym h ∙ ap (λ items. function_in (trees items)) (laws.once source a b r s) ∙ k
+
+some_none : (f : Function) → ◌≡◌ {A = Option Function} (Some f) None → ⊥
+some_none f e = cc
+
+verdicts_same : ReadingLaws → (source : List ℕ) (v w : Verdict) → IsVerdict source v → IsVerdict source w → v ≡ w
+verdicts_same laws source (Accepted f) (Accepted g) p q =
+    let same : Some f ≡ Some g = functions_same laws source p.items q.items (Some f) (Some g) p.reads q.reads p.is q.is in
+    let function : f ≡ g = cc in
+    ap (λ h. Accepted h) function
+verdicts_same laws source (Accepted f) NotYet p q = absurd (some_none f (functions_same laws source p.items q.items (Some f) None p.reads q.reads p.is q.none))
+verdicts_same laws source NotYet (Accepted g) p q = absurd (some_none g (functions_same laws source q.items p.items (Some g) None q.reads p.reads q.is p.none))
+verdicts_same laws source NotYet NotYet p q = refl
+verdicts_same laws source (Broken r) (Broken s) p q = ap (λ t. Broken t) (laws.first source r s p q)
+verdicts_same laws source (Accepted f) (Broken s) p q = absurd (laws.either source p.items s p.reads q)
+verdicts_same laws source (Broken r) (Accepted g) p q = absurd (laws.either source q.items r q.reads p)
+verdicts_same laws source NotYet (Broken s) p q = absurd (laws.either source p.items s p.reads q)
+verdicts_same laws source (Broken r) NotYet p q = absurd (laws.either source q.items r q.reads p)
+
+reports_same : (v : Verdict) (count : ℕ) (name : List ℕ) (args : List ℤ) (a b : Answer) → IsReportOf v count name args a → IsReportOf v count name args b → a ≡ b
+reports_same (Accepted f) count name args a b p q =
     let results : Some p.0 ≡ Some q.0 = sym p.1 ∙ q.1 in
     let result : p.0 ≡ q.0 = cc in
     p.2 ∙ ap (λ r. called_answer count f name r) result ∙ sym q.2
+reports_same NotYet count name args a b p q = p ∙ sym q
+reports_same (Broken r) count name args a b p q = p ∙ sym q
 
 -- a source, a name and arguments have one report
-pub report_same : ReadsOnce → (source name : List ℕ) (args : List ℤ) (a b : Answer) → IsReport source name args a → IsReport source name args b → a ≡ b
-report_same once source name args a b p q =
-    let same : q.function ≡ p.function = verdicts_same once source q.function p.function q.verdict p.verdict in
-    reports_same p.function (length source) name args a b p.report (subst (λ (o : Option Function). IsReportOf o (length source) name args b) same q.report)
+pub report_same : ReadingLaws → (source name : List ℕ) (args : List ℤ) (a b : Answer) → IsReport source name args a → IsReport source name args b → a ≡ b
+report_same laws source name args a b p q =
+    let same : q.verdict ≡ p.verdict = verdicts_same laws source q.verdict p.verdict q.is_verdict p.is_verdict in
+    reports_same p.verdict (length source) name args a b p.report (subst (λ (v : Verdict). IsReportOf v (length source) name args b) same q.report)

@@ -2,11 +2,13 @@
 use Rattle.std.specs.Prelude.{◌≡◌, ℕ, ℤ, Bool, true, false, List, [], ◌∷◌, ◌++◌, length, Option, Some, None, codes, nat_lt}
 use Rattle.cl_ports.specs.Files.{Held, content_of}
 use Rattle.cl_ports.specs.declared.TheConstants.{MAX_FILE_BYTES}
+use Rattle.cl_sexpr.specs.Text.{Breaks}
+use Rattle.cl_sexpr.specs.declared.rule.Refusal.{Refusal}
 use Rattle.cl_app.specs.Words.{Command, Call}
 use Rattle.cl_app.specs.Argument.{ints_from}
-use Rattle.cl_app.specs.Contract.{Function, IsContract}
+use Rattle.cl_app.specs.Contract.{Function, IsContract, IsNotYet}
 use Rattle.cl_app.specs.Result.{call_result}
-use Rattle.cl_app.specs.Report.{deployment_text, refused_text, call_text}
+use Rattle.cl_app.specs.Report.{deployment_text, broken_text, not_yet_text, call_text}
 use Rattle.cl_app.specs.declared.call.Outcome.{Outcome}
 use Rattle.cl_app.specs.declared.call.Outcome.TheVariants.{Plain, Aborted, Refused}
 use Rattle.cl_app.specs.declared.call.CallResult.{CallResult}
@@ -28,9 +30,13 @@ long_file_answer name = record { bytes = codes "bad file " ++ (name ++ codes " T
 abbrev pub refused_word_answer : Answer
 refused_word_answer = record { bytes = codes "refused NotYet\n"; status = 8 }
 
--- a source that is refused
-abbrev pub refused_source_answer : Answer
-refused_source_answer = record { bytes = refused_text; status = 6 }
+-- a source that breaks a rule of texts
+abbrev pub broken_source_answer : Refusal → Answer
+broken_source_answer r = record { bytes = broken_text r; status = 6 }
+
+-- a source that is read, and isn't accepted yet
+abbrev pub not_yet_answer : Answer
+not_yet_answer = record { bytes = not_yet_text; status = 6 }
 
 -- a value is good; an abort and a refusal aren't
 abbrev pub status_of : Outcome → ℕ
@@ -42,21 +48,33 @@ status_of (Refused refusal) = 7
 abbrev pub called_answer : ℕ → Function → List ℕ → CallResult → Answer
 called_answer count f name result = record { bytes = deployment_text count f ++ call_text name result; status = status_of result.outcome }
 
--- the report where the function of the source is this; without one the source is refused
-abbrev pub IsReportOf : Option Function → ℕ → List ℕ → List ℤ → Answer → Type 0
-IsReportOf None count name args answer = answer ≡ refused_source_answer
-IsReportOf (Some f) count name args answer = (result : CallResult) × (call_result f name args ≡ Some result) × (answer ≡ called_answer count f name result)
+-- what is said of a source: it is accepted, with its function; it is read, and isn't accepted yet; or it breaks a rule of texts
+pub data Verdict : Type 0 where
+  Accepted : Function → Verdict
+  NotYet : Verdict
+  Broken : Refusal → Verdict
 
--- the source is accepted with this function, or it isn't accepted
-abbrev pub IsVerdict : List ℕ → Option Function → Type 0
-IsVerdict source None = (f : Function) → IsContract source f → ⊥
-IsVerdict source (Some f) = IsContract source f
+abbrev pub IsVerdict : List ℕ → Verdict → Type 0
+IsVerdict source (Accepted f) = IsContract source f
+IsVerdict source NotYet = IsNotYet source
+IsVerdict source (Broken r) = Breaks source r
+
+-- what is said of a source that is read, by the function of its items
+abbrev pub verdict_of : Option Function → Verdict
+verdict_of None = NotYet
+verdict_of (Some f) = Accepted f
+
+-- the report on a verdict
+abbrev pub IsReportOf : Verdict → ℕ → List ℕ → List ℤ → Answer → Type 0
+IsReportOf (Accepted f) count name args answer = (result : CallResult) × (call_result f name args ≡ Some result) × (answer ≡ called_answer count f name result)
+IsReportOf NotYet count name args answer = answer ≡ not_yet_answer
+IsReportOf (Broken r) count name args answer = answer ≡ broken_source_answer r
 
 -- the report of two entries: the source is deployed, and then a function is called
 pub record IsReport (source name : List ℕ) (args : List ℤ) (answer : Answer) : Type 0 where
-  pub function : Option Function
-  pub verdict : IsVerdict source function
-  pub report : IsReportOf function (length source) name args answer
+  pub verdict : Verdict
+  pub is_verdict : IsVerdict source verdict
+  pub report : IsReportOf verdict (length source) name args answer
 
 abbrev pub IsAnswerByLength : Bool → List ℕ → List ℕ → List ℕ → List ℤ → Answer → Type 0
 IsAnswerByLength true file source name args answer = answer ≡ long_file_answer file

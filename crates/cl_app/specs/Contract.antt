@@ -2,7 +2,7 @@
 use Rattle.std.specs.Prelude.{◌≡◌, ℕ, ◌+◌, ◌^◌, ◌<◌, length, Bool, true, false, not, ◌&&◌, List, [], ◌∷◌, ◌++◌, Option, Some, None, codes, if◌then◌else◌, nat_eq, option_and_then}
 use Rattle.std.specs.List.{list_any}
 use Rattle.std.specs.Cmp.Lexicographic.{pointwise}
-use Rattle.cl_sexpr.specs.Tree.{Tree, Forest, Named, Signed, Unsigned, LeafAt, ListAt, Empty, Then, tree_size}
+use Rattle.cl_sexpr.specs.Tree.{Tree, Forest, Named, Signed, LeafAt, ListAt, Empty, Then, tree_size}
 use Rattle.cl_sexpr.specs.Text.{Reads}
 use Rattle.cl_app.specs.Items.{trees, is_empty, parts_of, atom_of, is_atom}
 use Rattle.cl_app.specs.Reserved.{is_reserved}
@@ -22,8 +22,8 @@ abbrev mutual
   pub is_expression : List (List ℕ) → Tree → Bool
   is_expression names (LeafAt (Signed n) span) = true
   is_expression names (LeafAt (Named name) span) = is_among names name
-  is_expression names (LeafAt (Unsigned n) span) = false
   is_expression names (ListAt items span) = is_sum names items
+  is_expression names t = false
 
   pub is_sum : List (List ℕ) → Forest → Bool
   is_sum names Empty = false
@@ -78,6 +78,12 @@ pub record IsContract (source : List ℕ) (function : Function) : Type 0 where
   pub items : Forest
   pub reads : Reads source items
   pub is : function_in (trees items) ≡ Some function
+
+-- the source is read, and isn't accepted yet
+pub record IsNotYet (source : List ℕ) : Type 0 where
+  pub items : Forest
+  pub reads : Reads source items
+  pub none : function_in (trees items) ≡ None
 
 -- a function that can be called: its body is an expression over its parameters, and both are of a text's size
 pub record IsCallable (f : Function) : Type 0 where

@@ -7,7 +7,7 @@ use Rattle.cl_shapes.specs.Names.{unit_function}
 use Rattle.cl_shapes.specs.declared.cost.Cost5.{Cost5}
 use Rattle.cl_shapes.specs.declared.limit.Over.{Over}
 use Rattle.cl_shapes.specs.declared.name.CostName.TheVariants.{Literal, Lookup, Call, Bind, Arith, Deploy, Define}
-use Rattle.cl_sexpr.specs.Tree.{Tree, Forest, LeafAt, ListAt, Empty, Then, Named, Signed, Unsigned}
+use Rattle.cl_sexpr.specs.Tree.{Tree, Forest, LeafAt, ListAt, Empty, Then, Named, Signed}
 use Rattle.cl_app.specs.Items.{trees}
 use Rattle.cl_app.specs.Contract.{Function}
 use Rattle.cl_app.specs.Meaning.{Charge, Outcome, Gives, Aborts, Wrong, Meant, int_size}
@@ -70,8 +70,8 @@ abbrev mutual
   pub bound_of : Tree → Cost5
   bound_of (LeafAt (Signed n) span) = cost_of (Literal, int_size)
   bound_of (LeafAt (Named name) span) = cost_of (Lookup, int_size)
-  bound_of (LeafAt (Unsigned n) span) = zero_cost
   bound_of (ListAt items span) = list_bound items
+  bound_of t = zero_cost
 
   pub list_bound : Forest → Cost5
   list_bound Empty = zero_cost

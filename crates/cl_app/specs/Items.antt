@@ -1,7 +1,7 @@
 -- Items taken apart.
 use Rattle.std.specs.Prelude.{ℕ, Bool, true, false, List, [], ◌∷◌, Option, Some, None}
 use Rattle.std.specs.Str.{bytes_eq}
-use Rattle.cl_sexpr.specs.Tree.{Tree, Forest, Named, Signed, Unsigned, LeafAt, ListAt, Empty, Then}
+use Rattle.cl_sexpr.specs.Tree.{Tree, Forest, Named, LeafAt, ListAt, Empty, Then}
 
 -- a row of items as a list
 abbrev pub trees : Forest → List Tree
@@ -14,19 +14,15 @@ is_empty (Then t f) = false
 
 -- the items of a list
 abbrev pub parts_of : Tree → Option (List Tree)
-parts_of (LeafAt leaf span) = None
 parts_of (ListAt f span) = Some (trees f)
+parts_of t = None
 
 -- the name that an item is
 abbrev pub atom_of : Tree → Option (List ℕ)
 atom_of (LeafAt (Named name) span) = Some name
-atom_of (LeafAt (Signed n) span) = None
-atom_of (LeafAt (Unsigned n) span) = None
-atom_of (ListAt f span) = None
+atom_of t = None
 
 -- the item is this name
 abbrev pub is_atom : List ℕ → Tree → Bool
 is_atom word (LeafAt (Named name) span) = bytes_eq name word
-is_atom word (LeafAt (Signed n) span) = false
-is_atom word (LeafAt (Unsigned n) span) = false
-is_atom word (ListAt f span) = false
+is_atom word t = false

@@ -3,7 +3,7 @@ use Rattle.std.specs.Prelude.{ℕ, ℤ, pos, negsuc, ◌+ℤ◌, ◌^◌, List, 
 use Rattle.std.specs.Cmp.Lexicographic.{pointwise}
 use Rattle.cl_shapes.specs.declared.name.CostName.{CostName}
 use Rattle.cl_shapes.specs.declared.name.CostName.TheVariants.{Literal, Lookup, Call, Bind, Arith}
-use Rattle.cl_sexpr.specs.Tree.{Tree, Forest, Named, Signed, Unsigned, LeafAt, ListAt, Empty, Then}
+use Rattle.cl_sexpr.specs.Tree.{Tree, Forest, Named, Signed, LeafAt, ListAt, Empty, Then}
 use Rattle.cl_app.specs.Items.{is_atom, trees}
 use Rattle.cl_app.specs.Contract.{Function}
 use Rattle.cl_app.specs.declared.evaluate.Abort.{Abort}
@@ -83,8 +83,8 @@ abbrev mutual
   pub means : List (List ℕ) → List ℤ → Tree → Meant ℤ
   means names values (LeafAt (Signed n) span) = literal n
   means names values (LeafAt (Named name) span) = looked_up (value_of names values name)
-  means names values (LeafAt (Unsigned n) span) = stop Wrong
   means names values (ListAt items span) = list_means names values items
+  means names values t = stop Wrong
 
   pub list_means : List (List ℕ) → List ℤ → Forest → Meant ℤ
   list_means names values Empty = stop Wrong

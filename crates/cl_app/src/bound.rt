@@ -18,8 +18,8 @@ fn bound(item: &Sexpr) -> u64
 {
     match &item.node {
         Node::Int(_) | Node::Atom(_) => 1,
-        Node::Uint(_) => 0,
         Node::List(items) => list_bound(items),
+        _ => 0,
     }
 }
 

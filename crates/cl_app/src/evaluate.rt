@@ -1,5 +1,5 @@
 //! The evaluation of expressions, metered.
-ghost use Rattle.std.specs.Prelude.{◌≡◌, ◌<◌, ◌+◌, ◌^◌, ℤ, ◌+ℤ◌, [], ◌∷◌, Ok, Err, IsTrue, length, slice_get, position};
+ghost use Rattle.std.specs.Prelude.{◌≡◌, ◌<◌, ◌+◌, ◌^◌, ℤ, ◌+ℤ◌, Ok, Err, IsTrue, length};
 ghost use Rattle.cl_sexpr.specs.Tree.{forest, Then, tree_size, forest_size};
 ghost use Rattle.cl_app.specs.Contract.{is_among, is_expression, is_sum, are_expressions};
 ghost use Rattle.cl_app.specs.Meaning.{in_range, added, value_of, literal, looked_up, means, list_means, sum_form, all_mean};
@@ -101,8 +101,8 @@ pub(crate) fn evaluate(
     match &item.node {
         Node::Int(value) => literal(*value, meter),
         Node::Atom(name) => look_up(names, values, name, meter),
-        Node::Uint(_) => unreachable!(),
         Node::List(items) => evaluate_list(names, values, items, meter),
+        _ => unreachable!(),
     }
 }
 

@@ -1,9 +1,7 @@
 //! The expressions of type int, and their bounds.
-ghost use Rattle.std.specs.Prelude.{◌≡◌, ◌≤◌, ◌<◌, ◌^◌, ◌+◌, true};
-ghost use Rattle.cl_sexpr.specs.Tree.{forest, tree_size, forest_size};
-ghost use Rattle.cl_shapes.specs.Costs.{cost5};
+ghost use Rattle.std.specs.Prelude.{◌≡◌, ◌<◌, ◌+◌, true};
+ghost use Rattle.cl_sexpr.specs.Tree.{forest};
 ghost use Rattle.cl_app.specs.Contract.{is_expression, is_sum, are_expressions};
-ghost use Rattle.cl_app.specs.Cost.{bound_of, bounds_of};
 
 use crate::items::is_atom;
 use cl_sexpr::{Node, Sexpr};
@@ -18,8 +16,8 @@ pub(crate) fn is_expression(names: &IndexSet<Name>, item: &Sexpr) -> bool
     match &item.node {
         Node::Int(_) => true,
         Node::Atom(name) => names.contains(name),
-        Node::Uint(_) => false,
         Node::List(items) => is_sum(names, items),
+        _ => false,
     }
 }
 

@@ -13,7 +13,7 @@ pub(crate) fn parts(item: &Sexpr) -> Option<&[Sexpr]>
 {
     match &item.node {
         Node::List(items) => Some(items.as_slice()),
-        Node::Atom(_) | Node::Int(_) | Node::Uint(_) => None,
+        _ => None,
     }
 }
 
@@ -23,7 +23,7 @@ pub(crate) fn atom(item: &Sexpr) -> Option<Name>
 {
     match &item.node {
         Node::Atom(name) => Some(*name),
-        Node::Int(_) | Node::Uint(_) | Node::List(_) => None,
+        _ => None,
     }
 }
 
@@ -33,6 +33,6 @@ pub(crate) fn is_atom(item: &Sexpr, word: &str) -> bool
 {
     match &item.node {
         Node::Atom(name) => name.bytes() == word.as_bytes(),
-        Node::Int(_) | Node::Uint(_) | Node::List(_) => false,
+        _ => false,
     }
 }

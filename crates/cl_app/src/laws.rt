@@ -1,5 +1,5 @@
 //! Laws of the definitions that the top call answers by.
-ghost use Rattle.std.specs.Prelude.{◌≡◌, ◌⊎◌, ℤ, List, length};
+ghost use Rattle.std.specs.Prelude.{◌≡◌, ℤ, List, length};
 ghost use Rattle.cl_shapes.specs.Costs.{IsAtMost, plus};
 ghost use Rattle.cl_shapes.specs.Limits.{Purse};
 ghost use Rattle.cl_app.specs.Contract.{Function};

@@ -6,7 +6,7 @@ ghost use Rattle.cl_app.specs.Contract.{IsCallable, function_in};
 ghost use Rattle.cl_app.specs.Seen.{function_seen};
 ghost use Rattle.cl_app.specs.Cost.{function_bound};
 ghost use Rattle.cl_app.specs.Report.{deployment_text};
-ghost use Rattle.cl_app.specs.Answer.{usage_answer, long_file_answer, refused_word_answer, refused_source_answer, status_of, IsReportOf, IsReport};
+ghost use Rattle.cl_app.specs.Answer.{usage_answer, long_file_answer, refused_word_answer, broken_source_answer, not_yet_answer, Accepted, verdict_of, status_of, IsReportOf, IsReport};
 ghost use Rattle.cl_app.specs.Words.{Call, taken, texts};
 ghost use Rattle.cl_app.specs.Reply.{answer_of, CountsStop, IsHeldAnswer};
 ghost use Rattle.cl_app.specs.Top.{IsAnswer, IsOwnStatus, AsksPart};
@@ -15,10 +15,10 @@ use crate::argument::ints;
 use crate::bound::function_bound;
 use crate::call::{Outcome, call};
 use crate::contract::{Function, function_in};
-use crate::report::{call_text, deployment_back, deployment_front};
+use crate::report::{broken_text, call_text, deployment_back, deployment_front};
 use crate::words::has_dash;
 use cl_ports::{Files, ReadRefusal};
-use cl_sexpr::{Sexpr, one_reading, read};
+use cl_sexpr::{Refusal, Sexpr, one_reading, read};
 use cl_types::{Fault, NoMemory};
 use std::alloc::{AllocError, Global};
 
@@ -108,9 +108,16 @@ fn long_file(alloc: Global, name: &str) -> Result<Reply, AllocError>
     one_piece(alloc, line, 5)
 }
 
-/// The reply to a source that is refused.
-fn refused_source(alloc: Global) -> Result<Reply, AllocError>
-    ensures { IfOk result (λ reply. answer_of reply ≡ refused_source_answer) }
+/// The reply to a source that breaks a rule of texts.
+fn broken_source(alloc: Global, refusal: Refusal) -> Result<Reply, AllocError>
+    ensures { IfOk result (λ reply. answer_of reply ≡ broken_source_answer refusal) }
+{
+    one_piece(alloc, broken_text(alloc, refusal)?, 6)
+}
+
+/// The reply to a source that is read, and isn't accepted yet.
+fn not_yet(alloc: Global) -> Result<Reply, AllocError>
+    ensures { IfOk result (λ reply. answer_of reply ≡ not_yet_answer) }
 {
     fixed_line(
         alloc,
@@ -158,7 +165,7 @@ fn called(
     values: &[i128],
 ) -> Result<Reply, AllocError>
     requires { IsCallable (function_seen function.now) }
-    ensures answer { IfOk result (λ reply. IsReportOf (Some (function_seen function.now)) count name.now values.now (answer_of reply)) }
+    ensures answer { IfOk result (λ reply. IsReportOf (Accepted (function_seen function.now)) count name.now values.now (answer_of reply)) }
     ensures status { IfOk result (λ reply. IsOwnStatus reply.status × (reply.status ≢ 2)) }
 {
     let deployed = deployment(alloc, count, function)?;
@@ -176,12 +183,12 @@ fn items_report(
     values: &[i128],
 ) -> Result<Reply, AllocError>
     requires { forest_size (forest items.now) < 2 ^ 40 }
-    ensures answer { IfOk result (λ reply. IsReportOf (function_in items.now) count name.now values.now (answer_of reply)) }
+    ensures answer { IfOk result (λ reply. IsReportOf (verdict_of (function_in items.now)) count name.now values.now (answer_of reply)) }
     ensures status { IfOk result (λ reply. IsOwnStatus reply.status × (reply.status ≢ 2)) }
 {
     match function_in(alloc, items) {
         Ok(Some(function)) => called(alloc, count, &function, name, values),
-        Ok(None) => refused_source(alloc),
+        Ok(None) => not_yet(alloc),
         Err(error) => Err(error),
     }
 }
@@ -194,7 +201,7 @@ fn report(alloc: Global, source: &[u8], name: &str, values: &[i128]) -> Result<R
     one_reading();
     match read(alloc, source) {
         Ok(items) => Ok(items_report(alloc, source.len(), &items, name, values)?),
-        Err(Fault::Refused(_)) => Ok(refused_source(alloc)?),
+        Err(Fault::Refused(refusal)) => Ok(broken_source(alloc, refusal)?),
         Err(Fault::NoMemory) => Err(NoMemory),
     }
 }

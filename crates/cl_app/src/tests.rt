@@ -10,7 +10,7 @@ const DEPLOYED: &str =
 
 const CALLED: &str = "1 call 'SP000000000000000000002Q6VF78.main ";
 
-const REFUSED: &str =
+const NOT_YET: &str =
     "0 deploy 'SP000000000000000000002Q6VF78.main refused E7 ContractRefused N0 NotYet 0..0\n";
 
 fn owned(alloc: Global, words: &[&str]) -> Result<Vec<String>, AllocError> {
@@ -161,7 +161,7 @@ fn values_go_to_their_parameters(rt: HostRuntime) -> Result<(), Fail> {
 }
 
 #[test]
-fn sources_that_are_refused(rt: HostRuntime) -> Result<(), Fail> {
+fn sources_that_are_not_taken_yet(rt: HostRuntime) -> Result<(), Fail> {
     let alloc = rt.alloc();
     for source in [
         "",
@@ -189,25 +189,95 @@ fn sources_that_are_refused(rt: HostRuntime) -> Result<(), Fail> {
         "(define-read-only (f) y)",
         "(define-read-only (f) f)",
         "(define-read-only (f) u1)",
+        "(define-read-only (f) 0x01)",
+        "(define-read-only (f) \"a\")",
+        "(define-read-only (f) u\"a\")",
+        "(define-read-only (f) {a: 1})",
+        "(define-read-only (f) 'SP000000000000000000002Q6VF78)",
+        "(define-read-only (f) .f)",
         "(define-read-only (f) ())",
         "(define-read-only (f) (+))",
         "(define-read-only (f) (- 1))",
         "(define-read-only (f) ((+) 1))",
-        "(define-read-only (f) 170141183460469231731687303715884105728)",
-        "(define-read-only (f) 1) ;; one",
-        "(define-read-only (f) {a: 1})",
-        "(define-read-only (f) \"a\")",
     ] {
-        let words = ["call", "inc.clar", "f"];
-        let ended = run(alloc, &words, source.as_bytes(), &[], &[])?;
-        assert_eq!(rt; ended.text.as_str(), REFUSED, "{source}");
+        let ended = run(
+            alloc,
+            &["call", "inc.clar", "f"],
+            source.as_bytes(),
+            &[],
+            &[],
+        )?;
+        assert_eq!(rt; ended.text.as_str(), NOT_YET, "{source}");
         assert_eq!(rt; ended.status, 6, "{source}");
     }
-    for count in 0..INC.len() {
-        let words = ["call", "inc.clar", "add1", "41"];
-        let ended = run(alloc, &words, &INC[..count], &[], &[])?;
-        assert_eq!(rt; ended.text.as_str(), REFUSED, "{count}");
+    Ok(())
+}
+
+// The line of a source that breaks a rule of texts.
+fn is_broken(
+    alloc: Global,
+    source: &[u8],
+    rule: &str,
+    start: usize,
+    end: usize,
+) -> Result<bool, Fail> {
+    let ended = run(alloc, &["call", "inc.clar", "f"], source, &[], &[])?;
+    let line = format!(in alloc;
+        "0 deploy 'SP000000000000000000002Q6VF78.main refused E7 ContractRefused {rule} {start}..{end}\n"
+    )?;
+    Ok(ended.status == 6 && ended.text.as_str() == line.as_str())
+}
+
+#[test]
+fn sources_that_break_a_rule(rt: HostRuntime) -> Result<(), Fail> {
+    let alloc = rt.alloc();
+    let table: [(&[u8], &str, usize, usize); 9] = [
+        (b"a \x00", "T1 BadByte", 2, 3),
+        (b"(f -a)", "T2 BadToken", 3, 5),
+        (
+            b"(define-read-only (f) 170141183460469231731687303715884105728)",
+            "T3 NumberTooWide",
+            22,
+            61,
+        ),
+        (b"(define-constant a 1", "T4 Unclosed", 0, 1),
+        (b"(a))", "T5 StrayClose", 3, 4),
+        (&[b'('; 65], "T6 TooNested", 64, 65),
+        (b"(f \"\\q\")", "T7 BadEscape", 4, 6),
+        (b"{a 1}", "T8 BadTuple", 3, 4),
+        (b"'S", "T9 BadAddress", 0, 2),
+    ];
+    for (source, rule, start, end) in table {
+        assert!(rt; is_broken(alloc, source, rule, start, end)?, "{rule}");
     }
+    let long = vec![in alloc; b' '; 1_048_577]?;
+    assert!(rt; is_broken(alloc, &long, "T10 SourceTooLong", 0, 0)?);
+    // The first k bytes of the example, by the innermost bracket that is open there.
+    for count in 1..INC.len() {
+        let open = match count {
+            19..=24 | 31 => 18,
+            25..=30 => 24,
+            34..=39 => 33,
+            _ => 0,
+        };
+        let broken = is_broken(alloc, &INC[..count], "T4 Unclosed", open, open + 1)?;
+        assert!(rt; broken, "{count}");
+    }
+    Ok(())
+}
+
+#[test]
+fn comments_are_passed_over(rt: HostRuntime) -> Result<(), Fail> {
+    let alloc = rt.alloc();
+    let source = b";; one\n(define-read-only (f) ;; two (\n 1);; three";
+    let ended = run(alloc, &["call", "inc.clar", "f"], source, &[], &[])?;
+    assert_eq!(rt; ended.status, 0);
+    assert!(rt;
+        ended
+            .text
+            .as_str()
+            .ends_with("main f value 1\n  cost 2 0 0 0 0\n")
+    );
     Ok(())
 }
 

@@ -1,8 +1,10 @@
+pub mod Levels
 pub mod Digits
-pub mod Tokens
+pub mod Quotes
 pub mod Steps
-pub mod Nesting
+pub mod Rows
 pub mod Finish
+pub mod Follows
 pub mod Unique
 pub mod Laws
 pub mod Sizes

@@ -3,6 +3,10 @@ pub mod TreeCode
 pub mod View
 pub mod ViewFalls
 pub mod Token
+pub mod Grammar
 pub mod Leaf
+pub mod Quote
 pub mod Text
+pub mod Lexed
 pub mod Progress
+pub mod Advances

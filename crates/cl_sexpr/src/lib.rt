@@ -1,16 +1,20 @@
 //! Source texts as items, each with the bytes that it is spelled by, or the first rule that a text breaks.
 #![tactic(auto)]
 
+mod bracket;
 mod bytes;
 mod leaf;
+mod lexer;
+mod quote;
 mod reader;
 mod reading;
 mod rule;
+mod run;
 mod sexpr;
 #[cfg(test)]
 mod tests;
 
-pub use leaf::{are_digits, value_of};
 pub use reader::{MOST_BYTES, one_reading, read};
 pub use rule::{Refusal, Rule};
+pub use run::{are_digits, value_of};
 pub use sexpr::{Node, Sexpr, Span};

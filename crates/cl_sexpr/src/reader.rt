@@ -1,16 +1,19 @@
 //! The reader.
-ghost use Rattle.std.specs.Prelude.{◌≡◌, ◌≤◌, ◌<◌, ◌+◌, ◌*◌, ◌^◌, ◌++◌, List, [], ◌∷◌, ℕ, length, IfOk, IfErr};
+ghost use Rattle.std.specs.Prelude.{◌≡◌, ◌≤◌, ◌<◌, ◌+◌, ◌*◌, ◌^◌, List, ℕ, length, IfOk, Some};
 ghost use Rattle.cl_types.specs.Fault.{IfRefused};
-ghost use Rattle.cl_sexpr.specs.Leaf.{refusal};
-ghost use Rattle.cl_sexpr.specs.Tree.{Forest, forest, forest_size};
 ghost use Rattle.cl_sexpr.specs.declared.rule.Refusal.{Refusal as Refused};
-ghost use Rattle.cl_sexpr.specs.Text.{Reads, Breaks, BreaksHere};
-ghost use Rattle.cl_sexpr.specs.Progress.{Advances, tokens_read, places};
+ghost use Rattle.cl_sexpr.specs.Tree.{Forest, forest, forest_size};
+ghost use Rattle.cl_sexpr.specs.Token.{Opens, OpensTuple, Faulty, leaf_in, in_place, wants_key};
+ghost use Rattle.cl_sexpr.specs.Text.{closes_none, opens_none, misplaced, break_at, Reads, Breaks};
+ghost use Rattle.cl_sexpr.specs.Lexed.{leaf, token};
+ghost use Rattle.cl_sexpr.specs.Progress.{opens, Takes};
+ghost use Rattle.cl_sexpr.specs.Advances.{Advances};
 
-use crate::bytes::{is_other_mark, is_separator, split_run};
-use crate::leaf::run_item;
-use crate::reading::Reading;
-use crate::rule::{Refusal, Rule};
+use crate::bracket::Bracket;
+use crate::leaf::Leaf;
+use crate::lexer::{Token, token_at};
+use crate::reading::{Level, Phase, Reading};
+use crate::rule::{Refusal, Rule, broken};
 use crate::sexpr::{Sexpr, Span};
 use cl_types::Fault;
 use std::alloc::{AllocError, Global};
@@ -21,23 +24,121 @@ pub const MOST_BYTES: usize = 1_048_576;
 /// How deep brackets may nest.
 const MOST_OPEN: usize = 64;
 
-fn refusal(rule: Rule, start: u32, end: u32) -> Refusal
-    ensures { result ≡ refusal rule start end }
+fn closes_none(reading: &Reading) -> Rule
+    ensures { result ≡ closes_none (opens reading.now) }
 {
-    Refusal {
-        rule,
-        span: Span { start, end },
+    match reading.open.last() {
+        None => Rule::StrayClose,
+        Some(level) => match level {
+            Level::List(_, _) => Rule::StrayClose,
+            Level::Tuple(_, _, _) => Rule::BadTuple,
+        },
     }
 }
 
-fn split_byte(bytes: &[u8]) -> (u8, &[u8])
-    requires { 0 < length bytes.now }
-    ensures { bytes.now ≡ result.0 ∷ result.1.now }
+fn opens_none(reading: &Reading) -> Rule
+    ensures { result ≡ opens_none (opens reading.now) }
 {
-    (bytes[0], &bytes[1..])
+    if reading.depth() >= MOST_OPEN {
+        Rule::TooNested
+    } else {
+        Rule::BadTuple
+    }
 }
 
-/// Reads on from a place: past a separator, or past the next token.
+fn faulty(reading: &Reading, refusal: Refusal, at: u32, end: u32) -> Refusal
+    ensures { result ≡ misplaced (opens reading.now) (Faulty refusal) at end }
+{
+    if reading.takes() {
+        refusal
+    } else {
+        broken(Rule::BadTuple, at, end)
+    }
+}
+
+// What a token breaks, if it can't stand there.
+fn misplaced(reading: &Reading, given: &Token, at: u32, end: u32) -> Refusal
+    ensures { result ≡ misplaced (opens reading.now) (token given.now at end) at end }
+{
+    match given {
+        Token::Opens | Token::OpensTuple => broken(opens_none(reading), at, end),
+        Token::Closes => broken(Rule::StrayClose, at, end),
+        Token::ClosesTuple => broken(closes_none(reading), at, end),
+        Token::Faulty(refusal) => faulty(reading, *refusal, at, end),
+        _ => broken(Rule::BadTuple, at, end),
+    }
+}
+
+fn open_list(reading: &mut Reading, alloc: Global, at: u32) -> Result<bool, AllocError>
+    requires { at + 1 < 2 ^ 32 }
+    ensures { IfOk result (Takes reading.old reading.new (Opens at)) }
+{
+    if reading.depth() >= MOST_OPEN {
+        return Ok(false);
+    }
+    if !reading.takes() {
+        return Ok(false);
+    }
+    reading.open(Level::List(Bracket { place: at }, Vec::new(alloc)))?;
+    Ok(true)
+}
+
+fn open_tuple(reading: &mut Reading, alloc: Global, at: u32) -> Result<bool, AllocError>
+    requires { at + 1 < 2 ^ 32 }
+    ensures { IfOk result (Takes reading.old reading.new (OpensTuple at)) }
+{
+    if reading.depth() >= MOST_OPEN {
+        return Ok(false);
+    }
+    if !reading.takes() {
+        return Ok(false);
+    }
+    reading.open(Level::Tuple(Bracket { place: at }, Vec::new(alloc), Phase::First))?;
+    Ok(true)
+}
+
+// Takes an item of one token, or a key where one may stand.
+fn take_leaf(reading: &mut Reading, given: Leaf, span: Span) -> Result<bool, AllocError>
+    ensures { IfOk result (Takes reading.old reading.new (leaf_in (opens reading.old) (leaf given) span)) }
+{
+    match given {
+        Leaf::Named(name) => {
+            if reading.wants_key() {
+                reading.key(name)
+            } else {
+                reading.add(Leaf::Named(name).item(span))
+            }
+        }
+        given => reading.add(given.item(span)),
+    }
+}
+
+// Takes a token, if it can stand there.
+fn take(
+    reading: &mut Reading,
+    alloc: Global,
+    given: Token,
+    at: u32,
+    end: u32,
+) -> Result<bool, AllocError>
+    requires room { at + 1 < 2 ^ 32 }
+    ensures { IfOk result (Takes reading.old reading.new (in_place (opens reading.old) (token given at end))) }
+{
+    match given {
+        Token::Separator => Ok(true),
+        Token::Comment => Ok(true),
+        Token::Colon => reading.colon(),
+        Token::Comma => reading.comma(),
+        Token::Opens => open_list(reading, alloc, at),
+        Token::Closes => reading.close_list(end),
+        Token::OpensTuple => open_tuple(reading, alloc, at),
+        Token::ClosesTuple => reading.close_tuple(end),
+        Token::Item(leaf) => take_leaf(reading, leaf, Span { start: at, end }),
+        Token::Faulty(_) => Ok(false),
+    }
+}
+
+// Reads one token on.
 fn take_next<'a>(
     reading: &mut Reading,
     alloc: Global,
@@ -45,51 +146,37 @@ fn take_next<'a>(
     at: u32,
 ) -> Result<(&'a [u8], u32), Fault<Refusal>>
     requires some { 0 < length bytes.now }
-    requires room { at + length bytes.now < 2 ^ 32 }
+    requires room { at + length bytes.now < 2 ^ 31 }
     ensures found { IfOk result (λ next. Advances reading.old reading.new at bytes.now next.1 next.0.now) }
     ensures shorter { IfOk result (λ next. length next.0.now < length bytes.now) }
-    ensures broken { IfRefused result (BreaksHere (places reading.old) at bytes.now) }
+    ensures broken { IfRefused result (λ r. break_at (opens reading.old) at bytes.now ≡ Some r) }
 {
-    let (first, more) = split_byte(bytes);
-    if is_separator(first) {
-        return Ok((more, at + 1));
-    }
-    if first == b'(' {
-        if reading.depth() >= MOST_OPEN {
-            return Err(Fault::Refused(refusal(Rule::TooNested, at, at + 1)));
+    match token_at(alloc, bytes, at) {
+        Ok((given, size)) => {
+            let (_, more) = bytes.split_at(size);
+            let end = at + size as u32;
+            // Found first, since a token that can't stand there ends the reading.
+            let refusal = misplaced(reading, &given, at, end);
+            if take(reading, alloc, given, at, end)? {
+                Ok((more, end))
+            } else {
+                Err(Fault::Refused(refusal))
+            }
         }
-        reading.open(alloc, at)?;
-        return Ok((more, at + 1));
-    }
-    if first == b')' {
-        if reading.depth() == 0 {
-            return Err(Fault::Refused(refusal(Rule::StrayClose, at, at + 1)));
-        }
-        reading.close(at + 1)?;
-        return Ok((more, at + 1));
-    }
-    if is_other_mark(first) {
-        return Err(Fault::Refused(refusal(Rule::BadToken, at, at + 1)));
-    }
-    let (run, more) = split_run(bytes);
-    match run_item(run, at) {
-        Ok(item) => {
-            reading.push(item)?;
-            Ok((more, at + run.len() as u32))
-        }
-        Err(refusal) => Err(Fault::Refused(refusal)),
+        Err(fault) => Err(fault),
     }
 }
 
 /// The items of a text, or the first rule that it breaks.
 ///
-/// The text is cut from the left into separators, brackets and runs that are as long as they can be.
+/// The text is cut from the left into separators, comments and tokens that are as long as they can be. It is read in one
+/// pass, with no recursion.
 pub fn read(alloc: Global, source: &[u8]) -> Result<Vec<Sexpr>, Fault<Refusal>>
     ensures found { IfOk result (λ items. Reads source.now (forest items.items)) }
     ensures broken { IfRefused result (Breaks source.now) }
 {
     if source.len() > MOST_BYTES {
-        return Err(Fault::Refused(refusal(Rule::SourceTooLong, 0, 0)));
+        return Err(Fault::Refused(broken(Rule::SourceTooLong, 0, 0)));
     }
     let mut reading = Reading::new(alloc);
     let mut rest = source;

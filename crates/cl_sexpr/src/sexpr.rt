@@ -1,6 +1,7 @@
 //! Items: what a text is made of, each with the place where it stands.
 ghost use Rattle.std.specs.Prelude.{◌≡◌, IfOk};
 
+use cl_c32::{ContractName, Principal};
 use cl_types::Name;
 use std::alloc::{AllocError, Global};
 use std::marker::Model;
@@ -12,14 +13,30 @@ pub struct Span {
     pub end: u32,
 }
 
-/// What an item is: a name, a whole number, or a list in round brackets.
+/// What an item is.
 #[derive(Drop)]
 #[cycle(sexpr)]
 pub enum Node {
+    /// A name.
     Atom(Name),
+    /// An int, of 128 bits with a sign.
     Int(i128),
+    /// A uint, of 128 bits.
     Uint(u128),
+    /// A buffer, as its bytes.
+    Buff(Vec<u8>),
+    /// A string of ASCII characters, with its escapes resolved.
+    Ascii(Vec<u8>),
+    /// A string of Unicode characters, with its escapes resolved.
+    Utf8(Vec<char>),
+    /// A principal that is written out.
+    Standing(Principal),
+    /// A contract under the address of the contract that the text is of.
+    Local(ContractName),
+    /// A list, in round brackets.
     List(Vec<Sexpr>),
+    /// A tuple, as its keys and items in the order of the text. A key may stand twice.
+    Tuple(Vec<(Name, Sexpr)>),
 }
 
 /// An item and the bytes of the text that it is spelled by.
@@ -56,27 +73,19 @@ impl Sexpr {
         ensures { IfOk result (λ r. r ≡ self.now) }
     {
         let span = self.span;
-        match &self.node {
-            Node::Atom(name) => Ok(Sexpr {
-                node: Node::Atom(*name),
-                span,
-            }),
-            Node::Int(value) => Ok(Sexpr {
-                node: Node::Int(*value),
-                span,
-            }),
-            Node::Uint(value) => Ok(Sexpr {
-                node: Node::Uint(*value),
-                span,
-            }),
-            Node::List(items) => {
-                let items = copy_all(alloc, items)?;
-                Ok(Sexpr {
-                    node: Node::List(items),
-                    span,
-                })
-            }
-        }
+        let node = match &self.node {
+            Node::Atom(name) => Node::Atom(*name),
+            Node::Int(value) => Node::Int(*value),
+            Node::Uint(value) => Node::Uint(*value),
+            Node::Buff(bytes) => Node::Buff(bytes.clone()?),
+            Node::Ascii(text) => Node::Ascii(text.clone()?),
+            Node::Utf8(text) => Node::Utf8(text.clone()?),
+            Node::Standing(principal) => Node::Standing(*principal),
+            Node::Local(name) => Node::Local(*name),
+            Node::List(items) => Node::List(copy_all(alloc, items)?),
+            Node::Tuple(pairs) => Node::Tuple(copy_pairs(alloc, pairs)?),
+        };
+        Ok(Sexpr { node, span })
     }
 }
 
@@ -88,6 +97,18 @@ fn copy_all(alloc: Global, items: &[Sexpr]) -> Result<Vec<Sexpr>, AllocError>
     let mut copies = Vec::new(alloc);
     for item in items {
         copies.push(item.copy(alloc)?)?;
+    }
+    Ok(copies)
+}
+
+#[cycle(copy)]
+#[tactic(auto, using(crate::specs::ViewFalls::pair_falls))]
+fn copy_pairs(alloc: Global, pairs: &[(Name, Sexpr)]) -> Result<Vec<(Name, Sexpr)>, AllocError>
+    ensures { IfOk result (λ v. v.items ≡ pairs.now) }
+{
+    let mut copies = Vec::new(alloc);
+    for pair in pairs {
+        copies.push((pair.0, pair.1.copy(alloc)?))?;
     }
     Ok(copies)
 }

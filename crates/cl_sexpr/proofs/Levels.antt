@@ -1,0 +1,41 @@
+-- Levels that are pushed, changed and popped.
+use Rattle.std.proofs.Common.{◌≡◌, ℕ, List, [], ◌∷◌, ◌++◌, map, reverse, Option, Some, refl, append_assoc, append-nil, sym, ap, ◌∙◌}
+use Rattle.std.specs.List.{flat_map}
+use Rattle.std.proofs.lemmas.List.{flat_map_more, map_push, reverse-append}
+use Rattle.cl_sexpr.specs.declared.reading.Level.{Level}
+use Rattle.cl_sexpr.specs.declared.reading.Reading.{Reading}
+use Rattle.cl_sexpr.specs.Tree.{Tree, forest, pairs}
+use Rattle.cl_sexpr.specs.Token.{Token, Open, Key, tree_tokens, forest_tokens, pairs_tokens, with_item}
+use Rattle.cl_sexpr.specs.Progress.{level_tokens, open_of, opens, Gains}
+
+pub forest_tokens_push : (xs : List Tree) (t : Tree) → forest_tokens (forest (xs ++ t ∷ [])) ≡ forest_tokens (forest xs) ++ tree_tokens t
+forest_tokens_push [] t = append-nil (tree_tokens t)
+forest_tokens_push (x ∷ xs) t = rw (forest_tokens_push xs t) (sym (append_assoc (tree_tokens x) (forest_tokens (forest xs)) (tree_tokens t)))
+
+pub pairs_tokens_push : (xs : List (List ℕ × Tree)) (k : List ℕ) (t : Tree) → pairs_tokens (pairs (xs ++ (k, t) ∷ [])) ≡ pairs_tokens (pairs xs) ++ (Key k ∷ tree_tokens t)
+pairs_tokens_push [] k t = ap (λ (x : List Token). Key k ∷ x) (append-nil (tree_tokens t))
+pairs_tokens_push (x ∷ xs) k t = ap (λ (y : List Token). Key x.0 ∷ y) (rw (pairs_tokens_push xs k t) (sym (append_assoc (tree_tokens x.1) (pairs_tokens (pairs xs)) (Key k ∷ tree_tokens t))))
+
+pub levels_push : (front : List Level) (l : Level) → flat_map level_tokens (front ++ l ∷ []) ≡ flat_map level_tokens front ++ level_tokens l
+levels_push front l = sym (flat_map_more level_tokens [] front l)
+
+pub opens_push : (front : List Level) (l : Level) → reverse (map open_of (front ++ l ∷ [])) ≡ open_of l ∷ reverse (map open_of front)
+opens_push front l = rw (map_push, reverse-append) refl
+
+-- the innermost level gains tokens
+pub level_gains : (old new : Reading) (front : List Level) (l m : Level) (added : List Token) (after : List Open → Option (List Open)) → old.«open».items ≡ front ++ l ∷ [] → new.«open».items ≡ front ++ m ∷ [] → new.items.items ≡ old.items.items → level_tokens m ≡ level_tokens l ++ added → ((os : List Open) → after (open_of l ∷ os) ≡ Some (open_of m ∷ os)) → Gains old new added (after (opens old))
+level_gains old new front l m added after o n i more step = record {
+  read = rw (o, n, i, levels_push front m, levels_push front l, more) (simp append_assoc);
+  opens_are = rw (o, n, opens_push front l, opens_push front m) (step (reverse (map open_of front)));
+}
+
+-- an item is added outside all brackets
+pub top_gains : (old new : Reading) (t : Tree) → old.«open».items ≡ [] → new.«open».items ≡ [] → new.items.items ≡ old.items.items ++ t ∷ [] → Gains old new (tree_tokens t) (with_item (opens old))
+top_gains old new t o n i = record {
+  read = rw (o, n, i, forest_tokens_push old.items.items t) (simp append-nil);
+  opens_are = rw (o, n) refl;
+}
+
+-- a key and its item make a pair
+pub pair_made : (xs : List (List ℕ × Tree)) (k : List ℕ) (t : Tree) → pairs_tokens (pairs (xs ++ (k, t) ∷ [])) ++ [] ≡ (pairs_tokens (pairs xs) ++ Key k ∷ []) ++ tree_tokens t
+pair_made xs k t = append-nil (pairs_tokens (pairs (xs ++ (k, t) ∷ []))) ∙ (pairs_tokens_push xs k t ∙ sym (append_assoc (pairs_tokens (pairs xs)) (Key k ∷ []) (tree_tokens t)))
