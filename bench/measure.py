@@ -1,0 +1,31 @@
+"""Runs the built program on texts of rising size, and prints seconds, peak memory and nanoseconds a byte for each."""
+
+import os
+import subprocess
+import tempfile
+
+PROGRAM = "../crates/clarity/out/clarity"
+
+
+def run(path, words, status, answer):
+    """Processor seconds and peak MiB of one call, which has to end with the status and an answer that holds the text."""
+    child = subprocess.Popen([PROGRAM, "call", path, *words], stdout=subprocess.PIPE)
+    written = child.stdout.read().decode()
+    _, ended, usage = os.wait4(child.pid, 0)
+    assert os.waitstatus_to_exitcode(ended) == status and answer in written, written[:200]
+    return usage.ru_utime + usage.ru_stime, usage.ru_maxrss / 1024
+
+
+def table(rows, words, status):
+    """A line for each row, which is a name, a text by its size, and what the answer holds; and for 64 KiB to 1 MiB."""
+    print(f"{'text':9} {'bytes':>9} {'seconds':>9} {'MiB':>7} {'ns/byte':>8}")
+    with tempfile.TemporaryDirectory() as folder:
+        path = os.path.join(folder, "long.clar")
+        for name, text, answer in rows:
+            for power in range(16, 21):
+                with open(path, "w") as file:
+                    size = file.write(text(2**power))
+                runs = [run(path, words, status, answer) for _ in range(5)]
+                seconds = min(one[0] for one in runs)
+                memory = max(one[1] for one in runs)
+                print(f"{name:9} {size:9} {seconds:9.4f} {memory:7.1f} {seconds / size * 1e9:8.0f}", flush=True)

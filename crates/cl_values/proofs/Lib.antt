@@ -1,0 +1,5 @@
+pub mod Sizes
+pub mod Numbers
+pub mod Back
+pub mod Spellings
+pub mod Parts
