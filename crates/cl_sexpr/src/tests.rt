@@ -401,6 +401,36 @@ fn stands(item: &Sexpr, want: &Want, start: u32, end: u32) -> bool {
 }
 
 #[test]
+fn items_between_separators(rt: HostRuntime) -> Result<(), Fail> {
+    let alloc = rt.alloc();
+    // A run ends where a byte separates or is a mark, and nowhere else.
+    let one_run =
+        b"-0 007\tu10\n-170141183460469231731687303715884105728\r<=(a)-5u340282366920938463463374607431768211455";
+    assert!(rt; broken(alloc, one_run) == Some((Rule::BadToken, 57, 99)));
+    let text =
+        b"-0 007\tu10\n-170141183460469231731687303715884105728\r<=(a)-5 u340282366920938463463374607431768211455";
+    let Ok(items) = read(alloc, text) else {
+        return Err("a text of items")?;
+    };
+    assert_eq!(rt; items.len(), 8);
+    assert!(rt; stands(&items[0], &Want::Int(0), 0, 2));
+    assert!(rt; stands(&items[1], &Want::Int(7), 3, 6));
+    assert!(rt; stands(&items[2], &Want::Uint(10), 7, 10));
+    assert!(rt; stands(&items[3], &Want::Int(i128::MIN), 11, 51));
+    assert!(rt; stands(&items[4], &Want::Name(b"<="), 52, 54));
+    assert!(rt; stands(&items[6], &Want::Int(-5), 57, 59));
+    assert!(rt; stands(&items[7], &Want::Uint(u128::MAX), 60, 100));
+    let Node::List(inner) = &items[5].node else {
+        return Err("a list")?;
+    };
+    assert_eq!(rt; inner.len(), 1);
+    assert!(rt; stands(&inner[0], &Want::Name(b"a"), 55, 56));
+    assert_eq!(rt; items[5].span.start, 54);
+    assert_eq!(rt; items[5].span.end, 57);
+    Ok(())
+}
+
+#[test]
 fn lists_and_tuples_with_their_spans(rt: HostRuntime) -> Result<(), Fail> {
     let alloc = rt.alloc();
     let text = b"x(f {a: 1 , a :(u2),} ;; ){\n\"y\"u\"z\"n\"\");;";
