@@ -1,4 +1,3 @@
-pub mod Faults
 mod Least
 mod Order
 mod Texts

@@ -1,12 +1,32 @@
 //! What every crate speaks of: names, texts, and the ways in which a call fails.
 #![tactic(auto)]
 
+mod admission;
+mod depth;
 mod fault;
+mod keys;
+mod lattice_laws;
+#[cfg(test)]
+mod lattice_tests;
+mod laws;
+mod measure;
 mod name;
+mod order;
+mod sized;
+#[cfg(test)]
+mod sized_tests;
+mod supertype;
 #[cfg(test)]
 mod tests;
 mod text;
+mod ty;
 
+pub use admission::admits;
 pub use fault::{Fault, NoMemory};
+pub use lattice_laws::{admission_orders, least_supertype_is, one_least_supertype};
+pub use laws::{made_is_sized, parts_are_sized, sized_is_made};
 pub use name::{Name, fits_pattern, is_digit, is_letter};
+pub use sized::{Access, SizedTy, TyRefusal, size};
+pub use supertype::lub;
 pub use text::Text;
+pub use ty::{Ty, TyKind};

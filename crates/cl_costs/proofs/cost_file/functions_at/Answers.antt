@@ -1,5 +1,5 @@
 use Rattle.std.proofs.Math.ListN.{length-set}
-use Rattle.cl_json.proofs.Faults.{passes}
+use Rattle.cl_types.proofs.Faults.{passes}
 use Rattle.cl_shapes.specs.Names.{cost_names}
 use Rattle.cl_shapes.specs.declared.name.CostName.TheVariants.{Literal}
 use Rattle.cl_costs.proofs.Functions.{reads_next, stops_at, reads_all}
