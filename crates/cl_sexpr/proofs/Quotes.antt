@@ -3,7 +3,7 @@ use Rattle.std.proofs.Common.{◌≡◌, ℕ, suc, zero, ◌+◌, ◌-◌, ◌<�
 use Rattle.std.specs.Option.{option_map}
 use Rattle.std.proofs.lemmas.List.{at_drop_more}
 use Rattle.std.proofs.lemmas.Bool.Decides.{nat_tests}
-use Rattle.cl_sexpr.specs.declared.rule.Refusal.{Refusal}
+use Rattle.cl_sexpr.specs.declared.rule.Break.{Break}
 use Rattle.cl_sexpr.specs.Quote.{closing, characters, character_at, with_character, and_then}
 
 abbrev pub plus : ℕ → Option ℕ → Option ℕ
@@ -40,15 +40,15 @@ closing_more bs i h e =
     ap (plus i) (at_drop_more (closing false) bs i 0 h ∙ here) ∙ plus_more i (closing (get_or bs i 0 == 92) (drop (i + 1) bs))
 
 -- characters in front of others
-abbrev pub with_front : List ℕ → Result (List ℕ) Refusal → Result (List ℕ) Refusal
+abbrev pub with_front : List ℕ → Result (List ℕ) Break → Result (List ℕ) Break
 with_front xs (Ok ys) = Ok (xs ++ ys)
 with_front xs (Err r) = Err r
 
-pub with_front-nil : (r : Result (List ℕ) Refusal) → r ≡ with_front [] r
+pub with_front-nil : (r : Result (List ℕ) Break) → r ≡ with_front [] r
 with_front-nil (Ok ys) = refl
 with_front-nil (Err r) = refl
 
-with_front-character : (xs : List ℕ) (c : ℕ) (r : Result (List ℕ) Refusal) → with_front xs (with_character c r) ≡ with_front (xs ++ c ∷ []) r
+with_front-character : (xs : List ℕ) (c : ℕ) (r : Result (List ℕ) Break) → with_front xs (with_character c r) ≡ with_front (xs ++ c ∷ []) r
 with_front-character xs c (Ok ys) = ap (λ (z : List ℕ). Ok z) (sym (append_assoc xs (c ∷ []) ys))
 with_front-character xs c (Err r) = refl
 
@@ -61,13 +61,13 @@ skipped u at (suc k) (c ∷ cs) h = skipped u (at + 1) k cs (omega (arith, h)) �
 -- past one character
 pub characters_more : (u : Bool) (xs : List ℕ) (at : ℕ) (rest : List ℕ) (c : ℕ) (cs : List ℕ) (char size : ℕ) → rest ≡ c ∷ cs → Ok (char, size) ≡ character_at u at c cs → 0 < size → size ≤ length cs + 1 → with_front xs (characters u at 0 rest) ≡ with_front (xs ++ char ∷ []) (characters u (at + size) 0 (drop (size - 1) cs))
 characters_more u xs at rest c cs char size e is some within =
-    let here : characters u at 0 rest ≡ with_character char (characters u (at + 1) (size - 1) cs) = ap (characters u at 0) e ∙ ap (λ (r : Result (ℕ × ℕ) Refusal). and_then r (λ skip. characters u (at + 1) skip cs)) (sym is) in
+    let here : characters u at 0 rest ≡ with_character char (characters u (at + 1) (size - 1) cs) = ap (characters u at 0) e ∙ ap (λ (r : Result (ℕ × ℕ) Break). and_then r (λ skip. characters u (at + 1) skip cs)) (sym is) in
     let place : at + 1 + (size - 1) ≡ at + size = omega (arith, some) in
     ap (with_front xs) here ∙ (with_front-character xs char (characters u (at + 1) (size - 1) cs) ∙ ap (with_front (xs ++ char ∷ [])) (skipped u (at + 1) (size - 1) cs (omega (arith, within, some)) ∙ ap (λ (n : ℕ). characters u n 0 (drop (size - 1) cs)) place))
 
-pub characters_bad : (u : Bool) (xs : List ℕ) (at : ℕ) (rest : List ℕ) (c : ℕ) (cs : List ℕ) (r : Refusal) → rest ≡ c ∷ cs → Err r ≡ character_at u at c cs → with_front xs (characters u at 0 rest) ≡ Err r
+pub characters_bad : (u : Bool) (xs : List ℕ) (at : ℕ) (rest : List ℕ) (c : ℕ) (cs : List ℕ) (r : Break) → rest ≡ c ∷ cs → Err r ≡ character_at u at c cs → with_front xs (characters u at 0 rest) ≡ Err r
 characters_bad u xs at rest c cs r e is =
-    ap (with_front xs) (ap (characters u at 0) e ∙ ap (λ (r : Result (ℕ × ℕ) Refusal). and_then r (λ skip. characters u (at + 1) skip cs)) (sym is))
+    ap (with_front xs) (ap (characters u at 0) e ∙ ap (λ (r : Result (ℕ × ℕ) Break). and_then r (λ skip. characters u (at + 1) skip cs)) (sym is))
 
 pub characters_end : (u : Bool) (xs : List ℕ) (at : ℕ) (rest : List ℕ) → rest ≡ [] → with_front xs (characters u at 0 rest) ≡ Ok xs
 characters_end u xs at rest e = ap (λ (z : List ℕ). with_front xs (characters u at 0 z)) e ∙ ap (λ (z : List ℕ). Ok z) (append-nil xs)

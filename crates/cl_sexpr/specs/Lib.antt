@@ -1,3 +1,4 @@
+pub mod Rules
 pub mod Tree
 pub mod TreeCode
 pub mod View

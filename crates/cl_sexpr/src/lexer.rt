@@ -2,13 +2,13 @@
 ghost use Rattle.std.specs.Prelude.{◌≡◌, ◌<◌, ◌≤◌, ◌+◌, ◌^◌, ℕ, length, position, not, ◌==◌, Ok, Err, IfOk, IfSome, IsTrue};
 ghost use Rattle.cl_types.specs.Fault.{IfRefused};
 ghost use Rattle.cl_sexpr.specs.Text.{run_length, run_at, line_length, comment_at, mark_at, longer_at, is_unmarked, token_at};
-ghost use Rattle.cl_sexpr.specs.Leaf.{is_allowed, is_run_byte};
+ghost use Rattle.cl_sexpr.specs.Leaf.{is_run_byte};
 ghost use Rattle.cl_sexpr.specs.Lexed.{token, mark_token, Lexes};
 
-use crate::bytes::{begins, is_allowed, is_run_byte, is_separator, split_byte};
+use crate::bytes::{begins, first_bad, is_run_byte, is_separator, split_byte};
 use crate::leaf::Leaf;
 use crate::quote::string_at;
-use crate::rule::{Refusal, Rule, broken};
+use crate::rule::{Break, Rule, broken};
 use crate::run::run_token;
 use cl_types::Fault;
 use std::alloc::Global;
@@ -27,7 +27,7 @@ pub enum Token {
     /// An item of one token.
     Item(Leaf),
     /// An item that breaks this rule where an item may stand.
-    Faulty(Refusal),
+    Faulty(Break),
 }
 
 // A separator or a mark of one byte.
@@ -71,7 +71,7 @@ fn run_length(bytes: &[u8]) -> usize
 }
 
 // The run in front, and how many bytes it has.
-fn run_at(alloc: Global, bytes: &[u8], at: u32) -> Result<(Token, usize), Fault<Refusal>>
+fn run_at(alloc: Global, bytes: &[u8], at: u32) -> Result<(Token, usize), Fault<Break>>
     requires room { at + length bytes.now < 2 ^ 31 }
     ensures found { IfOk result (λ x. run_at at bytes.now ≡ Ok (token x.0 at (at + x.1), x.1)) }
     ensures size { IfOk result (λ x. x.1 ≡ run_length bytes.now) }
@@ -102,14 +102,8 @@ fn line_length(bytes: &[u8]) -> usize
     }
 }
 
-fn first_bad(line: &[u8]) -> Option<usize>
-    ensures { result ≡ position (λ c. not (is_allowed c)) line.now }
-{
-    line.iter().position(|b| !is_allowed(*b))
-}
-
 // The comment with these bytes behind its first semicolon, and how many bytes it has.
-fn comment_at(bytes: &[u8], at: u32) -> Result<(Token, usize), Fault<Refusal>>
+fn comment_at(bytes: &[u8], at: u32) -> Result<(Token, usize), Fault<Break>>
     requires room { at + 1 + length bytes.now < 2 ^ 31 }
     ensures found { IfOk result (λ x. comment_at at bytes.now ≡ Ok (token x.0 at (at + x.1), x.1)) }
     ensures some { IfOk result (λ x. 0 < x.1) }
@@ -132,7 +126,7 @@ fn comment_at(bytes: &[u8], at: u32) -> Result<(Token, usize), Fault<Refusal>>
 }
 
 // The token in front that is no mark of one byte, and how many bytes spell it.
-fn longer_at(alloc: Global, bytes: &[u8], at: u32) -> Result<(Token, usize), Fault<Refusal>>
+fn longer_at(alloc: Global, bytes: &[u8], at: u32) -> Result<(Token, usize), Fault<Break>>
     requires unmarked { IsTrue (is_unmarked bytes.now) }
     requires room { at + length bytes.now < 2 ^ 31 }
     ensures found { IfOk result (λ x. longer_at at bytes.now ≡ Ok (token x.0 at (at + x.1), x.1)) }
@@ -154,7 +148,7 @@ fn longer_at(alloc: Global, bytes: &[u8], at: u32) -> Result<(Token, usize), Fau
 
 /// The token at a place, and how many bytes spell it.
 #[tactic(auto, unfolding(crate::specs::Text::token_at))]
-pub fn token_at(alloc: Global, bytes: &[u8], at: u32) -> Result<(Token, usize), Fault<Refusal>>
+pub fn token_at(alloc: Global, bytes: &[u8], at: u32) -> Result<(Token, usize), Fault<Break>>
     requires some { 0 < length bytes.now }
     requires room { at + length bytes.now < 2 ^ 31 }
     ensures found { IfOk result (λ x. Lexes x.0 x.1 at bytes.now) }

@@ -15,6 +15,6 @@ mod sexpr;
 mod tests;
 
 pub use reader::{MOST_BYTES, one_reading, read};
-pub use rule::{Refusal, Rule};
+pub use rule::{Break, Refusal, Rule};
 pub use run::{are_digits, value_of};
 pub use sexpr::{Node, Sexpr, Span};

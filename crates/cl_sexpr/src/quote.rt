@@ -9,7 +9,7 @@ ghost use Rattle.cl_sexpr.specs.Lexed.{token, leaf};
 use crate::bytes::{begins, split_byte};
 use crate::leaf::Leaf;
 use crate::lexer::Token;
-use crate::rule::{Refusal, Rule, broken};
+use crate::rule::{Break, Rule, broken};
 use cl_types::Fault;
 use std::alloc::Global;
 
@@ -130,7 +130,7 @@ fn escape_of(unicode: bool, bytes: &[u8]) -> Option<(char, usize)>
 }
 
 // The character that stands at a place, and how many bytes spell it.
-fn character_at(unicode: bool, first: u8, more: &[u8], at: u32) -> Result<(char, usize), Refusal>
+fn character_at(unicode: bool, first: u8, more: &[u8], at: u32) -> Result<(char, usize), Break>
     requires { at + 1 + length more.now < 2 ^ 32 }
     ensures value { result ≡ character_at unicode at first more.now }
     ensures some { IfOk result (λ c. 0 < c.1) }
@@ -150,7 +150,7 @@ fn character_at(unicode: bool, first: u8, more: &[u8], at: u32) -> Result<(char,
 }
 
 // The characters of an ASCII string's bytes.
-fn ascii(alloc: Global, bytes: &[u8], place: u32) -> Result<Vec<u8>, Fault<Refusal>>
+fn ascii(alloc: Global, bytes: &[u8], place: u32) -> Result<Vec<u8>, Fault<Break>>
     requires room { place + length bytes.now < 2 ^ 32 }
     ensures found { IfOk result (λ v. characters false place 0 bytes.now ≡ Ok v.items) }
     ensures broken { IfRefused result (λ r. characters false place 0 bytes.now ≡ Err r) }
@@ -173,7 +173,7 @@ fn ascii(alloc: Global, bytes: &[u8], place: u32) -> Result<Vec<u8>, Fault<Refus
 }
 
 // The characters of a UTF-8 string's bytes.
-fn unicode(alloc: Global, bytes: &[u8], place: u32) -> Result<Vec<char>, Fault<Refusal>>
+fn unicode(alloc: Global, bytes: &[u8], place: u32) -> Result<Vec<char>, Fault<Break>>
     requires room { place + length bytes.now < 2 ^ 32 }
     ensures found { IfOk result (λ v. characters true place 0 bytes.now ≡ Ok v.items) }
     ensures broken { IfRefused result (λ r. characters true place 0 bytes.now ≡ Err r) }
@@ -209,7 +209,7 @@ fn first_bad(bytes: &[u8]) -> Option<usize>
 
 // The string of the bytes between quotes.
 #[tactic(auto, unfolding(crate::specs::Quote::text_in))]
-fn text_in(alloc: Global, is_unicode: bool, bytes: &[u8], at: u32) -> Result<Leaf, Fault<Refusal>>
+fn text_in(alloc: Global, is_unicode: bool, bytes: &[u8], at: u32) -> Result<Leaf, Fault<Break>>
     requires room { at + length bytes.now < 2 ^ 32 }
     ensures found { IfOk result (λ l. text_in is_unicode at bytes.now ≡ Ok (leaf l)) }
     ensures broken { IfRefused result (λ r. text_in is_unicode at bytes.now ≡ Err r) }
@@ -245,7 +245,7 @@ pub fn string_at(
     is_unicode: bool,
     bytes: &[u8],
     at: u32,
-) -> Result<(Token, usize), Fault<Refusal>>
+) -> Result<(Token, usize), Fault<Break>>
     requires room { at + 2 + length bytes.now < 2 ^ 32 }
     ensures found { IfOk result (λ x. string_at is_unicode at bytes.now ≡ Ok (token x.0 at (at + x.1), x.1)) }
     ensures some { IfOk result (λ x. 0 < x.1) }

@@ -1,7 +1,7 @@
 //! The reader.
-ghost use Rattle.std.specs.Prelude.{◌≡◌, ◌≤◌, ◌<◌, ◌+◌, ◌*◌, ◌^◌, List, ℕ, length, IfOk, Some};
+ghost use Rattle.std.specs.Prelude.{◌≡◌, ◌≤◌, ◌<◌, ◌+◌, ◌*◌, ◌^◌, List, [], ℕ, length, IfOk, Some};
 ghost use Rattle.cl_types.specs.Fault.{IfRefused};
-ghost use Rattle.cl_sexpr.specs.declared.rule.Refusal.{Refusal as Refused};
+ghost use Rattle.cl_sexpr.specs.declared.rule.Break.{Break as Broken};
 ghost use Rattle.cl_sexpr.specs.Tree.{Forest, forest, forest_size};
 ghost use Rattle.cl_sexpr.specs.Token.{Opens, OpensTuple, Faulty, leaf_in, in_place, wants_key};
 ghost use Rattle.cl_sexpr.specs.Text.{closes_none, opens_none, misplaced, break_at, Reads, Breaks};
@@ -13,7 +13,7 @@ use crate::bracket::Bracket;
 use crate::leaf::Leaf;
 use crate::lexer::{Token, token_at};
 use crate::reading::{Level, Phase, Reading};
-use crate::rule::{Refusal, Rule, broken};
+use crate::rule::{Break, Refusal, Rule, broken};
 use crate::sexpr::{Sexpr, Span};
 use cl_types::Fault;
 use std::alloc::{AllocError, Global};
@@ -46,7 +46,7 @@ fn opens_none(reading: &Reading) -> Rule
     }
 }
 
-fn faulty(reading: &Reading, refusal: Refusal, at: u32, end: u32) -> Refusal
+fn faulty(reading: &Reading, refusal: Break, at: u32, end: u32) -> Break
     ensures { result ≡ misplaced (opens reading.now) (Faulty refusal) at end }
 {
     if reading.takes() {
@@ -57,7 +57,7 @@ fn faulty(reading: &Reading, refusal: Refusal, at: u32, end: u32) -> Refusal
 }
 
 // What a token breaks, if it can't stand there.
-fn misplaced(reading: &Reading, given: &Token, at: u32, end: u32) -> Refusal
+fn misplaced(reading: &Reading, given: &Token, at: u32, end: u32) -> Break
     ensures { result ≡ misplaced (opens reading.now) (token given.now at end) at end }
 {
     match given {
@@ -144,7 +144,7 @@ fn take_next<'a>(
     alloc: Global,
     bytes: &'a [u8],
     at: u32,
-) -> Result<(&'a [u8], u32), Fault<Refusal>>
+) -> Result<(&'a [u8], u32), Fault<Break>>
     requires some { 0 < length bytes.now }
     requires room { at + length bytes.now < 2 ^ 31 }
     ensures found { IfOk result (λ next. Advances reading.old reading.new at bytes.now next.1 next.0.now) }
@@ -167,11 +167,7 @@ fn take_next<'a>(
     }
 }
 
-/// The items of a text, or the first rule that it breaks.
-///
-/// The text is cut from the left into separators, comments and tokens that are as long as they can be. It is read in one
-/// pass, with no recursion.
-pub fn read(alloc: Global, source: &[u8]) -> Result<Vec<Sexpr>, Fault<Refusal>>
+fn items_or_break(alloc: Global, source: &[u8]) -> Result<Vec<Sexpr>, Fault<Break>>
     ensures found { IfOk result (λ items. Reads source.now (forest items.items)) }
     ensures broken { IfRefused result (Breaks source.now) }
 {
@@ -191,7 +187,7 @@ pub fn read(alloc: Global, source: &[u8]) -> Result<Vec<Sexpr>, Fault<Refusal>>
         }
     }
     match reading.innermost() {
-        Some(span) => Err(Fault::Refused(Refusal {
+        Some(span) => Err(Fault::Refused(Break {
             rule: Rule::Unclosed,
             span,
         })),
@@ -199,10 +195,26 @@ pub fn read(alloc: Global, source: &[u8]) -> Result<Vec<Sexpr>, Fault<Refusal>>
     }
 }
 
+/// The items of a text, or the first rule that it breaks.
+///
+/// The text is cut from the left into separators, comments and tokens that are as long as they can be. It is read in one
+/// pass, with no recursion.
+pub fn read(alloc: Global, source: &[u8]) -> Result<Vec<Sexpr>, Fault<Refusal>>
+    ensures found { IfOk result (λ items. Reads source.now (forest items.items)) }
+    ensures broken { IfRefused result (λ r. Breaks source.now (record { rule = r.rule; span = r.span })) }
+    ensures nameless { IfRefused result (λ r. r.names.items ≡ []) }
+{
+    match items_or_break(alloc, source) {
+        Ok(items) => Ok(items),
+        Err(Fault::Refused(broken)) => Err(Fault::Refused(Refusal::of(alloc, broken))),
+        Err(Fault::NoMemory) => Err(Fault::NoMemory),
+    }
+}
+
 /// The laws of reading: a text has one list of items or one first break, and not both, and its items are few.
 pub fn one_reading()
     ensures reading { (bytes : List ℕ) (a b : Forest) → Reads bytes a → Reads bytes b → a ≡ b }
-    ensures either { (bytes : List ℕ) (a : Forest) (r : Refused) → Reads bytes a → Breaks bytes r → ⊥ }
-    ensures first { (bytes : List ℕ) (r s : Refused) → Breaks bytes r → Breaks bytes s → r ≡ s }
+    ensures either { (bytes : List ℕ) (a : Forest) (r : Broken) → Reads bytes a → Breaks bytes r → ⊥ }
+    ensures first { (bytes : List ℕ) (r s : Broken) → Breaks bytes r → Breaks bytes s → r ≡ s }
     ensures few { (bytes : List ℕ) (a : Forest) → Reads bytes a → forest_size a ≤ 2 * length bytes }
 {}

@@ -1,18 +1,18 @@
 //! What a run of bytes is.
-ghost use Rattle.std.specs.Prelude.{◌≡◌, ◌<◌, ◌≤◌, ◌+◌, ◌^◌, List, ℕ, length, Ok, Err, ◌==◌, IfOk, IfSome, IsTrue, position, not, Some, None, true, pos, neg_ℤ};
+ghost use Rattle.std.specs.Prelude.{◌≡◌, ◌<◌, ◌≤◌, ◌+◌, ◌^◌, List, ℕ, length, Ok, Err, ◌==◌, IfOk, IfSome, IsTrue, position, Some, None, true, pos, neg_ℤ};
 ghost use Rattle.std.specs.List.{list_all};
 ghost use Rattle.std.specs.Option.{SomeIff};
 ghost use Rattle.hex.specs.Hex.{decode_of};
 ghost use Rattle.cl_types.specs.Name.{is_digit};
 ghost use Rattle.cl_types.specs.Fault.{IfRefused};
 ghost use Rattle.cl_c32.specs.Codec.{decoded};
-ghost use Rattle.cl_sexpr.specs.Leaf.{are_digits, value_of, is_allowed, positive, negative, unsigned, named, leaf_of, own_contract, contract_name, buffer, standard_principal, contract_principal, principal_of, principal_token, in_span, allowed_run, run_token};
+ghost use Rattle.cl_sexpr.specs.Leaf.{are_digits, value_of, positive, negative, unsigned, named, leaf_of, own_contract, contract_name, buffer, standard_principal, contract_principal, principal_of, principal_token, in_span, allowed_run, run_token};
 ghost use Rattle.cl_sexpr.specs.Lexed.{leaf, leaf_result, token};
 
-use crate::bytes::{begins, is_allowed};
+use crate::bytes::{begins, first_bad};
 use crate::leaf::Leaf;
 use crate::lexer::Token;
-use crate::rule::{Refusal, Rule, broken};
+use crate::rule::{Break, Rule, broken};
 use crate::sexpr::Span;
 use cl_c32::{ContractName, Principal, decode};
 use cl_types::{Fault, Name, is_digit};
@@ -192,19 +192,13 @@ fn principal_of(text: &[u8]) -> Option<Principal>
     }
 }
 
-fn first_bad(run: &[u8]) -> Option<usize>
-    ensures { result ≡ position (λ c. not (is_allowed c)) run.now }
-{
-    run.iter().position(|b| !is_allowed(*b))
-}
-
-fn in_span(leaf: Result<Leaf, Rule>, span: Span) -> Result<Token, Fault<Refusal>>
+fn in_span(leaf: Result<Leaf, Rule>, span: Span) -> Result<Token, Fault<Break>>
     ensures found { IfOk result (λ t. in_span span (leaf_result leaf) ≡ Ok (token t span.start span.end)) }
     ensures broken { IfRefused result (λ r. in_span span (leaf_result leaf) ≡ Err r) }
 {
     match leaf {
         Ok(leaf) => Ok(Token::Item(leaf)),
-        Err(rule) => Err(Fault::Refused(Refusal { rule, span })),
+        Err(rule) => Err(Fault::Refused(Break { rule, span })),
     }
 }
 
@@ -213,31 +207,31 @@ fn principal_token(text: &[u8], span: Span) -> Token
 {
     match principal_of(text) {
         Some(principal) => Token::Item(Leaf::Standing(principal)),
-        None => Token::Faulty(Refusal {
+        None => Token::Faulty(Break {
             rule: Rule::BadAddress,
             span,
         }),
     }
 }
 
-fn buffer_token(alloc: Global, digits: &[u8], span: Span) -> Result<Token, Fault<Refusal>>
+fn buffer_token(alloc: Global, digits: &[u8], span: Span) -> Result<Token, Fault<Break>>
     ensures found { IfOk result (λ t. in_span span (buffer (decode_of digits.now)) ≡ Ok (token t span.start span.end)) }
     ensures broken { IfRefused result (λ r. in_span span (buffer (decode_of digits.now)) ≡ Err r) }
 {
     match buffer(digits, alloc) {
         Ok(leaf) => Ok(Token::Item(leaf)),
-        Err(Fault::Refused(rule)) => Err(Fault::Refused(Refusal { rule, span })),
+        Err(Fault::Refused(rule)) => Err(Fault::Refused(Break { rule, span })),
         Err(Fault::NoMemory) => Err(Fault::NoMemory),
     }
 }
 
 // What a run of allowed bytes is.
-fn allowed_run(alloc: Global, run: &[u8], span: Span) -> Result<Token, Fault<Refusal>>
+fn allowed_run(alloc: Global, run: &[u8], span: Span) -> Result<Token, Fault<Break>>
     ensures found { IfOk result (λ t. allowed_run span run.now ≡ Ok (token t span.start span.end)) }
     ensures broken { IfRefused result (λ r. allowed_run span run.now ≡ Err r) }
 {
     match run.split_first() {
-        None => Err(Fault::Refused(Refusal {
+        None => Err(Fault::Refused(Break {
             rule: Rule::BadToken,
             span,
         })),
@@ -255,7 +249,7 @@ fn allowed_run(alloc: Global, run: &[u8], span: Span) -> Result<Token, Fault<Ref
 
 /// The token that a run at a place is, or the rule that it breaks: first of all a byte that may not stand in it.
 #[tactic(auto, unfolding(crate::specs::Leaf::run_token))]
-pub fn run_token(alloc: Global, run: &[u8], at: u32) -> Result<Token, Fault<Refusal>>
+pub fn run_token(alloc: Global, run: &[u8], at: u32) -> Result<Token, Fault<Break>>
     requires { at + length run.now < 2 ^ 32 }
     ensures found { IfOk result (λ t. run_token at run.now ≡ Ok (token t at (at + length run.now))) }
     ensures broken { IfRefused result (λ r. run_token at run.now ≡ Err r) }
