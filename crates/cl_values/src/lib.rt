@@ -3,10 +3,15 @@
 
 mod comparing;
 mod depth;
+mod examples;
 mod fault;
+mod inhabitants;
+#[cfg(test)]
+mod inhabitants_tests;
 mod keys;
 mod laws;
 mod leaves;
+mod native;
 mod order;
 mod prefix;
 mod refusal;
@@ -18,8 +23,14 @@ mod val;
 mod value;
 
 pub use comparing::{compare, equal};
+pub use examples::natives_by_example;
 pub use fault::DecodeRefusal;
-pub use laws::{one_spelling, read_back, size_is_length};
+pub use inhabitants::inhabits;
+pub use laws::{
+    admission_keeps_values, items_and_values, no_type_has_none, one_spelling, read_back,
+    reads_only_spellings, size_is_greatest, size_is_length,
+};
+pub use native::Native;
 pub use prefix::prefix_of;
 pub use refusal::ValueRefusal;
 pub use size::characters_size;
