@@ -1,8 +1,13 @@
 //! The wire form of values (SIP-005).
 #![tactic(auto)]
 
+mod decoder;
 mod encoder;
+mod leaves;
+mod parts;
 #[cfg(test)]
 mod tests;
 
+pub use cl_values::DecodeRefusal;
+pub use decoder::decode;
 pub use encoder::encode;

@@ -1,12 +1,12 @@
-//! Wire forms computed by another program, from the forms of SIP-005.
+//! Wire forms, and the faults of bytes that are none, computed by another program from the forms of SIP-005.
 ghost use Rattle.std.specs.Prelude.{◌≤◌};
 ghost use Rattle.cl_values.specs.Tree.{depth_of};
 ghost use Rattle.cl_values.specs.View.{tree_of};
 
-use crate::encode;
+use crate::{DecodeRefusal, decode, encode};
 use cl_c32::{Address, ContractName, Principal};
-use cl_types::Name;
-use cl_values::{Kind, Val, Value};
+use cl_types::{Fault, Name};
+use cl_values::{Kind, Val, Value, equal};
 use std::alloc::Global;
 use std::process::Abort;
 use std::test::Fail;
@@ -18,6 +18,8 @@ fn spells(rt: &impl Abort, alloc: Global, kind: Kind, wire: &[u8]) -> Result<(),
     let bytes = encode(alloc, &value)?;
     assert_eq!(rt; bytes.as_slice(), wire);
     assert_eq!(rt; value.size() as usize, wire.len());
+    let again = decode(alloc, wire)?;
+    assert!(rt; equal(&value, &again));
     Ok(())
 }
 
@@ -175,4 +177,202 @@ fn values_in_values(rt: HostRuntime) -> Result<(), Fail> {
         Kind::Tuple(entries),
         b"\x0c\x00\x00\x00\x02\x01a\x03\x01b\x04",
     )
+}
+
+/// `(ok (some {amounts: [u1, u256], note: u"\u{e9}"}))`
+#[test]
+fn a_nest(rt: HostRuntime) -> Result<(), Fail> {
+    let alloc = rt.alloc();
+    let mut amounts = Vec::new(alloc);
+    amounts.push(Value {
+        kind: Kind::Uint(1),
+    })?;
+    amounts.push(Value {
+        kind: Kind::Uint(256),
+    })?;
+    let note = ['\u{e9}'].to_vec(alloc)?;
+    let mut entries = Vec::new(alloc);
+    entries.push((
+        Name::make(b"amounts").ok_or("a name")?,
+        Value {
+            kind: Kind::List(amounts),
+        },
+    ))?;
+    entries.push((
+        Name::make(b"note").ok_or("a name")?,
+        Value {
+            kind: Kind::Utf8(note),
+        },
+    ))?;
+    let tuple = Value {
+        kind: Kind::Tuple(entries),
+    };
+    let some = Value {
+        kind: Kind::Optional(Some(Box::new(alloc, tuple)?)),
+    };
+    let inner = Box::new(alloc, some)?;
+    let wire =
+        b"\x07\x0a\x0c\x00\x00\x00\x02\x07amounts\x0b\x00\x00\x00\x02\x01\x00\x00\x00\x00\x00\x00\x00\x00\x00\x00\x00\x00\x00\x00\x00\x01\x01\x00\x00\x00\x00\x00\x00\x00\x00\x00\x00\x00\x00\x00\x00\x01\x00\x04note\x0e\x00\x00\x00\x02\xc3\xa9";
+    spells(&rt, alloc, Kind::Response { good: true, inner }, wire)
+}
+
+fn is_refused(alloc: Global, bytes: &[u8], refusal: DecodeRefusal) -> bool {
+    match decode(alloc, bytes) {
+        Err(Fault::Refused(fault)) => fault == refusal,
+        _ => false,
+    }
+}
+
+#[test]
+fn faults_and_their_places(rt: HostRuntime) {
+    let rows: [(&[u8], DecodeRefusal); 38] = [
+        (b"", DecodeRefusal::Ended { at: 0 }),
+        (
+            b"\x0c\x00\x00\x00\x02\x01b\x03\x01a\x03",
+            DecodeRefusal::KeysOrder { at: 8 },
+        ),
+        (
+            b"\x0c\x00\x00\x00\x02\x01a\x03\x01a\x03",
+            DecodeRefusal::KeysOrder { at: 8 },
+        ),
+        (
+            b"\x01\x00\x00\x00\x00\x00\x00\x00\x00\x00\x00\x00\x00\x00\x00\x00",
+            DecodeRefusal::Ended { at: 16 },
+        ),
+        (
+            b"\x01\x00\x00\x00\x00\x00\x00\x00\x00\x00\x00\x00\x00\x00\x00\x00\x00\x00",
+            DecodeRefusal::Extra { at: 17 },
+        ),
+        (b"\x03\x00", DecodeRefusal::Extra { at: 1 }),
+        (b"\x0b\x00\x00\x00\x00\x09", DecodeRefusal::Extra { at: 5 }),
+        (b"\x0f", DecodeRefusal::BadPrefix { at: 0 }),
+        (b"\x07\x0f", DecodeRefusal::BadPrefix { at: 1 }),
+        (b"\x05\xff", DecodeRefusal::BadPrefix { at: 1 }),
+        (b"\x05\x20", DecodeRefusal::BadPrefix { at: 1 }),
+        (b"\x05\x1f", DecodeRefusal::Ended { at: 2 }),
+        (b"\x05\x16", DecodeRefusal::Ended { at: 2 }),
+        (
+            b"\x0b\xff\xff\xff\xff\xff",
+            DecodeRefusal::BadPrefix { at: 5 },
+        ),
+        (b"\x0b\xff\xff\xff\xff", DecodeRefusal::Ended { at: 5 }),
+        (b"\x0c\xff\xff\xff\xff", DecodeRefusal::Ended { at: 5 }),
+        (b"\x02\xff\xff\xff\xff", DecodeRefusal::Ended { at: 5 }),
+        (b"\x0c\x00\x00\x00\x00", DecodeRefusal::NoKeys { at: 1 }),
+        (b"\x0c\x00\x00\x00\x00\x01", DecodeRefusal::NoKeys { at: 1 }),
+        (
+            b"\x0c\x00\x00\x00\x01\x00\x03",
+            DecodeRefusal::BadName { at: 5 },
+        ),
+        (
+            b"\x0c\x00\x00\x00\x01\x011\x03",
+            DecodeRefusal::BadName { at: 5 },
+        ),
+        (
+            b"\x0c\x00\x00\x00\x02\x01b\x03\x011\x03",
+            DecodeRefusal::BadName { at: 8 },
+        ),
+        (b"\x0c\x00\x00\x00\x01\xffa", DecodeRefusal::Ended { at: 7 }),
+        (
+            b"\x06\x16\x00\x01\x02\x03\x04\x05\x06\x07\x08\x09\x0a\x0b\x0c\x0d\x0e\x0f\x10\x11\x12\x13\x01-",
+            DecodeRefusal::BadName { at: 22 },
+        ),
+        (
+            b"\x06\x16\x00\x01\x02\x03\x04\x05\x06\x07\x08\x09\x0a\x0b\x0c\x0d\x0e\x0f\x10\x11\x12\x13\x00",
+            DecodeRefusal::BadName { at: 22 },
+        ),
+        (
+            b"\x0d\x00\x00\x00\x02a\x7f",
+            DecodeRefusal::BadText { at: 6 },
+        ),
+        (
+            b"\x0d\x00\x00\x00\x02a\x0b",
+            DecodeRefusal::BadText { at: 6 },
+        ),
+        (
+            b"\x0d\x00\x00\x00\x01\x80",
+            DecodeRefusal::BadText { at: 5 },
+        ),
+        (b"\x0d\x00\x00\x00\x03\x7f", DecodeRefusal::Ended { at: 6 }),
+        (
+            b"\x0e\x00\x00\x00\x03a\xc3a",
+            DecodeRefusal::BadText { at: 6 },
+        ),
+        (
+            b"\x0e\x00\x00\x00\x02a\xc3",
+            DecodeRefusal::BadText { at: 6 },
+        ),
+        (
+            b"\x0e\x00\x00\x00\x01\x80",
+            DecodeRefusal::BadText { at: 5 },
+        ),
+        (
+            b"\x0e\x00\x00\x00\x02\xc0\x80",
+            DecodeRefusal::BadText { at: 5 },
+        ),
+        (
+            b"\x0e\x00\x00\x00\x04a\xed\xa0\x80",
+            DecodeRefusal::BadText { at: 6 },
+        ),
+        (
+            b"\x0e\x00\x00\x00\x05a\xf4\x90\x80\x80",
+            DecodeRefusal::BadText { at: 6 },
+        ),
+        (b"\x0e\x00\x00\x00\x03a\xff", DecodeRefusal::Ended { at: 7 }),
+        (
+            b"\x0c\x00\x00\x00\x01\x01a\x0f",
+            DecodeRefusal::BadPrefix { at: 7 },
+        ),
+        (b"\x10", DecodeRefusal::BadPrefix { at: 0 }),
+    ];
+    for (bytes, refusal) in rows {
+        assert!(rt; is_refused(rt.alloc(), bytes, refusal), "{refusal:?}");
+    }
+}
+
+/// A value of each kind, cut short at each place: what is missing is the first fault.
+#[test]
+fn truncated_values(rt: HostRuntime) {
+    let values: [&[u8]; 14] = [
+        b"\x00\xff\xff\xff\xff\xff\xff\xff\xff\xff\xff\xff\xff\xff\xff\xff\xff",
+        b"\x01\x00\x00\x00\x00\x00\x00\x00\x00\x00\x00\x00\x00\x00\x00\x00\x01",
+        b"\x02\x00\x00\x00\x02\x00\xff",
+        b"\x03",
+        b"\x05\x16\x00\x01\x02\x03\x04\x05\x06\x07\x08\x09\x0a\x0b\x0c\x0d\x0e\x0f\x10\x11\x12\x13",
+        b"\x06\x16\x00\x01\x02\x03\x04\x05\x06\x07\x08\x09\x0a\x0b\x0c\x0d\x0e\x0f\x10\x11\x12\x13\x03a-b",
+        b"\x07\x03",
+        b"\x08\x09",
+        b"\x09",
+        b"\x0a\x04",
+        b"\x0b\x00\x00\x00\x02\x03\x09",
+        b"\x0c\x00\x00\x00\x02\x01a\x03\x02bc\x04",
+        b"\x0d\x00\x00\x00\x05hello",
+        b"\x0e\x00\x00\x00\x06\xc3\xa9\xf0\x9f\x90\x8e",
+    ];
+    for wire in values {
+        assert!(rt; decode(rt.alloc(), wire).is_ok());
+        for i in 0..wire.len() {
+            let ended = DecodeRefusal::Ended { at: i as u32 };
+            assert!(rt; is_refused(rt.alloc(), &wire[..i], ended), "{ended:?}");
+        }
+    }
+}
+
+#[test]
+fn depths_and_lengths(rt: HostRuntime) -> Result<(), Fail> {
+    let alloc = rt.alloc();
+    let mut bytes = vec![in alloc; 10u8; 31]?;
+    bytes.push(9)?;
+    assert!(rt; decode(alloc, &bytes).is_ok());
+    let mut bytes = vec![in alloc; 10u8; 32]?;
+    assert!(rt; is_refused(alloc, &bytes, DecodeRefusal::Ended { at: 32 }));
+    bytes.push(15)?;
+    assert!(rt; is_refused(alloc, &bytes, DecodeRefusal::TooDeep { at: 32 }));
+    let bytes = vec![in alloc; 3u8; 1_048_577]?;
+    assert!(rt; is_refused(alloc, &bytes, DecodeRefusal::TooLong));
+    let mut bytes = b"\x02\x00\x0f\xff\xfb".to_vec(alloc)?;
+    bytes.resize(1_048_576, 0)?;
+    let value = decode(alloc, &bytes)?;
+    assert_eq!(rt; value.size(), 1_048_576);
+    Ok(())
 }
