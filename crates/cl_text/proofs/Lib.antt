@@ -1,0 +1,12 @@
+pub mod Rows
+pub mod Distinct
+pub mod Parts
+pub mod Sorted
+pub mod Sound
+pub mod Spelling
+pub mod Outcomes
+pub mod Runs
+pub mod Leaves
+pub mod Strings
+pub mod Rising
+pub mod Back

@@ -1,0 +1,6 @@
+pub mod Printed
+pub mod Literal
+pub mod Parsed
+pub mod Spelled
+pub mod PrintedTypes
+pub mod Named

@@ -1,0 +1,21 @@
+//! Values, types and principals as text: literals are read, and what is printed is read again.
+#![tactic(auto)]
+
+mod keys;
+mod laws;
+mod literal;
+mod parser;
+mod printer;
+mod refusal;
+#[cfg(test)]
+mod tests;
+mod type_printer;
+#[cfg(test)]
+mod type_tests;
+mod word;
+
+pub use laws::{one_outcome, printed_is_read};
+pub use parser::parse;
+pub use printer::{print_principal, print_value};
+pub use refusal::TextRefusal;
+pub use type_printer::print_type;
