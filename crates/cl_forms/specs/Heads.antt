@@ -1,0 +1,160 @@
+-- The natives as one table, the keywords, the words that define, and the names that are left out.
+use Rattle.std.specs.Prelude.{ℕ, ◌==◌, ◌||◌, Bool, true, false, List, [], ◌∷◌, codes, map, nat_le, if◌then◌else◌, Option, Some, None}
+use Rattle.std.specs.Str.{bytes_eq}
+use Rattle.std.specs.List.{list_any}
+use Rattle.cl_shapes.specs.declared.name.CostName.{CostName}
+use Rattle.cl_shapes.specs.declared.name.CostName.TheVariants.{Control, Arith, Compare, Hash, Wrap, Make, Take as TakeCost, Scan, Iterate, ReadVar, WriteVar, ReadMap, WriteMap, ReadToken, WriteToken, Event as EventCost, ContractCall as ContractCallCost}
+pub use Rattle.cl_values.specs.declared.native.Native.{Native}
+pub use Rattle.cl_values.specs.declared.native.Native.TheVariants.{Add, Subtract, Multiply, Divide, Modulo, Power, Xor, SquareRoot, Log2, ToInt, ToUint, Not, Less, AtMost, Greater, AtLeast, Same, Sha256, Sha512Of256, Sha512, MakeSome, MakeOk, MakeErr, IsSome, IsNone, IsOk, IsErr, DefaultTo, UnwrapPanic, UnwrapErrPanic, MakeList, Merge, Append, Concat, Len, ElementAt, IndexOf}
+pub use Rattle.cl_forms.specs.declared.head.TokenNative.{TokenNative}
+pub use Rattle.cl_forms.specs.declared.head.TokenNative.TheVariants.{MintFt, BurnFt, SendFt, MintNft, BurnNft, SendNft, SendStx, BurnStx}
+pub use Rattle.cl_forms.specs.declared.head.Head.{Head}
+pub use Rattle.cl_forms.specs.declared.head.Head.TheVariants.{OnValues, OnToken, TupleOf, AsMaxLen, Get, VarGet, VarSet, MapGet, MapSet, MapInsert, MapDelete, FtBalance, FtSupply, StxBalance, NftOwner, Print, If, Let, Begin, And, Or, Asserts, Unwrap, UnwrapErr, Try, Match, AsContract, Map, Filter, Fold, ContractCall}
+
+-- how many arguments a native takes: so many; so many or more; one of two numbers
+pub data Arity : Type 0 where
+  Exact : ℕ → Arity
+  OrMore : ℕ → Arity
+  Either : ℕ → ℕ → Arity
+
+abbrev pub takes : Arity → ℕ → Bool
+takes (Exact n) count = count == n
+takes (OrMore n) count = nat_le n count
+takes (Either m n) count = count == m || count == n
+
+-- a native: its name, how many arguments it takes as they stand in the text, what it is charged as, whether that charge
+-- comes before its arguments are evaluated, and whether it can be given by name to map, filter and fold
+pub record Row : Type 0 where
+  pub name : List ℕ
+  pub head : Head
+  pub arity : Arity
+  pub cost : CostName
+  pub special : Bool
+  pub by_name : Bool
+
+-- charged after its arguments
+abbrev pub plain : List ℕ → Head → Arity → CostName → Row
+plain name head arity cost = record { name = name; head = head; arity = arity; cost = cost; special = false; by_name = false }
+
+-- charged after its arguments; can be given by name
+abbrev pub starred : List ℕ → Head → Arity → CostName → Row
+starred name head arity cost = record { name = name; head = head; arity = arity; cost = cost; special = false; by_name = true }
+
+-- charged first
+abbrev pub first : List ℕ → Head → Arity → CostName → Row
+first name head arity cost = record { name = name; head = head; arity = arity; cost = cost; special = true; by_name = false }
+
+-- charged first; can be given by name
+abbrev pub first_starred : List ℕ → Head → Arity → CostName → Row
+first_starred name head arity cost = record { name = name; head = head; arity = arity; cost = cost; special = true; by_name = true }
+
+abbrev pub table : List Row
+table =
+    starred (codes "+") (OnValues Add) (OrMore 1) Arith
+    ∷ starred (codes "-") (OnValues Subtract) (OrMore 1) Arith
+    ∷ starred (codes "*") (OnValues Multiply) (OrMore 1) Arith
+    ∷ starred (codes "/") (OnValues Divide) (OrMore 1) Arith
+    ∷ starred (codes "mod") (OnValues Modulo) (Exact 2) Arith
+    ∷ starred (codes "pow") (OnValues Power) (Exact 2) Arith
+    ∷ starred (codes "xor") (OnValues Xor) (Exact 2) Arith
+    ∷ starred (codes "sqrti") (OnValues SquareRoot) (Exact 1) Arith
+    ∷ starred (codes "log2") (OnValues Log2) (Exact 1) Arith
+    ∷ starred (codes "to-int") (OnValues ToInt) (Exact 1) Arith
+    ∷ starred (codes "to-uint") (OnValues ToUint) (Exact 1) Arith
+    ∷ starred (codes "not") (OnValues Not) (Exact 1) Arith
+    ∷ starred (codes "<") (OnValues Less) (Exact 2) Compare
+    ∷ starred (codes "<=") (OnValues AtMost) (Exact 2) Compare
+    ∷ starred (codes ">") (OnValues Greater) (Exact 2) Compare
+    ∷ starred (codes ">=") (OnValues AtLeast) (Exact 2) Compare
+    ∷ starred (codes "is-eq") (OnValues Same) (OrMore 1) Compare
+    ∷ starred (codes "sha256") (OnValues Sha256) (Exact 1) Hash
+    ∷ starred (codes "sha512/256") (OnValues Sha512Of256) (Exact 1) Hash
+    ∷ starred (codes "sha512") (OnValues Sha512) (Exact 1) Hash
+    ∷ starred (codes "some") (OnValues MakeSome) (Exact 1) Wrap
+    ∷ starred (codes "ok") (OnValues MakeOk) (Exact 1) Wrap
+    ∷ starred (codes "err") (OnValues MakeErr) (Exact 1) Wrap
+    ∷ starred (codes "is-some") (OnValues IsSome) (Exact 1) Wrap
+    ∷ starred (codes "is-none") (OnValues IsNone) (Exact 1) Wrap
+    ∷ starred (codes "is-ok") (OnValues IsOk) (Exact 1) Wrap
+    ∷ starred (codes "is-err") (OnValues IsErr) (Exact 1) Wrap
+    ∷ plain (codes "default-to") (OnValues DefaultTo) (Exact 2) Wrap
+    ∷ plain (codes "unwrap-panic") (OnValues UnwrapPanic) (Exact 1) Wrap
+    ∷ plain (codes "unwrap-err-panic") (OnValues UnwrapErrPanic) (Exact 1) Wrap
+    ∷ plain (codes "list") (OnValues MakeList) (OrMore 0) Make
+    ∷ plain (codes "tuple") TupleOf (OrMore 1) Make
+    ∷ plain (codes "merge") (OnValues Merge) (Exact 2) Make
+    ∷ plain (codes "append") (OnValues Append) (Exact 2) Make
+    ∷ plain (codes "concat") (OnValues Concat) (Exact 2) Make
+    ∷ plain (codes "as-max-len?") AsMaxLen (Exact 2) Make
+    ∷ plain (codes "get") Get (Exact 2) TakeCost
+    ∷ starred (codes "len") (OnValues Len) (Exact 1) Scan
+    ∷ plain (codes "element-at") (OnValues ElementAt) (Exact 2) Scan
+    ∷ plain (codes "index-of") (OnValues IndexOf) (Exact 2) Scan
+    ∷ plain (codes "var-get") VarGet (Exact 1) ReadVar
+    ∷ plain (codes "var-set") VarSet (Exact 2) WriteVar
+    ∷ plain (codes "map-get?") MapGet (Exact 2) ReadMap
+    ∷ plain (codes "map-set") MapSet (Exact 3) WriteMap
+    ∷ plain (codes "map-insert") MapInsert (Exact 3) WriteMap
+    ∷ plain (codes "map-delete") MapDelete (Exact 2) WriteMap
+    ∷ plain (codes "ft-get-balance") FtBalance (Exact 2) ReadToken
+    ∷ plain (codes "ft-get-supply") FtSupply (Exact 1) ReadToken
+    ∷ plain (codes "stx-get-balance") StxBalance (Exact 1) ReadToken
+    ∷ plain (codes "nft-get-owner?") NftOwner (Exact 2) ReadToken
+    ∷ plain (codes "ft-mint?") (OnToken MintFt) (Exact 3) WriteToken
+    ∷ plain (codes "ft-burn?") (OnToken BurnFt) (Exact 3) WriteToken
+    ∷ plain (codes "ft-transfer?") (OnToken SendFt) (Exact 4) WriteToken
+    ∷ plain (codes "nft-mint?") (OnToken MintNft) (Exact 3) WriteToken
+    ∷ plain (codes "nft-burn?") (OnToken BurnNft) (Exact 3) WriteToken
+    ∷ plain (codes "nft-transfer?") (OnToken SendNft) (Exact 4) WriteToken
+    ∷ plain (codes "stx-transfer?") (OnToken SendStx) (Exact 3) WriteToken
+    ∷ plain (codes "stx-burn?") (OnToken BurnStx) (Exact 2) WriteToken
+    ∷ plain (codes "print") Print (Exact 1) EventCost
+    ∷ first (codes "if") If (Exact 3) Control
+    ∷ first (codes "let") Let (OrMore 2) Control
+    ∷ first (codes "begin") Begin (OrMore 1) Control
+    ∷ first_starred (codes "and") And (OrMore 1) Control
+    ∷ first_starred (codes "or") Or (OrMore 1) Control
+    ∷ first (codes "asserts!") Asserts (Exact 2) Control
+    ∷ first (codes "unwrap!") Unwrap (Exact 2) Control
+    ∷ first (codes "unwrap-err!") UnwrapErr (Exact 2) Control
+    ∷ first (codes "try!") Try (Exact 1) Control
+    ∷ first (codes "match") Match (Either 4 5) Control
+    ∷ first (codes "as-contract") AsContract (Exact 1) Control
+    ∷ plain (codes "map") Map (OrMore 2) Iterate
+    ∷ plain (codes "filter") Filter (Exact 2) Iterate
+    ∷ plain (codes "fold") Fold (Exact 3) Iterate
+    ∷ plain (codes "contract-call?") ContractCall (OrMore 2) ContractCallCost
+    ∷ []
+
+-- the first row of a name
+abbrev pub row_in : List Row → List ℕ → Option Row
+row_in [] name = None
+row_in (row ∷ rows) name = if bytes_eq row.name name then Some row else row_in rows name
+
+-- the row of a name, if it is a native's
+unfoldable pub native : List ℕ → Option Row
+native name = row_in table name
+
+abbrev pub keywords : List (List ℕ)
+keywords =
+    codes "true" ∷ codes "false" ∷ codes "none" ∷ codes "tx-sender" ∷ codes "contract-caller" ∷ codes "block-height" ∷ []
+
+abbrev pub define_words : List (List ℕ)
+define_words =
+    codes "define-constant" ∷ codes "define-data-var" ∷ codes "define-map" ∷ codes "define-fungible-token"
+    ∷ codes "define-non-fungible-token" ∷ codes "define-public" ∷ codes "define-read-only" ∷ codes "define-private" ∷ []
+
+-- the names of Clarity that this engine leaves out
+abbrev pub left_out : List (List ℕ)
+left_out =
+    codes "define-trait" ∷ codes "use-trait" ∷ codes "impl-trait" ∷ codes "contract-of" ∷ codes "at-block"
+    ∷ codes "get-block-info?" ∷ codes "keccak256" ∷ codes "hash160" ∷ codes "secp256k1-recover?" ∷ codes "secp256k1-verify"
+    ∷ codes "principal-of?" ∷ codes "stx-liquid-supply" ∷ codes "is-in-regtest" ∷ []
+
+abbrev pub is_one_of : List (List ℕ) → List ℕ → Bool
+is_one_of words name = list_any (λ word. bytes_eq word name) words
+
+-- natives, keywords, define words and names that are left out
+unfoldable pub is_reserved : List ℕ → Bool
+is_reserved name =
+    is_one_of (map (λ row. row.name) table) name || is_one_of keywords name || is_one_of define_words name || is_one_of left_out name

@@ -1,0 +1,15 @@
+pub mod Forms
+pub mod Names
+pub mod Order
+pub mod Writes
+pub mod Heads
+pub mod HeadNames
+pub mod Shapes
+pub mod WrittenTypes
+pub mod Items
+pub mod FormBreaks
+pub mod FormCode
+pub mod FormView
+pub mod ItemView
+pub mod TypeRoom
+pub mod Looks

@@ -1,0 +1,32 @@
+-- Shapes of lists that both the meaning and the rules read: a binding, a pair of a tuple, a contract beside another.
+use Rattle.std.specs.Prelude.{ℕ, List, [], ◌∷◌, Option, Some, None}
+use Rattle.cl_c32.specs.declared.principal.Principal.{Principal}
+use Rattle.cl_sexpr.specs.Tree.{Tree, LeafAt, ListAt, Named, Forest, Empty, Then, Pairs, NoPair, Pair}
+
+-- the items of a list
+abbrev pub trees_of : Forest → List Tree
+trees_of Empty = []
+trees_of (Then tree forest) = tree ∷ trees_of forest
+
+-- the keys and expressions of a tuple, in the order of the text
+abbrev pub pairs_of : Pairs → List (List ℕ × Tree)
+pairs_of NoPair = []
+pairs_of (Pair key e ps) = (key, e) ∷ pairs_of ps
+
+-- a name and an expression in round brackets: a binding of let, or a pair of tuple
+abbrev pub binding_of : Tree → Option (List ℕ × Tree)
+binding_of (ListAt (Then (LeafAt (Named name) at) (Then e Empty)) at') = Some (name, e)
+binding_of e = None
+
+abbrev pub and_binding : Option (List ℕ × Tree) → Option (List (List ℕ × Tree)) → Option (List (List ℕ × Tree))
+and_binding (Some p) (Some ps) = Some (p ∷ ps)
+and_binding p ps = None
+
+-- these items as bindings, where each is one
+abbrev pub bindings_of : List Tree → Option (List (List ℕ × Tree))
+bindings_of [] = Some []
+bindings_of (e ∷ es) = and_binding (binding_of e) (bindings_of es)
+
+-- the contract of this name at the address of a contract
+abbrev pub beside : Principal → List ℕ → Principal
+beside p name = record p { contract = Some name }

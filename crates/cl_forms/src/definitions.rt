@@ -1,0 +1,280 @@
+//! The forms of a text, or the first rule of forms that it breaks.
+ghost use Rattle.std.specs.Prelude.{◌≡◌, ℕ, List, [], map, IfOk, OnOk, is_some, Some, None, if◌then◌else◌};
+ghost use Rattle.std.specs.List.{list_any};
+ghost use Rattle.std.specs.Option.{option_or};
+ghost use Rattle.indexmap.specs.IndexMap.{get as lookup};
+ghost use Rattle.cl_types.specs.Fault.{IfRefused};
+ghost use Rattle.cl_sexpr.specs.Tree.{Tree};
+ghost use Rattle.cl_forms.specs.Names.{same};
+ghost use Rattle.cl_forms.specs.Heads.{is_reserved};
+ghost use Rattle.cl_forms.specs.ItemView.{plain_draft, plain_item};
+ghost use Rattle.cl_forms.specs.FormBreaks.{broken_at, params_of, defines, repeats, IsFirstBreak, AreForms};
+ghost use Rattle.cl_forms.specs.Looks.{plain_entry, first_from, is_used, has_reserved, is_before, comes_last, first_of, first_at, rules_by, break_of, first_broken, form_at};
+ghost use Rattle.cl_forms.specs.Items.{Definition, form_by};
+
+use crate::entry::{Entry, look_at_all};
+use crate::form::{Form, FormKind};
+use crate::item::{Draft, Item};
+use crate::kind::kind_of;
+use crate::reserved::is_reserved;
+use cl_sexpr::{Break, Refusal, Rule, Sexpr, Span};
+use cl_types::{Fault, Name};
+use indexmap::{IndexMap, IndexSet};
+use std::alloc::{AllocError, Global};
+
+/// Notes where a name is defined first.
+fn note(names: &mut IndexMap<Name, usize>, place: usize, item: &Item) -> Result<(), AllocError>
+    ensures { OnOk result ((x : List ℕ) → lookup same names.new x
+        ≡ option_or (lookup same names.old x) (if defines x (plain_item item.now) then Some place else None)) }
+{
+    if let Item::Definition(name, _) = item {
+        if !names.contains_key(name) {
+            names.insert(*name, place)?;
+        }
+    }
+    Ok(())
+}
+
+/// Where each name is defined first.
+fn first_places(alloc: Global, entries: &[Entry]) -> Result<IndexMap<Name, usize>, AllocError>
+    ensures { IfOk result (λ names. (x : List ℕ) → lookup same names x ≡ first_from 0 (map (λ e. plain_item e.item) entries.now) x) }
+{
+    let mut names = IndexMap::new(alloc);
+    for (place, entry) in entries.iter().enumerate() {
+        note(&mut names, place, &entry.item)?;
+    }
+    Ok(names)
+}
+
+fn params_of(draft: &Draft) -> &[(Name, Sexpr)]
+    ensures { map (λ p. p.0) result.now ≡ params_of (plain_draft draft.now) }
+{
+    match draft {
+        Draft::Function(_, params, _) => params.as_slice(),
+        _ => &[],
+    }
+}
+
+fn any_reserved(params: &[(Name, Sexpr)]) -> bool
+    ensures { result ≡ list_any is_reserved (map (λ p. p.0) params.now) }
+{
+    for param in params {
+        if is_reserved(&param.0) {
+            return true;
+        }
+    }
+    false
+}
+
+fn has_reserved(name: &Name, params: &[(Name, Sexpr)]) -> bool
+    ensures { result ≡ has_reserved name.now (map (λ p. p.0) params.now) }
+{
+    if is_reserved(name) {
+        return true;
+    }
+    any_reserved(params)
+}
+
+fn repeats(alloc: Global, params: &[(Name, Sexpr)]) -> Result<bool, AllocError>
+    ensures { IfOk result (λ b. b ≡ repeats [] (map (λ p. p.0) params.now)) }
+{
+    let mut seen = IndexSet::new(alloc);
+    for param in params {
+        if seen.contains(&param.0) {
+            return Ok(true);
+        }
+        seen.insert(param.0)?;
+    }
+    Ok(false)
+}
+
+fn any_defined(names: &IndexMap<Name, usize>, params: &[(Name, Sexpr)]) -> bool
+    ensures { result ≡ list_any (λ p. is_some (lookup same names.now p)) (map (λ p. p.0) params.now) }
+{
+    for param in params {
+        if names.contains_key(&param.0) {
+            return true;
+        }
+    }
+    false
+}
+
+fn is_before(names: &IndexMap<Name, usize>, place: usize, name: &Name) -> bool
+    ensures { result ≡ is_before place (lookup same names.now name.now) }
+{
+    match names.get(name) {
+        Some(first) => *first < place,
+        None => false,
+    }
+}
+
+fn is_used(
+    alloc: Global,
+    names: &IndexMap<Name, usize>,
+    place: usize,
+    name: &Name,
+    params: &[(Name, Sexpr)],
+) -> Result<bool, AllocError>
+    ensures { IfOk result (λ b. b ≡ is_used (lookup same names.now) place name.now (map (λ p. p.0) params.now)) }
+{
+    if is_before(names, place, name) {
+        return Ok(true);
+    }
+    if repeats(alloc, params)? {
+        return Ok(true);
+    }
+    Ok(any_defined(names, params))
+}
+
+fn broken_at(span: Span, rule: Rule) -> Break
+    ensures { result ≡ broken_at span rule }
+{
+    Break { rule, span }
+}
+
+/// Whether a rule of items has a number above that of an atom that is left out.
+fn comes_last(rule: Rule) -> bool
+    ensures { result ≡ comes_last rule }
+{
+    match rule {
+        Rule::NameUsed => true,
+        _ => false,
+    }
+}
+
+/// The first of an atom that is left out and a rule that is broken with an item's span.
+fn first_of(left_out: Option<Span>, rule: Rule, span: Span) -> Break
+    ensures { result ≡ first_of left_out rule span }
+{
+    let Some(at) = left_out else {
+        return broken_at(span, rule);
+    };
+    if at.end < span.end || (at.end == span.end && comes_last(rule)) {
+        broken_at(at, Rule::NotInProfile)
+    } else {
+        broken_at(span, rule)
+    }
+}
+
+/// The form, unless an atom in its item is left out.
+fn unless_left_out(left_out: Option<Span>, form: Form) -> Result<Form, Fault<Break>>
+    ensures found { IfOk result (λ f. (left_out ≡ None) × (f ≡ form)) }
+    ensures broken { IfRefused result (λ r. first_at [] left_out form.span ≡ Some r) }
+{
+    match left_out {
+        Some(at) => Err(Fault::Refused(broken_at(at, Rule::NotInProfile))),
+        None => Ok(form),
+    }
+}
+
+fn definition(
+    alloc: Global,
+    names: &IndexMap<Name, usize>,
+    place: usize,
+    name: Name,
+    draft: Draft,
+    left_out: Option<Span>,
+    span: Span,
+) -> Result<Form, Fault<Break>>
+    ensures found { IfOk result (λ f.
+        (first_at (rules_by (lookup same names.now) place (Definition name (plain_draft draft))) left_out span ≡ None)
+        × (form_by (Definition name (plain_draft draft)) span ≡ Some f)) }
+    ensures broken { IfRefused result (λ r. first_at (rules_by (lookup same names.now) place (Definition name (plain_draft draft))) left_out span ≡ Some r) }
+{
+    let reserved = has_reserved(&name, params_of(&draft));
+    let used = is_used(alloc, names, place, &name, params_of(&draft))?;
+    let Some(kind) = kind_of(alloc, draft)? else {
+        return Err(Fault::Refused(first_of(left_out, Rule::BadType, span)));
+    };
+    if reserved {
+        return Err(Fault::Refused(first_of(left_out, Rule::BadName, span)));
+    }
+    if used {
+        return Err(Fault::Refused(first_of(left_out, Rule::NameUsed, span)));
+    }
+    let form = Form {
+        name: Some(name),
+        kind,
+        span,
+    };
+    unless_left_out(left_out, form)
+}
+
+/// The form of an item at a place, or the first rule that it breaks.
+fn form_of(
+    alloc: Global,
+    names: &IndexMap<Name, usize>,
+    place: usize,
+    entry: Entry,
+) -> Result<Form, Fault<Break>>
+    ensures found { IfOk result (λ f. (break_of (lookup same names.now) place (plain_entry entry) ≡ None) × (form_at (plain_entry entry) ≡ Some f)) }
+    ensures broken { IfRefused result (λ r. break_of (lookup same names.now) place (plain_entry entry) ≡ Some r) }
+{
+    let Entry {
+        item,
+        left_out,
+        span,
+    } = entry;
+    match item {
+        Item::Expression(e) => {
+            let form = Form {
+                name: None,
+                kind: FormKind::Expression(e),
+                span,
+            };
+            unless_left_out(left_out, form)
+        }
+        Item::Misshapen => Err(Fault::Refused(first_of(left_out, Rule::BadDefinition, span))),
+        Item::Definition(name, draft) => {
+            definition(alloc, names, place, name, draft, left_out, span)
+        }
+    }
+}
+
+fn forms_or_break(
+    alloc: Global,
+    names: &IndexMap<Name, usize>,
+    entries: Vec<Entry>,
+) -> Result<Vec<Form>, Fault<Break>>
+    ensures found { IfOk result (λ v.
+        (first_broken (lookup same names.now) 0 (map plain_entry entries.items) ≡ None)
+        × (map form_at (map plain_entry entries.items) ≡ map Some v.items)) }
+    ensures broken { IfRefused result (λ r. first_broken (lookup same names.now) 0 (map plain_entry entries.items) ≡ Some r) }
+{
+    let mut forms = Vec::new(alloc);
+    for entry in entries {
+        let place = forms.len();
+        match form_of(alloc, names, place, entry) {
+            Ok(form) => forms.push(form)?,
+            Err(fault) => return Err(fault),
+        }
+    }
+    Ok(forms)
+}
+
+fn forms_of(alloc: Global, items: Vec<Sexpr>) -> Result<Vec<Form>, Fault<Break>>
+    ensures found { IfOk result (λ v. AreForms items.items v.items) }
+    ensures broken { IfRefused result (IsFirstBreak items.items) }
+{
+    let entries = look_at_all(alloc, items)?;
+    let names = first_places(alloc, &entries)?;
+    forms_or_break(alloc, &names, entries)
+}
+
+/// The forms of a text's items, in their order, or the first of the rules F1 to F5 that an item breaks.
+///
+/// An earlier item goes first, then within an item the span that ends first, then the rule with the least number: so a
+/// name that is left out (F4) is refused before what is wrong with its item. A definition is read by its shape (SIP-002);
+/// numbers in types are taken by their value. It takes a time near linear in the size of the items, with a table of the
+/// names that are defined, and recurs only into brackets.
+pub fn forms(alloc: Global, items: Vec<Sexpr>) -> Result<Vec<Form>, Fault<Refusal>>
+    ensures found { IfOk result (λ v. AreForms items.items v.items) }
+    ensures broken { IfRefused result (λ r. IsFirstBreak items.items (record { rule = r.rule; span = r.span })) }
+    ensures nameless { IfRefused result (λ r. r.names.items ≡ []) }
+{
+    match forms_of(alloc, items) {
+        Ok(forms) => Ok(forms),
+        Err(Fault::Refused(broken)) => Err(Fault::Refused(Refusal::of(alloc, broken))),
+        Err(Fault::NoMemory) => Err(Fault::NoMemory),
+    }
+}

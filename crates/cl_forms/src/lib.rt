@@ -1,0 +1,23 @@
+//! The definitions of a contract.
+#![tactic(auto)]
+
+mod definitions;
+mod entry;
+mod form;
+mod head;
+mod item;
+mod kind;
+mod laws;
+mod names;
+mod reserved;
+#[cfg(test)]
+mod tests;
+mod type_word;
+mod types;
+mod word;
+
+pub use definitions::forms;
+pub use form::{Form, FormKind};
+pub use head::{Head, TokenNative};
+pub use laws::natives_have_one_name;
+pub use reserved::is_reserved;
