@@ -1,0 +1,12 @@
+mod Rising
+mod Placing
+mod Walk
+mod Judged
+mod FormWalk
+mod ComputedBreaks
+mod ComputedBounds
+mod ComputedRows
+mod ComputedCalls
+mod Accepting
+mod PlacedTest
+mod ComputedFirsts

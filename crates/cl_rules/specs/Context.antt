@@ -1,0 +1,145 @@
+-- What stands around an expression: the forms before it in the order of evaluation, the deployed contracts, and the names
+-- that are bound.
+use Rattle.std.specs.Prelude.{ℕ, ◌&&◌, ◌||◌, nat_eq, Bool, true, false, List, [], ◌∷◌, ◌++◌, codes, if◌then◌else◌, Option, Some, None, is_some}
+use Rattle.std.specs.List.{list_any}
+use Rattle.std.specs.Cmp.Lexicographic.{pointwise}
+use Rattle.cl_types.specs.Types.{PlainType, NoType, BoolType, UintType, PrincipalType, OptionalType}
+use Rattle.cl_types.specs.declared.sized.Access.{Access}
+use Rattle.cl_types.specs.declared.sized.Access.TheVariants.{Public, ReadOnly, Private}
+use Rattle.cl_c32.specs.declared.principal.Principal.{Principal}
+use Rattle.cl_shapes.specs.declared.cost.Cost5.{Cost5}
+use Rattle.cl_shapes.specs.Costs.{plus, zero_cost}
+use Rattle.cl_shapes.specs.declared.function.CostFn.{CostFn}
+use Rattle.cl_shapes.specs.Functions.{cost_at}
+use Rattle.cl_shapes.specs.declared.name.CostName.{CostName}
+use Rattle.cl_shapes.specs.declared.name.CostName.TheVariants.{Literal, Context as ContextCost}
+use Rattle.cl_forms.specs.Heads.{native, is_reserved, is_one_of, define_words}
+
+-- ---- costs
+
+-- a cost function for each name
+abbrev pub CostTable : Type 0
+CostTable = CostName → CostFn
+
+-- what is counted, under a table
+abbrev pub Bound : Type 0
+Bound = CostTable → Cost5
+
+-- one charge
+abbrev pub charge : CostName → ℕ → Bound
+charge name n table = cost_at (table name) n
+
+abbrev pub free : Bound
+free table = zero_cost
+
+-- two bounds one after the other
+abbrev pub both : Bound → Bound → Bound
+both a b table = plus (a table) (b table)
+
+-- ---- functions and contracts
+
+-- A function as its callers see it. The height and the bound are those of its application.
+pub record Signature : Type 0 where
+  pub name : List ℕ
+  pub access : Access
+  pub params : List (List ℕ × PlainType)
+  pub returns : PlainType
+  pub height : ℕ
+  pub bound : Bound
+
+-- a deployed contract as its callers see it: its functions, and the length of its text
+pub record Known : Type 0 where
+  pub principal : Principal
+  pub length : ℕ
+  pub functions : List Signature
+
+-- The contract that is checked, the deployed ones, and the forms before: constants and variables with their types, maps with
+-- the types of their keys and values, non-fungible tokens with the types of their assets' ids.
+pub record Context : Type 0 where
+  pub principal : Principal
+  pub deployed : List Known
+  pub constants : List (List ℕ × PlainType)
+  pub variables : List (List ℕ × PlainType)
+  pub maps : List (List ℕ × (PlainType × PlainType))
+  pub fungibles : List (List ℕ)
+  pub nonfungibles : List (List ℕ × PlainType)
+  pub functions : List Signature
+
+-- names that are bound with their types, the innermost last
+abbrev pub Names : Type 0
+Names = List (List ℕ × PlainType)
+
+-- ---- what stands under a name
+
+abbrev pub same : List ℕ → List ℕ → Bool
+same = pointwise nat_eq
+
+-- what stands first under a name
+abbrev pub named_in : {A : Type 0} → List ℕ → List (List ℕ × A) → Option A
+named_in x [] = None
+named_in x (e ∷ es) = if same e.0 x then Some e.1 else named_in x es
+
+abbrev pub signature_in : List ℕ → List Signature → Option Signature
+signature_in x [] = None
+signature_in x (f ∷ fs) = if same f.name x then Some f else signature_in x fs
+
+abbrev pub same_part : Option (List ℕ) → Option (List ℕ) → Bool
+same_part None None = true
+same_part (Some x) (Some y) = same x y
+same_part p q = false
+
+-- two principals are one
+abbrev pub same_principal : Principal → Principal → Bool
+same_principal p q = nat_eq p.address.version q.address.version && same p.address.hash q.address.hash && same_part p.contract q.contract
+
+abbrev pub known_at : Principal → List Known → Option Known
+known_at p [] = None
+known_at p (k ∷ ks) = if same_principal k.principal p then Some k else known_at p ks
+
+abbrev pub is_named : {A : Type 0} → List ℕ → List (List ℕ × A) → Bool
+is_named x es = is_some (named_in x es)
+
+-- a name of a form before
+abbrev pub is_top_level : Context → List ℕ → Bool
+is_top_level G x =
+    is_named x G.constants || is_named x G.variables || is_named x G.maps || list_any (same x) G.fungibles
+    || is_named x G.nonfungibles || is_some (signature_in x G.functions)
+
+-- a name that no binding may have: it is reserved, top-level, or bound outside
+abbrev pub is_taken : Context → Names → List ℕ → Bool
+is_taken G B x = is_reserved x || is_top_level G x || is_named x B
+
+-- a name that stands for no value: that of a native, a function, a variable, a map, a token, or a define word
+abbrev pub is_no_value : Context → List ℕ → Bool
+is_no_value G x =
+    is_some (native x) || is_some (signature_in x G.functions) || is_named x G.variables || is_named x G.maps
+    || list_any (same x) G.fungibles || is_named x G.nonfungibles || is_one_of define_words x
+
+-- one more name that is bound
+abbrev pub bind : List ℕ → PlainType → Names → Names
+bind x t B = B ++ (x, t) ∷ []
+
+-- ---- keywords
+
+-- the type of a keyword, and what it is charged as
+abbrev pub keyword : List ℕ → Option (CostName × PlainType)
+keyword x =
+    if same x (codes "true") || same x (codes "false") then Some (Literal, BoolType)
+    else (if same x (codes "none") then Some (Literal, OptionalType NoType)
+    else (if same x (codes "tx-sender") || same x (codes "contract-caller") then Some (ContextCost, PrincipalType)
+    else (if same x (codes "block-height") then Some (ContextCost, UintType)
+    else None)))
+
+-- ---- functions of other contracts
+
+-- a function that other contracts may call
+abbrev pub if_callable : Option Signature → Option Signature
+if_callable None = None
+if_callable (Some f) = elim f.access [ Public ↦ Some f | ReadOnly ↦ Some f | Private ↦ None ]
+
+-- another contract than the own one, which is deployed
+abbrev pub another_at : Principal → List Known → Principal → Option Known
+another_at own deployed p = if same_principal p own then None else known_at p deployed
+
+abbrev pub target_at : Context → Principal → Option Known
+target_at G p = another_at G.principal G.deployed p

@@ -1,0 +1,87 @@
+-- The laws of typing and of the first break.
+use Rattle.std.specs.Prelude.{◌≡◌, ◌⊎◌, ℕ, List}
+use Rattle.cl_c32.specs.declared.principal.Principal.{Principal}
+use Rattle.cl_sexpr.specs.declared.sexpr.Span.{Span}
+use Rattle.cl_sexpr.specs.declared.rule.Rule.{Rule}
+use Rattle.cl_sexpr.specs.Tree.{Tree}
+use Rattle.cl_forms.specs.Forms.{Form}
+use Rattle.cl_rules.specs.Context.{CostTable, Known, Context, Names}
+use Rattle.cl_rules.specs.Verdicts.{Found}
+use Rattle.cl_rules.specs.Typing.{Typed, Looked, Breaks, FirstBreak}
+use Rattle.cl_rules.specs.Placed.{IsPlaced, AreFormsPlaced}
+use Rattle.cl_rules.specs.Walks.{Stops, FormsStop}
+use Rattle.cl_rules.specs.FormRules.{Defined}
+use Rattle.cl_rules.specs.FormTyping.{FormsTyped, Reached, FormBreaks, FirstFormBreak}
+use Rattle.cl_rules.specs.Acceptance.{Accepted, FirstBreakOf}
+use Rattle.cl_rules.specs.Judging.{Holds, Fails, judged, forms_judged}
+
+-- ---- expressions
+
+-- one thing is found of an expression: one type, one thrown type, one height, one bound
+abbrev pub OneType : Type 0
+OneType = (G : Context) (B : Names) (e : Tree) (f g : Found) → Typed G B e f → Typed G B e g → f ≡ g
+
+-- nothing that is looked at in a typed expression breaks a rule
+abbrev pub TypedIsClean : Type 0
+TypedIsClean = (G : Context) (B C : Names) (e d : Tree) (f : Found) (r : Rule) → Typed G B e f → Looked G B e C d → Breaks G C d r → ⊥
+
+-- no typed expression has a first break
+abbrev pub NeverBoth : Type 0
+NeverBoth = (G : Context) (B : Names) (e : Tree) (f : Found) (r : Rule) (s : Span) → Typed G B e f → FirstBreak G B e r s → ⊥
+
+-- a first break is one
+abbrev pub OneFirst : Type 0
+OneFirst = (G : Context) (B : Names) (e : Tree) (r q : Rule) (s u : Span) → FirstBreak G B e r s → FirstBreak G B e q u → (r ≡ q) × (s ≡ u)
+
+-- where a walk stops is the first break
+abbrev pub WalkIsFirst : Type 0
+WalkIsFirst = (G : Context) (B : Names) (e : Tree) (r : Rule) (s : Span) → IsPlaced e → Stops G B e r s → FirstBreak G B e r s
+
+-- each expression is typed or has a first break
+abbrev pub Decided : Type 0
+Decided = (G : Context) (B : Names) (e : Tree) → IsPlaced e → ((f : Found) × Typed G B e f) ⊎ ((r : Rule) × (s : Span) × FirstBreak G B e r s)
+
+-- ---- forms in the order of evaluation
+
+abbrev pub OneEnd : Type 0
+OneEnd = (D E F : Defined) (forms : List Form) → FormsTyped D forms E → FormsTyped D forms F → E ≡ F
+
+abbrev pub TypedFormsAreClean : Type 0
+TypedFormsAreClean = (D E C : Defined) (forms : List Form) (form : Form) (n : ℕ) (r : Rule) (s : Span) → FormsTyped D forms E → Reached D forms n C form → FormBreaks C form r s → ⊥
+
+abbrev pub FormsNeverBoth : Type 0
+FormsNeverBoth = (D E : Defined) (forms : List Form) (r : Rule) (s : Span) → FormsTyped D forms E → FirstFormBreak D forms r s → ⊥
+
+abbrev pub OneFirstForm : Type 0
+OneFirstForm = (D : Defined) (forms : List Form) (r q : Rule) (s u : Span) → FirstFormBreak D forms r s → FirstFormBreak D forms q u → (r ≡ q) × (s ≡ u)
+
+abbrev pub FormsWalkIsFirst : Type 0
+FormsWalkIsFirst = (D : Defined) (forms : List Form) (r : Rule) (s : Span) → AreFormsPlaced forms → FormsStop D forms r s → FirstFormBreak D forms r s
+
+abbrev pub FormsDecided : Type 0
+FormsDecided = (D : Defined) (forms : List Form) → AreFormsPlaced forms → ((E : Defined) × FormsTyped D forms E) ⊎ ((r : Rule) × (s : Span) × FirstFormBreak D forms r s)
+
+-- ---- the plain program
+
+-- what it finds of an expression is so, and where it stops a walk does
+abbrev pub JudgedIsTyped : Type 0
+JudgedIsTyped = (d : ℕ) (G : Context) (B : Names) (e : Tree) (f : Found) → judged d G B e ≡ Holds f → Typed G B e f
+
+abbrev pub JudgedIsStop : Type 0
+JudgedIsStop = (d : ℕ) (G : Context) (B : Names) (e : Tree) (r : Rule) (s : Span) → judged d G B e ≡ Fails r s → Stops G B e r s
+
+abbrev pub FormsJudgedAreTyped : Type 0
+FormsJudgedAreTyped = (D E : Defined) (forms : List Form) → forms_judged D forms ≡ Holds E → FormsTyped D forms E
+
+abbrev pub FormsJudgedStop : Type 0
+FormsJudgedStop = (D : Defined) (forms : List Form) (r : Rule) (s : Span) → forms_judged D forms ≡ Fails r s → FormsStop D forms r s
+
+-- ---- whole texts
+
+-- no accepted text has a first break
+abbrev pub AcceptedIsClean : Type 0
+AcceptedIsClean = (deployed : List Known) (principal : Principal) (table : CostTable) (text : List ℕ) (rule : Rule) (span : Span) (names : List (List ℕ)) → Accepted deployed principal table text → FirstBreakOf deployed principal table text rule span names → ⊥
+
+-- what a text defines is one
+abbrev pub OneDefined : Type 0
+OneDefined = (deployed : List Known) (principal : Principal) (table : CostTable) (text : List ℕ) (a b : Accepted deployed principal table text) → a.defined ≡ b.defined

@@ -1,0 +1,14 @@
+//! What contracts have to keep: types, rules and bounds.
+#![tactic(auto)]
+
+mod examples;
+mod laws;
+
+pub use examples::{
+    bounds_of_examples, breaks_of_examples, calls_of_examples, chains_of_functions,
+    rows_of_the_table,
+};
+pub use laws::{
+    a_walk_stops_at_the_first_break, accepted_texts_are_clean, forms_have_one_answer, one_answer,
+    the_plain_program_is_right,
+};
