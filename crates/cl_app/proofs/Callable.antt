@@ -94,5 +94,5 @@ within_items (item ∷ []) f h =
     record { typed = within.typed; small = omega (arith, within.small, length-inner item some.0 some.1) }
 
 -- a function of few items can be called
-pub callable : (items : List Tree) (f : Function) → function_in items ≡ Some f → forest_size (forest items) < 2 ^ 40 → IsCallable f
+pub callable : (items : List Tree) (f : Function) → function_in items ≡ Some f → forest_size (forest items) < 2 ^ 32 → IsCallable f
 callable items f h few = let within = within_items items f h in record { typed = within.typed; small = omega (arith, within.small, few) }

@@ -9,3 +9,5 @@ pub mod Verdicts
 pub mod Once
 pub mod Totals
 pub mod Spent
+pub mod Arguments
+pub mod Spellings

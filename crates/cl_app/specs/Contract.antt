@@ -88,4 +88,4 @@ pub record IsNotYet (source : List ℕ) : Type 0 where
 -- a function that can be called: its body is an expression over its parameters, and both are of a text's size
 pub record IsCallable (f : Function) : Type 0 where
   pub typed : is_expression f.parameters f.body ≡ true
-  pub small : tree_size f.body + length f.parameters < 2 ^ 40
+  pub small : tree_size f.body + length f.parameters < 2 ^ 32

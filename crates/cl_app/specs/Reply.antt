@@ -1,12 +1,14 @@
 -- A reply as an answer, and what a stop says of the count of faults.
-use Rattle.std.specs.Prelude.{◌≡◌, ◌≤◌, ℕ, ℤ, List, Option, Some, Result, Err}
+use Rattle.std.specs.Prelude.{◌≡◌, ◌≤◌, ℕ, List, Option, Some, Result, Err}
 use Rattle.std.specs.List.{flat_map}
 use Rattle.cl_ports.specs.Growth.{Rose}
 use Rattle.cl_ports.specs.Files.{Held, content_of}
-use Rattle.cl_app.specs.Answer.{Answer, IsFileAnswer}
-use Rattle.cl_app.specs.declared.reply.Reply.{Reply}
-use Rattle.cl_app.specs.declared.reply.Stop.{Stop}
-use Rattle.cl_app.specs.declared.reply.Stop.TheVariants.{ReadFailed}
+use Rattle.cl_values.specs.Tree.{Tree}
+use Rattle.cl_app.specs.Spelling.{Answer}
+use Rattle.cl_app.specs.Answer.{IsFileAnswer}
+use Rattle.cl_app.specs.declared.pieces.Reply.{Reply}
+use Rattle.cl_app.specs.declared.pieces.Stop.{Stop}
+use Rattle.cl_app.specs.declared.pieces.Stop.TheVariants.{ReadFailed}
 
 -- the pieces one after another, with the status
 abbrev pub answer_of : Reply → Answer
@@ -18,5 +20,5 @@ CountsStop before now (Err ReadFailed) = (before ≤ now) × Rose before now
 CountsStop before now r = now ≡ before
 
 -- this is the answer to `call` for the bytes that are held under the name
-pub record IsHeldAnswer (file name : List ℕ) (args : List ℤ) (held : Option Held) (answer : Answer) : Type 0 where
+pub record IsHeldAnswer (file name : List ℕ) (args : List Tree) (held : Option Held) (answer : Answer) : Type 0 where
   pub told : (files : Held) → held ≡ Some files → IsFileAnswer file name args (content_of files file) answer

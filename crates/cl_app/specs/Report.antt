@@ -3,16 +3,14 @@ use Rattle.std.specs.Prelude.{ℕ, List, [], ◌++◌, Option, Some, None, codes
 use Rattle.std.specs.Fmt.{signed_decimal}
 use Rattle.cl_shapes.specs.Costs.{dimension_name, part}
 use Rattle.cl_shapes.specs.declared.cost.Cost5.{Cost5}
-use Rattle.cl_sexpr.specs.declared.rule.Rule.{Rule}
-use Rattle.cl_sexpr.specs.declared.rule.Rule.TheVariants.{BadByte, BadToken, NumberTooWide, Unclosed, StrayClose, TooNested, BadEscape, BadTuple, BadAddress, SourceTooLong}
-use Rattle.cl_sexpr.specs.declared.rule.Refusal.{Refusal}
+use Rattle.cl_app.specs.Refusals.{SourceRefusal, refusal_text}
 use Rattle.cl_app.specs.Contract.{Function}
 use Rattle.cl_app.specs.Cost.{deployment_cost, function_bound}
 use Rattle.cl_app.specs.declared.evaluate.Abort.{Abort}
 use Rattle.cl_app.specs.declared.evaluate.Abort.TheVariants.{Overflow, Underflow, CostLimit}
 use Rattle.cl_app.specs.declared.call.Outcome.{Outcome}
 use Rattle.cl_app.specs.declared.call.Outcome.TheVariants.{Plain, Aborted, Refused}
-use Rattle.cl_app.specs.declared.call.EntryRefusal.TheVariants.{NoFunction, ArgumentCount}
+use Rattle.cl_app.specs.declared.call.EntryRefusal.TheVariants.{NoFunction, ArgumentCount, Argument}
 use Rattle.cl_app.specs.declared.call.CallResult.{CallResult}
 
 -- five numbers, in the order of the dimensions
@@ -37,26 +35,9 @@ deployment_back bound = codes " " ++ (cost_text bound ++ codes " int\n")
 abbrev pub deployment_text : ℕ → Function → List ℕ
 deployment_text count f = deployment_front count ++ (f.name ++ deployment_back (function_bound f))
 
--- the rules of texts, by number and name
-abbrev pub rule_text : Rule → List ℕ
-rule_text BadByte = codes "T1 BadByte"
-rule_text BadToken = codes "T2 BadToken"
-rule_text NumberTooWide = codes "T3 NumberTooWide"
-rule_text Unclosed = codes "T4 Unclosed"
-rule_text StrayClose = codes "T5 StrayClose"
-rule_text TooNested = codes "T6 TooNested"
-rule_text BadEscape = codes "T7 BadEscape"
-rule_text BadTuple = codes "T8 BadTuple"
-rule_text BadAddress = codes "T9 BadAddress"
-rule_text SourceTooLong = codes "T10 SourceTooLong"
-
--- a rule with the places where it is broken
-unfoldable pub refusal_text : Refusal → List ℕ
-refusal_text r = rule_text r.rule ++ (codes " " ++ (decimal r.span.start ++ (codes ".." ++ decimal r.span.end)))
-
--- a deployment whose text breaks a rule
-unfoldable pub broken_text : Refusal → List ℕ
-broken_text r = codes "0 deploy 'SP000000000000000000002Q6VF78.main refused E7 ContractRefused " ++ (refusal_text r ++ codes "\n")
+-- a deployment whose source is refused
+unfoldable pub refused_text : SourceRefusal → List ℕ
+refused_text r = codes "0 deploy 'SP000000000000000000002Q6VF78.main refused E7 ContractRefused " ++ (refusal_text r ++ codes "\n")
 
 -- a deployment whose text isn't accepted yet
 abbrev pub not_yet_text : List ℕ
@@ -73,6 +54,7 @@ outcome_text (Plain v) = codes "value " ++ signed_decimal v
 outcome_text (Aborted abort) = codes "aborted " ++ abort_text abort
 outcome_text (Refused NoFunction) = codes "refused E2 NoFunction"
 outcome_text (Refused ArgumentCount) = codes "refused E4 ArgumentCount"
+outcome_text (Refused (Argument index)) = codes "refused E5 Argument " ++ decimal index
 
 -- the line of the cost, where there is one
 abbrev pub cost_line : Option Cost5 → List ℕ

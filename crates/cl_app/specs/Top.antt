@@ -3,7 +3,8 @@ use Rattle.std.specs.Prelude.{◌≡◌, ◌≢◌, ℕ, List, Option, Some}
 use Rattle.cl_ports.specs.Files.{Held}
 use Rattle.cl_ports.specs.Growth.{Grows, GrowsPart}
 use Rattle.cl_app.specs.Words.{Command}
-use Rattle.cl_app.specs.Answer.{Answer, IsAnswerTo, named_by}
+use Rattle.cl_app.specs.Spelling.{Answer}
+use Rattle.cl_app.specs.Answer.{IsAnswerTo, IsNamed}
 
 -- where it is told what is held, this is the answer to the command, none standing for words that are not of the table
 pub record IsAnswer (command : Option Command) (held : Option Held) (answer : Answer) : Type 0 where
@@ -27,4 +28,4 @@ pub record AnswersPart (command : Option Command) (held : Option Held) (before n
 
 -- a first part of the names of the words was asked for
 pub record AsksPart (command : Option Command) (held : Option Held) (before now : Option (List (List ℕ))) : Type 0 where
-  pub told : (files : Held) → held ≡ Some files → GrowsPart before now (named_by command files)
+  pub told : (files : Held) (names : List (List ℕ)) → held ≡ Some files → IsNamed command names → GrowsPart before now names

@@ -12,15 +12,27 @@ texts words = map string_bytes words
 -- a command with its words
 pub data Command : Type 0 where
   Call : (file function : List ℕ) (args : List (List ℕ)) → Command
+  -- the text of the value with this wire form
+  Value : (word : List ℕ) → Command
+  -- the wire form of the value with this text
+  Wire : (word : List ℕ) → Command
 
 abbrev pub begins_with_dash : List ℕ → Bool
 begins_with_dash [] = false
 begins_with_dash (b ∷ bytes) = b == 45
 
--- the command of the first word, where it has enough words
+-- a command with one word
+abbrev pub command_with : List ℕ → List ℕ → Option Command
+command_with name word =
+    if bytes_eq name (codes "value") then Some (Value word)
+    else (if bytes_eq name (codes "wire") then Some (Wire word) else None)
+
+-- the command of the first word, where it has its number of words
 abbrev pub command_of : List (List ℕ) → Option Command
-command_of (word ∷ file ∷ function ∷ args) = if bytes_eq word (codes "call") then Some (Call file function args) else None
-command_of words = None
+command_of [] = None
+command_of (name ∷ []) = None
+command_of (name ∷ word ∷ []) = command_with name word
+command_of (name ∷ file ∷ function ∷ args) = if bytes_eq name (codes "call") then Some (Call file function args) else None
 
 -- the command that the words give, where they are of the table; no word begins with a dash
 abbrev pub taken : List (List ℕ) → Option Command

@@ -1,14 +1,17 @@
 //! The call of a function of a deployed contract.
-ghost use Rattle.std.specs.Prelude.{◌≡◌, Some, length};
+ghost use Rattle.std.specs.Prelude.{◌≡◌, Some, Ok, length, IfOk};
 ghost use Rattle.cl_app.specs.Contract.{IsCallable};
 ghost use Rattle.cl_app.specs.Seen.{function_seen};
 ghost use Rattle.cl_app.specs.Meaning.{applied};
 ghost use Rattle.cl_app.specs.Cost.{limited, ended};
-ghost use Rattle.cl_app.specs.Result.{cost_of_abort, call_result};
+ghost use Rattle.cl_app.specs.Result.{cost_of_abort, ints_result, call_result};
 
+use crate::argument::ints;
 use crate::contract::Function;
 use crate::evaluate::{Abort, INT_SIZE, evaluate, pay};
 use cl_shapes::{Cost5, CostName, Meter};
+use cl_values::Val;
+use std::alloc::{AllocError, Global};
 
 /// Why an entry isn't run.
 #[derive(Clone, Copy, Debug, PartialEq, Eq)]
@@ -17,6 +20,8 @@ pub(crate) enum EntryRefusal {
     NoFunction,
     /// E4: the function has another number of parameters.
     ArgumentCount,
+    /// E5: this argument, counted from 0, isn't of its parameter's type.
+    Argument { index: u32 },
 }
 
 /// How a call ended.
@@ -67,17 +72,12 @@ fn refused(refusal: EntryRefusal) -> CallResult
     }
 }
 
-/// Calls the contract's one function by a name, with no stated limits.
-pub(crate) fn call(function: &Function, name: &str, values: &[i128]) -> CallResult
-    requires { IsCallable (function_seen function.now) }
-    ensures { call_result (function_seen function.now) name.now values.now ≡ Some result }
+/// Calls the function with ints, with no stated limits.
+fn run(function: &Function, values: &[i128]) -> CallResult
+    requires callable { IsCallable (function_seen function.now) }
+    requires values { length values.now ≡ length function.now.parameters.keys }
+    ensures { ints_result (function_seen function.now) (Ok values.now) ≡ Some result }
 {
-    if function.name.bytes() != name.as_bytes() {
-        return refused(EntryRefusal::NoFunction);
-    }
-    if values.len() != function.parameters.len() {
-        return refused(EntryRefusal::ArgumentCount);
-    }
     let mut meter = Meter::new([u64::MAX; 5]);
     match apply(function, values, &mut meter) {
         Ok(value) => CallResult {
@@ -88,5 +88,27 @@ pub(crate) fn call(function: &Function, name: &str, values: &[i128]) -> CallResu
             outcome: Outcome::Aborted(abort),
             cost: Some(cost_of_abort(abort, &meter)),
         },
+    }
+}
+
+/// Calls the contract's one function by a name, with no stated limits.
+pub(crate) fn call(
+    alloc: Global,
+    function: &Function,
+    name: &str,
+    values: &[Val],
+) -> Result<CallResult, AllocError>
+    requires { IsCallable (function_seen function.now) }
+    ensures { IfOk result (λ ended. call_result (function_seen function.now) name.now values.now ≡ Some ended) }
+{
+    if function.name.bytes() != name.as_bytes() {
+        return Ok(refused(EntryRefusal::NoFunction));
+    }
+    if values.len() != function.parameters.len() {
+        return Ok(refused(EntryRefusal::ArgumentCount));
+    }
+    match ints(alloc, values)? {
+        Ok(ints) => Ok(run(function, &ints)),
+        Err(index) => Ok(refused(EntryRefusal::Argument { index })),
     }
 }

@@ -10,9 +10,12 @@ mod evaluate;
 mod expression;
 mod items;
 mod laws;
+mod pieces;
+mod refusal;
 mod reply;
 mod report;
 mod reserved;
+mod spelling;
 #[cfg(test)]
 mod tests;
 mod top;

@@ -5,99 +5,34 @@ ghost use Rattle.cl_sexpr.specs.Tree.{forest, forest_size};
 ghost use Rattle.cl_app.specs.Contract.{IsCallable, function_in};
 ghost use Rattle.cl_app.specs.Seen.{function_seen};
 ghost use Rattle.cl_app.specs.Cost.{function_bound};
-ghost use Rattle.cl_app.specs.Report.{deployment_text};
-ghost use Rattle.cl_app.specs.Answer.{usage_answer, long_file_answer, refused_word_answer, broken_source_answer, not_yet_answer, Accepted, verdict_of, status_of, IsReportOf, IsReport};
+ghost use Rattle.cl_app.specs.Refusals.{refusal_seen};
+ghost use Rattle.cl_app.specs.Report.{deployment_text, refused_text};
+ghost use Rattle.cl_app.specs.Answer.{usage_answer, long_file_answer, refused_source_answer, not_yet_answer, Accepted, verdict_of, status_of, IsReportOf, IsReport};
 ghost use Rattle.cl_app.specs.Words.{Call, taken, texts};
 ghost use Rattle.cl_app.specs.Reply.{answer_of, CountsStop, IsHeldAnswer};
 ghost use Rattle.cl_app.specs.Top.{IsAnswer, IsOwnStatus, AsksPart};
 
-use crate::argument::ints;
+use crate::argument::values;
 use crate::bound::function_bound;
 use crate::call::{Outcome, call};
 use crate::contract::{Function, function_in};
-use crate::report::{broken_text, call_text, deployment_back, deployment_front};
-use crate::words::has_dash;
+use crate::pieces::{Reply, Stop, fixed_line, joined, one_piece, two_pieces, whole_piece};
+use crate::refusal::refusal_text;
+use crate::report::{call_text, deployment_back, deployment_front};
+use crate::spelling::{no_value, value_reply, wire_reply};
+use crate::words::{Command, taken};
 use cl_ports::{Files, ReadRefusal};
 use cl_sexpr::{Refusal, Sexpr, one_reading, read};
+use cl_text::one_outcome;
 use cl_types::{Fault, NoMemory};
+use cl_values::Val;
 use std::alloc::{AllocError, Global};
-
-/// What is written, piece by piece, and the status.
-#[derive(Drop)]
-pub(crate) struct Reply {
-    pub(crate) pieces: Vec<Vec<u8>>,
-    pub(crate) status: u8,
-}
-
-/// Why there is no reply.
-#[derive(Drop)]
-pub(crate) enum Stop {
-    ReadFailed,
-    NoMemory,
-}
-
-impl From<AllocError> for Stop {
-    ghost use Rattle.std.specs.Prelude.{◌≡◌};
-    ghost use Rattle.cl_app.specs.declared.reply.Stop.TheVariants.{NoMemory};
-
-    ghost from_gives = { λ _ e. e ≡ NoMemory };
-
-    fn from(_error: AllocError) -> Self {
-        Stop::NoMemory
-    }
-}
-
-impl From<NoMemory> for Stop {
-    ghost use Rattle.std.specs.Prelude.{◌≡◌};
-    ghost use Rattle.cl_app.specs.declared.reply.Stop.TheVariants.{NoMemory as OutOfMemory};
-
-    ghost from_gives = { λ _ e. e ≡ OutOfMemory };
-
-    fn from(_error: NoMemory) -> Self {
-        Stop::NoMemory
-    }
-}
-
-fn one_piece(alloc: Global, line: String, status: u8) -> Result<Reply, AllocError>
-    ensures { IfOk result (λ reply. answer_of reply ≡ record { bytes = string_bytes line; status = status }) }
-{
-    let mut pieces = Vec::new(alloc);
-    pieces.push(line.into_bytes())?;
-    Ok(Reply { pieces, status })
-}
-
-fn two_pieces(
-    alloc: Global,
-    first: Vec<u8>,
-    second: String,
-    status: u8,
-) -> Result<Reply, AllocError>
-    ensures { IfOk result (λ reply. answer_of reply ≡ record { bytes = first.items ++ string_bytes second; status = status }) }
-{
-    let mut pieces = Vec::new(alloc);
-    pieces.push(first)?;
-    pieces.push(second.into_bytes())?;
-    Ok(Reply { pieces, status })
-}
-
-fn fixed_line(alloc: Global, line: &str, status: u8) -> Result<Reply, AllocError>
-    ensures { IfOk result (λ reply. answer_of reply ≡ record { bytes = line.now; status = status }) }
-{
-    one_piece(alloc, String::from_str(alloc, line)?, status)
-}
 
 /// The reply to words that are not of the table.
 fn usage(alloc: Global) -> Result<Reply, AllocError>
     ensures { IfOk result (λ reply. answer_of reply ≡ usage_answer) }
 {
     fixed_line(alloc, "usage: clarity COMMAND WORDS\n", 2)
-}
-
-/// The reply to an argument that isn't taken.
-fn refused_word(alloc: Global) -> Result<Reply, AllocError>
-    ensures { IfOk result (λ reply. answer_of reply ≡ refused_word_answer) }
-{
-    fixed_line(alloc, "refused NotYet\n", 8)
 }
 
 /// The reply to a file that is too long.
@@ -108,11 +43,23 @@ fn long_file(alloc: Global, name: &str) -> Result<Reply, AllocError>
     one_piece(alloc, line, 5)
 }
 
-/// The reply to a source that breaks a rule of texts.
-fn broken_source(alloc: Global, refusal: Refusal) -> Result<Reply, AllocError>
-    ensures { IfOk result (λ reply. answer_of reply ≡ broken_source_answer refusal) }
+/// The line of a deployment whose source is refused.
+#[tactic(auto, unfolding(crate::specs::Report::refused_text))]
+fn refused_text(alloc: Global, refusal: &Refusal) -> Result<Vec<u8>, AllocError>
+    ensures { IfOk result (λ text. text.items ≡ refused_text (refusal_seen refusal.now)) }
 {
-    one_piece(alloc, broken_text(alloc, refusal)?, 6)
+    let front = String::from_str(
+        alloc,
+        "0 deploy 'SP000000000000000000002Q6VF78.main refused E7 ContractRefused ",
+    )?;
+    joined(front.into_bytes(), &refusal_text(alloc, refusal)?, b"\n")
+}
+
+/// The reply to a source that is refused.
+fn refused_source(alloc: Global, refusal: &Refusal) -> Result<Reply, AllocError>
+    ensures { IfOk result (λ reply. answer_of reply ≡ refused_source_answer (refusal_seen refusal.now)) }
+{
+    whole_piece(alloc, refused_text(alloc, refusal)?, 6)
 }
 
 /// The reply to a source that is read, and isn't accepted yet.
@@ -124,16 +71,6 @@ fn not_yet(alloc: Global) -> Result<Reply, AllocError>
         "0 deploy 'SP000000000000000000002Q6VF78.main refused E7 ContractRefused N0 NotYet 0..0\n",
         6,
     )
-}
-
-#[tactic(auto, using(std::proofs::Common::append_assoc))]
-fn joined(front: Vec<u8>, middle: &[u8], back: &[u8]) -> Result<Vec<u8>, AllocError>
-    ensures { IfOk result (λ text. text.items ≡ front.items ++ (middle.now ++ back.now)) }
-{
-    let mut text = front;
-    text.extend_from_slice(middle)?;
-    text.extend_from_slice(back)?;
-    Ok(text)
 }
 
 /// The lines of the deployment of a text of `count` bytes.
@@ -162,14 +99,14 @@ fn called(
     count: usize,
     function: &Function,
     name: &str,
-    values: &[i128],
+    values: &[Val],
 ) -> Result<Reply, AllocError>
     requires { IsCallable (function_seen function.now) }
     ensures answer { IfOk result (λ reply. IsReportOf (Accepted (function_seen function.now)) count name.now values.now (answer_of reply)) }
     ensures status { IfOk result (λ reply. IsOwnStatus reply.status × (reply.status ≢ 2)) }
 {
     let deployed = deployment(alloc, count, function)?;
-    let ended = call(function, name, values);
+    let ended = call(alloc, function, name, values)?;
     let line = call_text(alloc, name, &ended)?;
     two_pieces(alloc, deployed, line, status_of(ended.outcome))
 }
@@ -180,9 +117,9 @@ fn items_report(
     count: usize,
     items: &[Sexpr],
     name: &str,
-    values: &[i128],
+    values: &[Val],
 ) -> Result<Reply, AllocError>
-    requires { forest_size (forest items.now) < 2 ^ 40 }
+    requires { forest_size (forest items.now) < 2 ^ 32 }
     ensures answer { IfOk result (λ reply. IsReportOf (verdict_of (function_in items.now)) count name.now values.now (answer_of reply)) }
     ensures status { IfOk result (λ reply. IsOwnStatus reply.status × (reply.status ≢ 2)) }
 {
@@ -194,14 +131,14 @@ fn items_report(
 }
 
 /// The report of two entries: the source is deployed, and then a function is called.
-fn report(alloc: Global, source: &[u8], name: &str, values: &[i128]) -> Result<Reply, NoMemory>
+fn report(alloc: Global, source: &[u8], name: &str, values: &[Val]) -> Result<Reply, NoMemory>
     ensures answer { IfOk result (λ reply. IsReport source.now name.now values.now (answer_of reply)) }
     ensures status { IfOk result (λ reply. IsOwnStatus reply.status × (reply.status ≢ 2)) }
 {
     one_reading();
     match read(alloc, source) {
         Ok(items) => Ok(items_report(alloc, source.len(), &items, name, values)?),
-        Err(Fault::Refused(refusal)) => Ok(broken_source(alloc, refusal)?),
+        Err(Fault::Refused(refusal)) => Ok(refused_source(alloc, &refusal)?),
         Err(Fault::NoMemory) => Err(NoMemory),
     }
 }
@@ -211,7 +148,7 @@ fn file_reply<F: Files>(
     alloc: Global,
     file: &str,
     name: &str,
-    values: &[i128],
+    values: &[Val],
     files: &mut F,
 ) -> Result<Reply, Stop>
     ensures answer { IfOk result (λ reply. IsHeldAnswer file.now name.now values.now (F.held files.old) (answer_of reply)) }
@@ -240,10 +177,13 @@ fn call_reply<F: Files>(
     ensures cause { CountsStop (F.faults files.old) (F.faults files.new) result }
     ensures asked { AsksPart (Some (Call file.now name.now (texts args.now))) (F.held files.old) (F.asked files.old) (F.asked files.new) }
 {
-    let Some(values) = ints(alloc, args)? else {
-        return Ok(refused_word(alloc)?);
-    };
-    file_reply(alloc, file, name, &values, files)
+    one_reading();
+    one_outcome();
+    match values(alloc, args) {
+        Ok(values) => file_reply(alloc, file, name, &values, files),
+        Err(Fault::Refused(refusal)) => Ok(no_value(alloc, &refusal)?),
+        Err(Fault::NoMemory) => Err(Stop::NoMemory),
+    }
 }
 
 /// The reply to the words.
@@ -259,16 +199,16 @@ pub(crate) fn reply_to<F: Files>(
     ensures cause { CountsStop (F.faults files.old) (F.faults files.new) result }
     ensures asked { AsksPart (taken (texts words.now)) (F.held files.old) (F.asked files.old) (F.asked files.new) }
 {
-    if has_dash(words) {
-        return Ok(usage(alloc)?);
-    }
-    match words {
-        [command, file, name, args @ ..] => {
-            if command.as_str() != "call" {
-                return Ok(usage(alloc)?);
-            }
-            call_reply(alloc, file.as_str(), name.as_str(), args, files)
-        }
-        _ => Ok(usage(alloc)?),
+    match taken(words) {
+        Some(
+            Command::Call {
+                file,
+                function,
+                args,
+            },
+        ) => call_reply(alloc, file, function, args, files),
+        Some(Command::Value(word)) => Ok(value_reply(alloc, word.as_bytes())?),
+        Some(Command::Wire(word)) => Ok(wire_reply(alloc, word.as_bytes())?),
+        None => Ok(usage(alloc)?),
     }
 }

@@ -1,11 +1,10 @@
 //! The lines of the report.
 ghost use Rattle.std.specs.Prelude.{◌≡◌, IfOk, string_bytes};
 ghost use Rattle.cl_app.specs.Cost.{deployment_cost};
-ghost use Rattle.cl_app.specs.Report.{rule_text, refusal_text, broken_text, cost_text, deployment_front, deployment_back, abort_text, outcome_text, cost_line, call_text};
+ghost use Rattle.cl_app.specs.Report.{cost_text, deployment_front, deployment_back, abort_text, outcome_text, cost_line, call_text};
 
 use crate::call::{CallResult, EntryRefusal, Outcome};
 use crate::evaluate::Abort;
-use cl_sexpr::{Refusal, Rule, Span};
 use cl_shapes::Cost5;
 use std::alloc::{AllocError, Global};
 
@@ -33,43 +32,6 @@ fn cost_text(alloc: Global, cost: &Cost5) -> Result<String, AllocError>
         write_length,
     } = *cost;
     format!(in alloc; "{runtime} {read_count} {read_length} {write_count} {write_length}")
-}
-
-fn rule_text(rule: Rule) -> &'static str
-    ensures { result.now ≡ rule_text rule }
-{
-    match rule {
-        Rule::BadByte => "T1 BadByte",
-        Rule::BadToken => "T2 BadToken",
-        Rule::NumberTooWide => "T3 NumberTooWide",
-        Rule::Unclosed => "T4 Unclosed",
-        Rule::StrayClose => "T5 StrayClose",
-        Rule::TooNested => "T6 TooNested",
-        Rule::BadEscape => "T7 BadEscape",
-        Rule::BadTuple => "T8 BadTuple",
-        Rule::BadAddress => "T9 BadAddress",
-        Rule::SourceTooLong => "T10 SourceTooLong",
-    }
-}
-
-#[tactic(auto, unfolding(crate::specs::Report::refusal_text))]
-fn refusal_text(alloc: Global, refusal: Refusal) -> Result<String, AllocError>
-    ensures { IfOk result (λ text. string_bytes text ≡ refusal_text refusal) }
-{
-    let rule = rule_text(refusal.rule);
-    let Span { start, end } = refusal.span;
-    format!(in alloc; "{rule} {start}..{end}")
-}
-
-/// The line of a deployment whose text breaks a rule.
-#[tactic(auto, unfolding(crate::specs::Report::broken_text))]
-pub(crate) fn broken_text(alloc: Global, refusal: Refusal) -> Result<String, AllocError>
-    ensures { IfOk result (λ text. string_bytes text ≡ broken_text refusal) }
-{
-    let refusal = refusal_text(alloc, refusal)?;
-    format!(in alloc;
-        "0 deploy 'SP000000000000000000002Q6VF78.main refused E7 ContractRefused {refusal}\n"
-    )
 }
 
 /// The lines of the deployment of a text of `count` bytes, up to the name of its function.
@@ -122,6 +84,9 @@ fn outcome_text(alloc: Global, outcome: Outcome) -> Result<String, AllocError>
         }
         Outcome::Refused(EntryRefusal::ArgumentCount) => {
             String::from_str(alloc, "refused E4 ArgumentCount")
+        }
+        Outcome::Refused(EntryRefusal::Argument { index }) => {
+            format!(in alloc; "refused E5 Argument {index}")
         }
     }
 }

@@ -282,16 +282,161 @@ fn comments_are_passed_over(rt: HostRuntime) -> Result<(), Fail> {
 }
 
 #[test]
-fn words_that_are_refused(rt: HostRuntime) -> Result<(), Fail> {
+fn arguments_of_a_call(rt: HostRuntime) -> Result<(), Fail> {
     let alloc = rt.alloc();
     let above = "170141183460469231731687303715884105728";
-    for word in ["u41", "", "4a", "+4", " 4", above] {
-        let words = ["call", "missing.clar", "add1", "1", word];
+    // The first word that is no value ends the command before the file is asked for.
+    for (words, fault) in [
+        (["foo", "1"], "NotALiteral 0..3"),
+        (["1", ""], "NotALiteral 0..0"),
+        (["1 2", "1"], "NotALiteral 0..3"),
+        (["(list 1 .own)", "foo"], "NotALiteral 8..12"),
+        (["4a", "foo"], "T2 BadToken 0..2"),
+        (["1", "+4"], "T2 BadToken 0..2"),
+        (["1", above], "T3 NumberTooWide 0..39"),
+        (["1", "(ok 1"], "T4 Unclosed 0..1"),
+    ] {
+        let [first, second] = words;
+        let words = ["call", "missing.clar", "add1", first, second];
         let ended = run(alloc, &words, INC, &[1], &[])?;
-        assert_eq!(rt; ended.text.as_str(), "refused NotYet\n", "{word}");
-        assert_eq!(rt; ended.status, 8, "{word}");
-        assert_eq!(rt; ended.asked, 0, "{word}");
+        let line = format!(in alloc; "refused {fault}\n")?;
+        assert_eq!(rt; ended.text.as_str(), line.as_str());
+        assert_eq!(rt; ended.status, 8);
+        assert_eq!(rt; ended.asked, 0);
     }
+    // A value of another kind is refused by its place, behind the count.
+    for (word, end) in [
+        ("u41", "refused E5 Argument 0\n"),
+        ("true", "refused E5 Argument 0\n"),
+        ("{a: 1}", "refused E5 Argument 0\n"),
+        (" 41 ;; forty-one", "value 42\n  cost 5 0 0 0 0\n"),
+    ] {
+        let ended = run(alloc, &["call", "inc.clar", "add1", word], INC, &[], &[])?;
+        let all = format!(in alloc; "{DEPLOYED}{CALLED}add1 {end}")?;
+        assert_eq!(rt; ended.text.as_str(), all.as_str(), "{word}");
+        assert_eq!(rt; ended.status, if end.starts_with("value") { 0 } else { 7 });
+    }
+    let two: &[u8] = b"(define-read-only (f (x int) (y int)) (+ x y))";
+    for (words, end) in [
+        (["1", "u2"], "f refused E5 Argument 1\n"),
+        (["0x", "u2"], "f refused E5 Argument 0\n"),
+    ] {
+        let [first, second] = words;
+        let ended = run(
+            alloc,
+            &["call", "inc.clar", "f", first, second],
+            two,
+            &[],
+            &[],
+        )?;
+        assert!(rt; ended.text.as_str().ends_with(end), "{end}");
+        assert_eq!(rt; ended.status, 7);
+    }
+    Ok(())
+}
+
+#[test]
+fn values_and_their_wire_forms(rt: HostRuntime) -> Result<(), Fail> {
+    let alloc = rt.alloc();
+    let zero = "'SP000000000000000000002Q6VF78";
+    let other = "'SP2J6ZY48GV1EZ5V2V5RB9MP66SW86PYKKNRV9EJ7";
+    let one = "0x0100000000000000000000000000000001";
+    for (command, word, line, status) in [
+        ("value", "0x09", "none", 0),
+        ("value", "0x0703", "(ok true)", 0),
+        ("value", "0x0b00000000", "(list)", 0),
+        ("value", "0d0000000568656c6c6f", "\"hello\"", 0),
+        ("value", "0A09", "(some none)", 0),
+        (
+            "value",
+            "0x0516a46ff88886c2ef9762d970b4d2c63678835bd39D",
+            other,
+            0,
+        ),
+        (
+            "value",
+            "0x0c00000002016203016103",
+            "refused KeysOrder 8",
+            8,
+        ),
+        (
+            "value",
+            "0x01000000000000000000000000000000",
+            "refused Ended 16",
+            8,
+        ),
+        (
+            "value",
+            "0x010000000000000000000000000000000100",
+            "refused Extra 17",
+            8,
+        ),
+        ("value", "0x0f", "refused BadPrefix 0", 8),
+        ("value", "0x0c00000000", "refused NoKeys 1", 8),
+        ("value", "0x0d00000002617f", "refused BadText 6", 8),
+        ("value", "0x0c000000010031", "refused BadName 5", 8),
+        ("value", "0x", "refused Ended 0", 8),
+        ("value", "", "refused Ended 0", 8),
+        ("value", "0x0", "refused NotHex", 8),
+        ("value", "0X09", "refused NotHex", 8),
+        ("value", "no", "refused NotHex", 8),
+        ("wire", "{a: true}", "0x0c00000001016103", 0),
+        ("wire", "u\"\\u{e9}\"", "0x0e00000002c3a9", 0),
+        (
+            "wire",
+            zero,
+            "0x05160000000000000000000000000000000000000000",
+            0,
+        ),
+        (
+            "wire",
+            other,
+            "0x0516a46ff88886c2ef9762d970b4d2c63678835bd39d",
+            0,
+        ),
+        ("wire", "u1", one, 0),
+        (
+            "wire",
+            "(tuple (b 0x0a) (a none))",
+            "0x0c00000002016109016202000000010a",
+            0,
+        ),
+        (
+            "wire",
+            "'SP000000000000000000002Q6VF79",
+            "refused T9 BadAddress 0..30",
+            8,
+        ),
+        ("wire", "foo", "refused NotALiteral 0..3", 8),
+        (
+            "wire",
+            "(ok 1) ;; one\n(ok",
+            "refused T4 Unclosed 14..15",
+            8,
+        ),
+        ("wire", "{a: 1, a: 2}", "refused NotALiteral 0..12", 8),
+    ] {
+        let ended = run(alloc, &[command, word], INC, &[1], &[])?;
+        let whole = format!(in alloc; "{line}\n")?;
+        assert_eq!(rt; ended.text.as_str(), whole.as_str(), "{command} {word}");
+        assert_eq!(rt; ended.status, status, "{command} {word}");
+        assert_eq!(rt; ended.asked, 0);
+    }
+    // 33 levels of `some`.
+    let mut deep = String::new(alloc);
+    for _ in 0..32u32 {
+        deep.push_str("0a")?;
+    }
+    deep.push_str("0a09")?;
+    let ended = run(alloc, &["value", deep.as_str()], INC, &[], &[])?;
+    assert_eq!(rt; ended.text.as_str(), "refused TooDeep 32\n");
+    assert_eq!(rt; ended.status, 8);
+    Ok(())
+}
+
+#[test]
+fn words_that_are_refused(rt: HostRuntime) -> Result<(), Fail> {
+    let alloc = rt.alloc();
     let none: &[&str] = &[];
     for words in [
         none,
@@ -303,6 +448,11 @@ fn words_that_are_refused(rt: HostRuntime) -> Result<(), Fail> {
         &["call", "inc.clar", "add1", "41", "-"],
         &["--help", "inc.clar", "add1", "41"],
         &["call", "-inc.clar", "add1", "41"],
+        &["value"],
+        &["value", "09", "09"],
+        &["Value", "09"],
+        &["wire", "-1"],
+        &["wire", "1", "2", "3"],
     ] {
         let ended = run(alloc, words, INC, &[], &[])?;
         assert_eq!(rt; ended.text.as_str(), "usage: clarity COMMAND WORDS\n");

@@ -7,9 +7,11 @@ ghost use Rattle.cl_app.specs.Words.{taken, texts};
 ghost use Rattle.cl_app.specs.Answer.{usage_answer};
 ghost use Rattle.cl_app.specs.Top.{Answers, AnswersPart, AsksPart};
 
-use crate::reply::{Stop, reply_to};
+use crate::pieces::Stop;
+use crate::reply::reply_to;
 use cl_ports::{Failed, Files, Sink};
 use cl_sexpr::one_reading;
+use cl_text::one_outcome;
 use std::alloc::Global;
 
 /// Writes the pieces, and stops at a write that fails.
@@ -59,6 +61,7 @@ pub fn clarity<F: Files, K: Sink>(alloc: Global, words: &[String], files: &mut F
     ensures asked { AsksPart (taken (texts words.now)) (F.held files.old) (F.asked files.old) (F.asked files.new) }
 {
     one_reading();
+    one_outcome();
     match reply_to(alloc, words, files) {
         Ok(reply) => {
             if write_pieces(&reply.pieces, out).is_err() {

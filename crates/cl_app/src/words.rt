@@ -1,7 +1,23 @@
 //! The words of the command line.
-ghost use Rattle.std.specs.Prelude.{◌≡◌};
+ghost use Rattle.std.specs.Prelude.{◌≡◌, option_map};
 ghost use Rattle.std.specs.List.{list_any};
-ghost use Rattle.cl_app.specs.Words.{begins_with_dash, texts};
+ghost use Rattle.cl_app.specs.Words.{begins_with_dash, texts, command_with, taken};
+ghost use Rattle.cl_app.specs.Seen.{command_seen};
+
+/// A command with its words.
+#[derive(Clone, Copy)]
+pub(crate) enum Command<'a> {
+    /// Deploys the file, and calls the function with the values that these words spell.
+    Call {
+        file: &'a str,
+        function: &'a str,
+        args: &'a [String],
+    },
+    /// The text of the value with this wire form.
+    Value(&'a str),
+    /// The wire form of the value with this text.
+    Wire(&'a str),
+}
 
 fn begins_with_dash(word: &[u8]) -> bool
     ensures { result ≡ begins_with_dash word.now }
@@ -13,7 +29,7 @@ fn begins_with_dash(word: &[u8]) -> bool
 }
 
 /// Whether a word begins with a dash.
-pub(crate) fn has_dash(words: &[String]) -> bool
+fn has_dash(words: &[String]) -> bool
     ensures { result ≡ list_any begins_with_dash (texts words.now) }
 {
     for word in words {
@@ -22,4 +38,40 @@ pub(crate) fn has_dash(words: &[String]) -> bool
         }
     }
     false
+}
+
+/// The command of one word with this name.
+fn command_with<'a>(name: &str, word: &'a str) -> Option<Command<'a>>
+    ensures { option_map command_seen result ≡ command_with name.now word.now }
+{
+    if name == "value" {
+        return Some(Command::Value(word));
+    }
+    if name == "wire" {
+        return Some(Command::Wire(word));
+    }
+    None
+}
+
+/// The command that the words give, where they are of the table.
+pub(crate) fn taken(words: &[String]) -> Option<Command<'_>>
+    ensures { option_map command_seen result ≡ taken (texts words.now) }
+{
+    if has_dash(words) {
+        return None;
+    }
+    match words {
+        [name, word] => command_with(name.as_str(), word.as_str()),
+        [name, file, function, args @ ..] => {
+            if name.as_str() != "call" {
+                return None;
+            }
+            Some(Command::Call {
+                file: file.as_str(),
+                function: function.as_str(),
+                args,
+            })
+        }
+        _ => None,
+    }
 }

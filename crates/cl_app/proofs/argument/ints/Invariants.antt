@@ -1,7 +1,6 @@
-use Rattle.std.proofs.Common.{◌≡◌, [], drop}
+use Rattle.std.proofs.Common.{◌≡◌, [], drop, length}
 use Rattle.cl_app.specs.Argument.{ints_from}
-use Rattle.cl_app.specs.Words.{texts}
 use Rattle.cl_app.proofs.argument.ints.Given as goal
 
-abbrev pub invariant-loop-word : goal.invariant-loop-word
-invariant-loop-word l = ints_from l.ints.items (texts (drop l.word-index l.words)) ≡ ints_from [] (texts l.words)
+abbrev pub invariant-loop-value : goal.invariant-loop-value
+invariant-loop-value l = (ints_from l.ints.items (drop l.value-index l.values) ≡ ints_from [] l.values) × (length l.ints.items ≡ l.value-index)
