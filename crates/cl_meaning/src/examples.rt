@@ -125,7 +125,7 @@ pub fn token_refusals()
     ensures by_another { (mint P1 1 after_mint).outcome ≡ Given (ResponseV false (UintV 100)) }
 {}
 
-/// Each kind of node: outcomes and costs, which another interpreter of the language computed.
+/// Each kind of node: outcomes, and charges in their order, as they were computed apart from the definitions.
 pub fn node_rows()
     ensures leaves { meant leaf_examples ≡ said leaf_examples }
     ensures control { meant control_examples ≡ said control_examples }
