@@ -1,10 +1,10 @@
 -- Rows of items, and bindings.
 use Rattle.std.specs.Prelude.{◌≡◌, ℕ, List, [], ◌∷◌, ◌++◌, Option, Some, None, option_map, option_and_then, refl}
-use Rattle.std.proofs.Common.{◌∙◌, sym, ap, append_assoc}
+use Rattle.std.proofs.Common.{sym, ap, append_assoc}
 use Rattle.cl_sexpr.specs.declared.sexpr.Span.{Span}
-use Rattle.cl_sexpr.specs.Tree.{Tree, LeafAt, ListAt, TupleAt, Leaf, Named, Signed, Unsigned, Bytes, Ascii, Unicode, Standing, Local, Forest, Empty, Then, forest}
-use Rattle.cl_forms.specs.Shapes.{trees_of, binding_of, and_binding, bindings_of}
-use Rattle.cl_forms.specs.Items.{atom_of, two_of, items_of, parts_behind}
+use Rattle.cl_sexpr.specs.Tree.{Tree, LeafAt, ListAt, TupleAt, Named, Empty, Then, forest}
+use Rattle.cl_forms.specs.Shapes.{trees_of, binding_of, and_binding}
+use Rattle.cl_forms.specs.Items.{two_of, items_of, parts_behind}
 use Rattle.cl_forms.specs.ItemView.{binding_in, behind}
 
 pub trees_forest : (ts : List Tree) → trees_of (forest ts) ≡ ts

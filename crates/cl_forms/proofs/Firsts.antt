@@ -6,7 +6,7 @@ use Rattle.std.proofs.Common.{◌∙◌, sym, ap, subst, inl, inr, arith, lit≤
 use Rattle.std.proofs.lemmas.Bool.Decides.{nat_tests}
 use Rattle.cl_sexpr.specs.declared.sexpr.Span.{Span}
 use Rattle.cl_sexpr.specs.declared.rule.Rule.{Rule}
-use Rattle.cl_sexpr.specs.declared.rule.Rule.TheVariants.{BadDefinition, BadType, BadName, NotInProfile, NameUsed}
+use Rattle.cl_sexpr.specs.declared.rule.Rule.TheVariants.{BadType, BadName, NotInProfile, NameUsed}
 use Rattle.cl_sexpr.specs.declared.rule.Break.{Break}
 use Rattle.cl_sexpr.specs.Rules.{number_of}
 use Rattle.cl_sexpr.specs.Tree.{Tree, span_of}
@@ -15,7 +15,7 @@ use Rattle.cl_forms.specs.ItemView.{plain_item}
 use Rattle.cl_forms.specs.Forms.{Form}
 use Rattle.cl_forms.specs.Items.{Item, Expression, Misshapen, Definition, item_of, kind_of, form_of}
 use Rattle.cl_forms.specs.FormBreaks.{left_out_in, params_of, defines, is_defined, uses_name, when, rules_of, broken_at, breaks_of, repeats, IsAmong, Breaks, GoesBefore, IsFirstBreak, AreForms}
-use Rattle.cl_forms.specs.Looks.{earliest, Looked, look_at, plain_entry, Table, first_from, is_before, is_used, has_reserved, rules_by, comes_last, first_of, first_at, break_of, first_broken, form_at}
+use Rattle.cl_forms.specs.Looks.{earliest, look_at, plain_entry, Table, first_from, is_before, is_used, has_reserved, rules_by, comes_last, first_of, first_at, break_of, first_broken, form_at}
 
 -- ---- the table of names says which names are used
 

@@ -2,7 +2,7 @@
 use Rattle.std.specs.Prelude.{◌≡◌, ℕ, ◌+◌, ◌<◌, List, [], ◌∷◌, ◌++◌, length, drop, get_or, fold, Option, refl}
 use Rattle.std.proofs.Common.{◌∙◌, sym, ap, add-one, drop-cons}
 use Rattle.cl_sexpr.specs.declared.sexpr.Span.{Span}
-use Rattle.cl_sexpr.specs.Tree.{Tree, Forest, Then, Pairs, Pair, forest, pairs}
+use Rattle.cl_sexpr.specs.Tree.{Tree, forest, pairs}
 use Rattle.cl_forms.specs.FormBreaks.{left_out_in, left_out_of, left_out_of_pairs}
 use Rattle.cl_forms.specs.Looks.{earliest}
 

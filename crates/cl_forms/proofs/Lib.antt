@@ -6,3 +6,5 @@ pub mod Typed
 pub mod LeftOut
 pub mod Firsts
 pub mod Results
+pub mod Placing
+pub mod Weighing

@@ -1,11 +1,11 @@
 -- Written types within the limits.
-use Rattle.std.specs.Prelude.{◌≡◌, ℕ, ◌≤◌, ◌<◌, not, Bool, true, false, nat_le, nat_lt, if◌then◌else◌, Option, Some, None, option_and_then, Result, Ok, Err, refl}
-use Rattle.std.proofs.Common.{◌∙◌, sym, ap, arith}
+use Rattle.std.specs.Prelude.{◌≡◌, ℕ, ◌≤◌, not, Bool, true, false, nat_le, nat_lt, if◌then◌else◌, Option, Some, None, option_and_then, Result, Err, refl}
+use Rattle.std.proofs.Common.{sym, ap, arith}
 use Rattle.std.proofs.lemmas.Bool.Decides.{nat_tests}
 use Rattle.cl_types.specs.Types.{PlainType, depth_of}
 use Rattle.cl_types.specs.Sized.{made, most_depth, everywhere, has_key, keys_differ}
 use Rattle.cl_types.specs.declared.sized.TyRefusal.{TyRefusal}
-use Rattle.cl_types.specs.declared.sized.TyRefusal.TheVariants.{TooLarge, TooDeep, EmptyTuple, KeyTwice}
+use Rattle.cl_types.specs.declared.sized.TyRefusal.TheVariants.{TooDeep, EmptyTuple, KeyTwice}
 use Rattle.cl_forms.specs.WrittenTypes.{made_type}
 use Rattle.cl_forms.specs.TypeRoom.{within}
 

@@ -1,12 +1,12 @@
 -- Steps of reading a type.
-use Rattle.std.specs.Prelude.{◌≡◌, ℕ, zero, suc, ◌+◌, ◌-◌, ◌≤◌, ◌<◌, ◌*◌, ◌&&◌, max, Bool, true, false, codes, nat_le, List, [], ◌∷◌, ◌++◌, if◌then◌else◌, Option, Some, None, option_map, option_and_then, refl}
+use Rattle.std.specs.Prelude.{◌≡◌, ℕ, ◌+◌, ◌-◌, ◌≤◌, ◌<◌, ◌&&◌, max, Bool, true, false, codes, nat_le, List, [], ◌∷◌, ◌++◌, if◌then◌else◌, Option, Some, None, option_map, option_and_then, refl}
 use Rattle.std.specs.Option.{option_map_or}
 use Rattle.std.proofs.Common.{◌∙◌, sym, ap, subst, arith, lit<, add-one, drop-cons, drop, get_or, length}
 use Rattle.std.proofs.lemmas.Bool.Decides.{nat_tests}
 use Rattle.std.proofs.lemmas.List.{drop_all}
 use Rattle.cl_types.specs.Types.{PlainType, IntType, UintType, BoolType, PrincipalType, BuffType, AsciiType, Utf8Type, ListType, TupleType, OptionalType, ResponseType, Fields, NoField, Field, fields, depth_of, depths_of}
 use Rattle.cl_sexpr.specs.declared.sexpr.Span.{Span}
-use Rattle.cl_sexpr.specs.Tree.{Tree, LeafAt, ListAt, TupleAt, Leaf, Named, Signed, Unsigned, Bytes, Ascii as AsciiLeaf, Unicode, Standing, Local, Forest, Empty, Then, Pairs, NoPair, Pair, forest, pairs, tree_size, forest_size}
+use Rattle.cl_sexpr.specs.Tree.{Tree, LeafAt, ListAt, TupleAt, Named, Forest, Empty, Then, Pairs, Pair, forest, pairs, tree_size}
 use Rattle.cl_forms.specs.Names.{same}
 use Rattle.cl_forms.specs.Items.{two_of}
 use Rattle.cl_forms.specs.Shapes.{binding_of}

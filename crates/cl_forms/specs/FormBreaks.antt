@@ -1,5 +1,5 @@
 -- The rules of forms, and the first that is broken.
-use Rattle.std.specs.Prelude.{◌≡◌, ◌⊎◌, ℕ, ◌<◌, ◌≤◌, ◌||◌, Bool, true, false, List, [], ◌∷◌, ◌++◌, if◌then◌else◌, map, take, is_none, slice_get, Option, Some, None}
+use Rattle.std.specs.Prelude.{◌≡◌, ◌⊎◌, ℕ, ◌<◌, ◌≤◌, ◌||◌, Bool, true, false, List, [], ◌∷◌, ◌++◌, if◌then◌else◌, map, take, is_none, slice_get, Some}
 use Rattle.std.specs.List.{list_any}
 use Rattle.cl_sexpr.specs.declared.sexpr.Span.{Span}
 use Rattle.cl_sexpr.specs.declared.rule.Rule.{Rule}

@@ -13,3 +13,6 @@ pub mod FormView
 pub mod ItemView
 pub mod TypeRoom
 pub mod Looks
+pub mod Placed
+pub mod Cycle
+pub mod Weights

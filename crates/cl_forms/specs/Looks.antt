@@ -9,7 +9,7 @@ use Rattle.cl_sexpr.specs.declared.rule.Break.{Break}
 use Rattle.cl_sexpr.specs.Tree.{Tree, span_of}
 use Rattle.cl_forms.specs.Forms.{Form}
 use Rattle.cl_forms.specs.Heads.{is_reserved}
-use Rattle.cl_forms.specs.Items.{Draft, Item, Expression, Misshapen, Definition, item_of, kind_of, form_by}
+use Rattle.cl_forms.specs.Items.{Item, Expression, Misshapen, Definition, item_of, kind_of, form_by}
 use Rattle.cl_forms.specs.FormBreaks.{left_out_in, params_of, defines, repeats, when, broken_at}
 use Rattle.cl_forms.specs.declared.entry.Entry.{Entry}
 use Rattle.cl_forms.specs.ItemView.{plain_item}

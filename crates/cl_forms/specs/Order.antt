@@ -1,5 +1,5 @@
 -- The order of definitions: each form after all that it names, depth first in the order of the text; or a cycle.
-use Rattle.std.specs.Prelude.{◌≡◌, ◌↔◌, ℕ, zero, suc, ◌+◌, ◌<◌, Bool, true, false, List, [], ◌∷◌, ◌++◌, length, map, filter_map, if◌then◌else◌, nat_eq, slice_get, Option, Some, None, Result, Ok, Err}
+use Rattle.std.specs.Prelude.{◌≡◌, ℕ, zero, suc, ◌+◌, ◌<◌, Bool, true, List, [], ◌∷◌, ◌++◌, length, map, filter_map, if◌then◌else◌, nat_eq, slice_get, Some, Result, Ok, Err}
 use Rattle.std.specs.List.{list_any, IsDistinct}
 use Rattle.cl_forms.specs.Forms.{Form}
 use Rattle.cl_forms.specs.Names.{Names, name_at, named_by}

@@ -1,8 +1,8 @@
 -- Written types of a depth that is still allowed.
-use Rattle.std.specs.Prelude.{ℕ, List, [], ◌∷◌, if◌then◌else◌, nat_le, Option, Some, None, option_map, option_and_then}
-use Rattle.cl_types.specs.Types.{PlainType, BuffType, AsciiType, Utf8Type, Fields, NoField, Field, fields, depth_of, depths_of}
-use Rattle.cl_sexpr.specs.Tree.{Tree, Forest, forest}
-use Rattle.cl_forms.specs.WrittenTypes.{type_word, type_of, type_by, stated_length, fields_of, and_field}
+use Rattle.std.specs.Prelude.{ℕ, List, if◌then◌else◌, nat_le, Option, Some, None, option_map, option_and_then}
+use Rattle.cl_types.specs.Types.{PlainType, BuffType, AsciiType, Utf8Type, Fields, NoField, Field, depth_of, depths_of}
+use Rattle.cl_sexpr.specs.Tree.{Tree, Forest}
+use Rattle.cl_forms.specs.WrittenTypes.{type_word, type_of, type_by, stated_length, and_field}
 use Rattle.cl_forms.specs.declared.type_word.TypeWord.{TypeWord}
 use Rattle.cl_forms.specs.declared.type_word.TypeWord.TheVariants.{Buff, Ascii, Utf8, List as ListWord, Optional, Response, Tuple}
 

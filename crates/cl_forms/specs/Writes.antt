@@ -1,11 +1,11 @@
 -- Which functions of a contract write.
-use Rattle.std.specs.Prelude.{◌≡◌, ℕ, Bool, true, false, List, [], ◌∷◌, ◌++◌, codes, Contains, Option, Some, None}
+use Rattle.std.specs.Prelude.{◌≡◌, ℕ, Bool, true, false, List, [], ◌∷◌, ◌++◌, codes, Contains, Some}
 use Rattle.std.specs.List.{list_any}
 use Rattle.cl_types.specs.Types.{PlainType}
 use Rattle.cl_types.specs.declared.sized.Access.{Access}
 use Rattle.cl_sexpr.specs.Tree.{Tree, LeafAt, ListAt, TupleAt, Leaf, Named, Forest, Empty, Then, Pairs, NoPair, Pair}
 use Rattle.cl_forms.specs.Forms.{Form, FunctionForm}
-use Rattle.cl_forms.specs.Names.{same, is_one}
+use Rattle.cl_forms.specs.Names.{same}
 
 -- the natives that write
 abbrev pub writing_natives : List (List ℕ)

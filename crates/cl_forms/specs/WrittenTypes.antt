@@ -1,9 +1,9 @@
 -- Types as a text writes them.
-use Rattle.std.specs.Prelude.{ℕ, ℤ, pos, negsuc, ◌&&◌, Bool, true, false, List, [], ◌∷◌, codes, if◌then◌else◌, nat_le, Option, Some, None, option_map, option_and_then, Result, Ok, Err}
+use Rattle.std.specs.Prelude.{ℕ, ℤ, pos, negsuc, List, codes, if◌then◌else◌, nat_le, Option, Some, None, option_map, option_and_then, Result, Ok, Err}
 use Rattle.cl_types.specs.Types.{PlainType, IntType, UintType, BoolType, PrincipalType, BuffType, AsciiType, Utf8Type, ListType, TupleType, OptionalType, ResponseType, Fields, NoField, Field}
 use Rattle.cl_types.specs.Sized.{most_size, made}
 use Rattle.cl_types.specs.declared.sized.TyRefusal.{TyRefusal}
-use Rattle.cl_sexpr.specs.Tree.{Tree, LeafAt, ListAt, TupleAt, Leaf, Named, Signed, Forest, Empty, Then, Pairs, NoPair, Pair}
+use Rattle.cl_sexpr.specs.Tree.{Tree, LeafAt, ListAt, TupleAt, Named, Signed, Forest, Empty, Then, Pairs, NoPair, Pair}
 use Rattle.cl_forms.specs.Names.{same}
 use Rattle.cl_forms.specs.declared.type_word.TypeWord.{TypeWord}
 use Rattle.cl_forms.specs.declared.type_word.TypeWord.TheVariants.{Buff, Ascii, Utf8, List as ListWord, Optional, Response, Tuple}

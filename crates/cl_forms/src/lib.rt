@@ -9,15 +9,19 @@ mod item;
 mod kind;
 mod laws;
 mod names;
+mod placed;
 mod reserved;
 #[cfg(test)]
 mod tests;
 mod type_word;
 mod types;
+mod weights;
 mod word;
 
 pub use definitions::forms;
 pub use form::{Form, FormKind};
 pub use head::{Head, TokenNative};
 pub use laws::natives_have_one_name;
+pub use placed::expressions_are_placed;
 pub use reserved::is_reserved;
+pub use weights::forms_have_few_parts;

@@ -15,7 +15,7 @@ use Rattle.cl_forms.specs.Shapes.{trees_of}
 use Rattle.cl_rules.specs.Context.{CostTable, Known}
 use Rattle.cl_rules.specs.FormRules.{Defined, nothing_defined}
 use Rattle.cl_rules.specs.FormTyping.{FormsTyped}
-use Rattle.cl_rules.specs.Acceptance.{Ordered, TypedAs, forms_at, WritesWrongly, most_cost, bound_of, Accepted, FirstBreakOf, in_text, in_forms, in_order, in_typing, in_writing, in_bounds, in_deployment}
+use Rattle.cl_rules.specs.Acceptance.{Ordered, TypedAs, forms_at, WritesWrongly, most_cost, bound_of, Accepted, FirstUnordered, in_text, in_forms, in_order, FirstBreakOf, unordered, in_typing, in_writing, in_bounds, in_deployment}
 use Rattle.cl_rules.proofs.FormWalk.{one_end, forms_never_both}
 
 -- what the reader's laws say
@@ -25,7 +25,7 @@ pub record Reading : Type 0 where
 
 -- ---- lists
 
-some_same : {A : Type 0} (a b : A) → Some a ≡ Some b → a ≡ b
+pub some_same : {A : Type 0} (a b : A) → Some a ≡ Some b → a ≡ b
 some_same {A = A} a b e = ap held e
   where
     held : Option A → A
@@ -52,13 +52,13 @@ kept_all (x ∷ xs) = ap (λ ys. x ∷ ys) (kept_all xs)
 all_same : {A : Type 0} (xs ys : List A) → map Some xs ≡ map Some ys → xs ≡ ys
 all_same xs ys e = sym (kept_all xs) ∙ ap kept e ∙ kept_all ys
 
-none_some : {A : Type 0} (a : A) {o : Option A} → o ≡ None → o ≡ Some a → ⊥
+pub none_some : {A : Type 0} (a : A) {o : Option A} → o ≡ None → o ≡ Some a → ⊥
 none_some a e h = none_is (sym e ∙ h)
   where
     none_is : None ≡ Some a → ⊥
     none_is x = cc
 
-ok_err : {A B : Type 0} (a : A) (b : B) {r : Result A B} → r ≡ Ok a → r ≡ Err b → ⊥
+pub ok_err : {A B : Type 0} (a : A) (b : B) {r : Result A B} → r ≡ Ok a → r ≡ Err b → ⊥
 ok_err {A = A} {B = B} a b e h = ok_is (sym e ∙ h)
   where
     ok_is : Ok a ≡ Err b → ⊥
@@ -77,39 +77,43 @@ step_in forms rest (Some g) zero form h k e = h form e
 step_in forms rest (Some g) (suc n) form h k e = k n e
 
 -- a form at a place of the order is one of the forms
-form_in : (forms : List Form) (order : List ℕ) (n : ℕ) (form : Form) → slice_get (forms_at forms order) n ≡ Some form → Contains forms form
+pub form_in : (forms : List Form) (order : List ℕ) (n : ℕ) (form : Form) → slice_get (forms_at forms order) n ≡ Some form → Contains forms form
 form_in forms [] n form e = absurd (none_some form {o = slice_get (forms_at forms []) n} refl e)
 form_in forms (m ∷ ms) n form e = step_in forms (forms_at forms ms) (slice_get forms m) n form (there_then forms m) (λ i. form_in forms ms i form) e
 
 -- ---- what a text has is one
 
 module _ (reading : Reading) where
-  items_same : {text : List ℕ} {a b : Forest} → Reads text a → Reads text b → a ≡ b
+  pub items_same : {text : List ℕ} {a b : Forest} → Reads text a → Reads text b → a ≡ b
   items_same {text = text} {a = a} {b = b} x y = reading.one text a b x y
 
-  forms_same : {text : List ℕ} {a b : Forest} {f g : List Form} → Reads text a → AreForms (trees_of a) f → Reads text b → AreForms (trees_of b) g → f ≡ g
+  pub forms_same : {text : List ℕ} {a b : Forest} {f g : List Form} → Reads text a → AreForms (trees_of a) f → Reads text b → AreForms (trees_of b) g → f ≡ g
   forms_same {f = f} {g = g} x h y k = let again = subst (λ items. AreForms (trees_of items) g) (items_same y x) k in all_same f g (sym h.forms_are ∙ again.forms_are)
 
-  ordered_same : {text : List ℕ} {f g : List Form} {o p : List ℕ} → Ordered text f o → Ordered text g p → (f ≡ g) × (o ≡ p)
+  pub ordered_same : {text : List ℕ} {f g : List Form} {o p : List ℕ} → Ordered text f o → Ordered text g p → (f ≡ g) × (o ≡ p)
   ordered_same {o = o} {p = p} x y = let e = forms_same x.reads x.are_forms y.reads y.are_forms in (e, ok_same o p x.order_is (ap ordered e ∙ y.order_is))
 
+  -- a text with forms in an order has no break before
+  pub never_unordered : {text : List ℕ} {forms : List Form} {order : List ℕ} {rule : Rule} {span : Span} {names : List (List ℕ)} → Ordered text forms order → FirstUnordered text rule span names → ⊥
+  never_unordered {text = text} o (in_text b x e f g) = reading.either text o.items b o.reads x
+  never_unordered o (in_forms items b reads x e f g) =
+      let again = subst (λ i. IsFirstFormRule (trees_of i) b) (items_same reads o.reads) x in
+      o.are_forms.unbroken again.place b again.breaks
+  never_unordered {order = order} o (in_order items forms reads are x) =
+      ok_err order x.places o.order_is (ap ordered (forms_same o.reads o.are_forms reads are) ∙ x.met)
+
   module _ (deployed : List Known) (principal : Principal) (text : List ℕ) where
-    typed_along : {f g : List Form} {o p : List ℕ} {D : Defined} → f ≡ g → o ≡ p → FormsTyped (nothing_defined deployed principal (length text)) (forms_at f o) D → FormsTyped (nothing_defined deployed principal (length text)) (forms_at g p) D
+    pub typed_along : {f g : List Form} {o p : List ℕ} {D : Defined} → f ≡ g → o ≡ p → FormsTyped (nothing_defined deployed principal (length text)) (forms_at f o) D → FormsTyped (nothing_defined deployed principal (length text)) (forms_at g p) D
     typed_along {f = f} {p = p} {D = D} e h x = subst (λ forms. FormsTyped (nothing_defined deployed principal (length text)) (forms_at forms p) D) e (subst (λ order. FormsTyped (nothing_defined deployed principal (length text)) (forms_at f order) D) h x)
 
-    defined_same : {f g : List Form} {o p : List ℕ} {D E : Defined} → TypedAs deployed principal text f o D → TypedAs deployed principal text g p E → D ≡ E
+    pub defined_same : {f g : List Form} {o p : List ℕ} {D E : Defined} → TypedAs deployed principal text f o D → TypedAs deployed principal text g p E → D ≡ E
     defined_same x y = let e = ordered_same x.is_ordered y.is_ordered in one_end (typed_along e.0 e.1 x.are_typed) y.are_typed
 
     pub one_defined : (table : CostTable) (a b : Accepted deployed principal table text) → a.defined ≡ b.defined
     one_defined table a b = defined_same a.typed b.typed
 
     pub accepted_clean : (table : CostTable) (rule : Rule) (span : Span) (names : List (List ℕ)) → Accepted deployed principal table text → FirstBreakOf deployed principal table text rule span names → ⊥
-    accepted_clean table rule span names a (in_text b x e f g) = reading.either text a.typed.is_ordered.items b a.typed.is_ordered.reads x
-    accepted_clean table rule span names a (in_forms items b reads x e f g) =
-        let again = subst (λ i. IsFirstFormRule (trees_of i) b) (items_same reads a.typed.is_ordered.reads) x in
-        a.typed.is_ordered.are_forms.unbroken again.place b again.breaks
-    accepted_clean table rule span names a (in_order items forms place places first reads are_forms x there e f g) =
-        ok_err a.order (place ∷ places) a.typed.is_ordered.order_is (ap ordered (forms_same a.typed.is_ordered.reads a.typed.is_ordered.are_forms reads are_forms) ∙ x)
+    accepted_clean table rule span names a (unordered x) = never_unordered a.typed.is_ordered x
     accepted_clean table rule span names a (in_typing forms order o x e) =
         let h = ordered_same a.typed.is_ordered o in
         forms_never_both (nothing_defined deployed principal (length text)) a.defined (forms_at forms order) rule span (typed_along h.0 h.1 a.typed.are_typed) x

@@ -39,6 +39,7 @@ breaks_by_shape = record {
   operator_of_a_number = refl;
   long_binding = refl;
   binding_without_brackets = refl;
+  only_bindings_bind = refl;
   number_as_key = refl;
   number_as_pair = refl;
   number_as_variable = refl;
@@ -106,6 +107,7 @@ breaks_in_order = record {
   shape_before_parts = refl;
   named_form_first = refl;
   text_order_else = refl;
+  later_behind_get = refl;
 }
 
 pub accepted_examples : AcceptedExamples
@@ -116,5 +118,6 @@ accepted_examples = record {
   lists_without_entries = refl;
   tried_ok = refl;
   declared_admits_no_type = refl;
+  earlier_behind_get = refl;
   later_form = refl;
 }

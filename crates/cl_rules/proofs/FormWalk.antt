@@ -1,14 +1,14 @@
 -- Typing of forms and the walk over them.
-use Rattle.cl_sexpr.specs.Tree.{span_of}
 use Rattle.std.proofs.Common.{◌≡◌, ◌⊎◌, inl, inr, ℕ, suc, List, [], ◌∷◌, Some, None, refl, sym, ap, ◌∙◌, subst, arith}
 use Rattle.cl_sexpr.specs.declared.sexpr.Span.{Span}
 use Rattle.cl_sexpr.specs.declared.rule.Rule.{Rule}
 use Rattle.cl_sexpr.specs.Rules.{phase_of}
+use Rattle.cl_sexpr.specs.Tree.{span_of}
 use Rattle.cl_forms.specs.Forms.{Form, FormKind, ConstantForm, VariableForm, MapForm, FungibleForm, NonFungibleForm, FunctionForm, ExpressionForm, expression_of}
 use Rattle.cl_rules.specs.Faults.{form_rules}
 use Rattle.cl_rules.specs.Verdicts.{Found}
 use Rattle.cl_rules.specs.Typing.{Follows, Among, Before}
-use Rattle.cl_rules.specs.Placed.{IsPlacedIf, AreFormsPlaced}
+use Rattle.cl_forms.specs.Placed.{IsPlacedIf, AreFormsPlaced}
 use Rattle.cl_rules.specs.Walks.{FormStops, in_plan, at_form, FormsStop, at_first, later}
 use Rattle.cl_rules.specs.FormRules.{Defined, form_plan, form_faults, defined_after}
 use Rattle.cl_rules.specs.FormTyping.{FormTyped, form_typed, FormsTyped, no_more, one_more, Reached, here, behind, FormBreaks, in_expression, by_itself, Earlier, FirstFormBreak}

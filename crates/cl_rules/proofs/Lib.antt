@@ -10,3 +10,7 @@ mod ComputedCalls
 mod Accepting
 mod PlacedTest
 mod ComputedFirsts
+mod TextForms
+mod FormRulesOnce
+mod OneUnordered
+mod OneFirst

@@ -3,7 +3,8 @@ use Rattle.std.proofs.Common.{◌≡◌, ℕ, nat_lt, nat_le, ◌&&◌, Bool, tr
 use Rattle.std.proofs.lemmas.Bool.{ltb-true, leb-true}
 use Rattle.cl_sexpr.specs.Tree.{Tree, LeafAt, ListAt, TupleAt, Forest, Empty, Then, Pairs, NoPair, Pair, span_of}
 use Rattle.cl_forms.specs.Forms.{Form, expression_of}
-use Rattle.cl_rules.specs.Placed.{IsPlaced, ArePlaced, ArePairsPlaced, IsPlacedIf, AreFormsPlaced}
+use Rattle.cl_sexpr.specs.Placed.{IsPlaced, ArePlaced, ArePairsPlaced}
+use Rattle.cl_forms.specs.Placed.{IsPlacedIf, AreFormsPlaced}
 
 abbrev mutual
   pub is_placed : Tree → Bool

@@ -9,14 +9,14 @@ use Rattle.cl_forms.specs.declared.head.Head.{Head}
 use Rattle.cl_forms.specs.declared.head.Head.TheVariants.{OnValues, OnToken, TupleOf, AsMaxLen, Get, VarGet, VarSet, MapGet, MapSet, MapInsert, MapDelete, FtBalance, FtSupply, StxBalance, NftOwner, Print, If, Let, Begin, And, Or, Asserts, Unwrap, UnwrapErr, Try, Match, AsContract, Map, Filter, Fold, ContractCall}
 use Rattle.cl_forms.specs.declared.head.TokenNative.{TokenNative}
 use Rattle.cl_forms.specs.declared.head.TokenNative.TheVariants.{MintFt, BurnFt, SendFt, MintNft, BurnNft, SendNft, SendStx, BurnStx}
-use Rattle.cl_forms.specs.Shapes.{trees_of, binding_of, pairs_of}
+use Rattle.cl_forms.specs.Shapes.{trees_of, pairs_of, binding_of}
 use Rattle.cl_rules.specs.Context.{Context, Names, Signature, bind, keyword, named_in, is_no_value, signature_in}
 use Rattle.cl_rules.specs.Verdicts.{Found}
 use Rattle.cl_rules.specs.Shapes.{Plan, Ends, Part, Gives, Shape, parts}
 use Rattle.cl_rules.specs.ControlShapes.{keyword_or, value_or, no_value_shape, leaf_shape, let_plan, let_shape, optional_plan, response_plan, match_plan}
 use Rattle.cl_rules.specs.DataShapes.{token_shape}
 use Rattle.cl_rules.specs.Table.{head_shape, operator_shape, shape}
-use Rattle.cl_rules.specs.Placed.{IsPlaced, ArePlaced, ArePairsPlaced}
+use Rattle.cl_sexpr.specs.Placed.{IsPlaced, ArePlaced, ArePairsPlaced}
 
 -- the parts stand from a place on, one after another, in front of another place
 abbrev pub PlanPlaced : ℕ → ℕ → Plan → Type 0

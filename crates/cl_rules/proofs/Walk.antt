@@ -9,7 +9,7 @@ use Rattle.cl_rules.specs.Verdicts.{Found}
 use Rattle.cl_rules.specs.Shapes.{Plan, Ends, Part, Gives}
 use Rattle.cl_rules.specs.Table.{shape}
 use Rattle.cl_rules.specs.Typing.{broken_shape, broken_types, found_by, Typed, typed, Follows, ends, part, gives, Looked, itself, inside, LookedIn, at_part, past_part, at_gives, past_gives, Among, Breaks, by_shape, by_types, Before, FirstBreak}
-use Rattle.cl_rules.specs.Placed.{IsPlaced}
+use Rattle.cl_sexpr.specs.Placed.{IsPlaced}
 use Rattle.cl_rules.specs.Walks.{Stops, at_shape, in_part, at_types, StopsIn, stops_part, later_part, stops_gives, later_gives}
 use Rattle.cl_rules.proofs.Rising.{Starts, among_phase, rising_least, shape_rising, type_rising, number_tells}
 use Rattle.cl_rules.proofs.Placing.{PlanPlaced, shape_placed, tree_room}

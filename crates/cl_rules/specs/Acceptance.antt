@@ -1,5 +1,5 @@
 -- Which texts are accepted, and the first break of a text that isn't.
-use Rattle.std.specs.Prelude.{◌≡◌, ℕ, ◌-◌, ◌≤◌, ◌^◌, Bool, true, false, List, [], ◌∷◌, ◌++◌, length, Contains, slice_get, unwrap_or, Option, Some, None, Ok, Err}
+use Rattle.std.specs.Prelude.{◌≡◌, ℕ, ◌-◌, ◌≤◌, ◌^◌, Bool, true, false, List, [], ◌∷◌, ◌++◌, length, Contains, slice_get, unwrap_or, Option, Some, None, Ok}
 use Rattle.std.specs.List.{filter_map}
 use Rattle.cl_types.specs.Types.{PlainType}
 use Rattle.cl_types.specs.declared.sized.Access.{Access}
@@ -10,13 +10,14 @@ use Rattle.cl_shapes.specs.declared.cost.Dimension.{Dimension}
 use Rattle.cl_shapes.specs.Costs.{in_each, first_above}
 use Rattle.cl_sexpr.specs.declared.sexpr.Span.{Span}
 use Rattle.cl_sexpr.specs.declared.rule.Rule.{Rule}
-use Rattle.cl_sexpr.specs.declared.rule.Rule.TheVariants.{Cycle, WritesInReadOnly, BoundTooLarge}
+use Rattle.cl_sexpr.specs.declared.rule.Rule.TheVariants.{WritesInReadOnly, BoundTooLarge}
 use Rattle.cl_sexpr.specs.declared.rule.Break.{Break}
 use Rattle.cl_sexpr.specs.Tree.{Tree, Leaf, Forest}
 use Rattle.cl_sexpr.specs.Text.{Reads, Breaks as BreaksText}
 use Rattle.cl_forms.specs.Forms.{Form, FormKind, FunctionForm}
 use Rattle.cl_forms.specs.FormBreaks.{AreForms, IsFirstBreak as IsFirstFormRule}
-use Rattle.cl_forms.specs.Order.{ordered, names_at}
+use Rattle.cl_forms.specs.Order.{ordered}
+use Rattle.cl_forms.specs.Cycle.{IsOfTheCycle}
 use Rattle.cl_forms.specs.Shapes.{trees_of}
 use Rattle.cl_forms.specs.Writes.{Writes}
 use Rattle.cl_rules.specs.Context.{CostTable, Bound, Signature, Known, known_at, signature_in, another_at}
@@ -149,15 +150,18 @@ pub data AreDeployed (table : CostTable) : List Known → Type 0 where
 abbrev pub nowhere : Span
 nowhere = record { start = 0; end = 0 }
 
+-- The first break of a text before its forms are looked at one by one, with the names of the forms in a cycle: it isn't a row
+-- of items; an item is no form; or the forms name each other in a ring.
+pub data FirstUnordered (text : List ℕ) (rule : Rule) (span : Span) (names : List (List ℕ)) : Type 0 where
+  in_text : (b : Break) → BreaksText text b → rule ≡ b.rule → span ≡ b.span → names ≡ [] → FirstUnordered text rule span names
+  in_forms : (items : Forest) (b : Break) → Reads text items → IsFirstFormRule (trees_of items) b → rule ≡ b.rule → span ≡ b.span → names ≡ [] → FirstUnordered text rule span names
+  in_order : (items : Forest) (forms : List Form) → Reads text items → AreForms (trees_of items) forms → IsOfTheCycle forms rule span names → FirstUnordered text rule span names
+
 -- The first break of a text, by phases: its rule and span, and for a cycle the names of the forms in it. In the first phase in
 -- which a rule is broken, it is the first there.
 pub data FirstBreakOf (deployed : List Known) (principal : Principal) (table : CostTable) (text : List ℕ) (rule : Rule) (span : Span) (names : List (List ℕ)) : Type 0 where
-  -- the text isn't a row of items
-  in_text : (b : Break) → BreaksText text b → rule ≡ b.rule → span ≡ b.span → names ≡ [] → FirstBreakOf deployed principal table text rule span names
-  -- an item is no form
-  in_forms : (items : Forest) (b : Break) → Reads text items → IsFirstFormRule (trees_of items) b → rule ≡ b.rule → span ≡ b.span → names ≡ [] → FirstBreakOf deployed principal table text rule span names
-  -- the forms name each other in a ring
-  in_order : (items : Forest) (forms : List Form) (place : ℕ) (places : List ℕ) (first : Form) → Reads text items → AreForms (trees_of items) forms → ordered forms ≡ Err (place ∷ places) → slice_get forms place ≡ Some first → rule ≡ Cycle → span ≡ first.span → names ≡ names_at forms (place ∷ places) → FirstBreakOf deployed principal table text rule span names
+  -- the text has no forms in an order
+  unordered : FirstUnordered text rule span names → FirstBreakOf deployed principal table text rule span names
   -- a form isn't typed
   in_typing : (forms : List Form) (order : List ℕ) → Ordered text forms order → FirstFormBreak (nothing_defined deployed principal (length text)) (forms_at forms order) rule span → names ≡ [] → FirstBreakOf deployed principal table text rule span names
   -- a read-only function writes

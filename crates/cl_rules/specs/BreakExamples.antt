@@ -39,6 +39,8 @@ pub record BreaksByShape : Type 0 where
   pub operator_of_a_number : checked (codes "(define-read-only (f) (1 2))") ≡ refused EmptyForm 22 27
   pub long_binding : checked (codes "(define-read-only (f) (let ((x 1 2)) 3))") ≡ refused BadBinding 22 39
   pub binding_without_brackets : checked (codes "(define-read-only (f) (let (x) 1))") ≡ refused BadBinding 22 33
+  -- the first of these binds no name
+  pub only_bindings_bind : checked (codes "(define-read-only (f) (let ((x 1 2) (x 3)) x))") ≡ refused BadBinding 22 45
   pub number_as_key : checked (codes "(define-read-only (f) (get 5 {a: 1}))") ≡ refused BadBinding 22 36
   pub number_as_pair : checked (codes "(define-read-only (f) (tuple (a 1) 5))") ≡ refused BadBinding 22 37
   pub number_as_variable : checked (codes "(define-read-only (f) (var-get 5))") ≡ refused BadBinding 22 33
@@ -102,6 +104,8 @@ pub record BreaksInOrder : Type 0 where
   -- b is evaluated before a, which names it
   pub named_form_first : checked (codes "(define-read-only (a) (+ 1 (b) u1))(define-private (b) (other))") ≡ refused UnknownName 55 62
   pub text_order_else : checked (codes "(define-read-only (a) (other))(define-private (b) (another))") ≡ refused UnknownName 22 29
+  -- a name behind get isn't named, so that form may come later, and isn't known yet
+  pub later_behind_get : checked (codes "(define-constant a (tuple (get bb)))(define-constant bb 5)") ≡ refused UnknownName 31 33
 
 -- contracts whose forms are typed
 pub record AcceptedExamples : Type 0 where
@@ -110,4 +114,5 @@ pub record AcceptedExamples : Type 0 where
   pub lists_without_entries : rule_of (checked (codes "(define-read-only (f) (list))")) ≡ None
   pub tried_ok : rule_of (checked (codes "(define-read-only (f) (ok (try! (if true (ok 1) (err u1)))))")) ≡ None
   pub declared_admits_no_type : rule_of (checked (codes "(define-data-var v (optional uint) none)")) ≡ None
+  pub earlier_behind_get : rule_of (checked (codes "(define-constant bb 5)(define-constant a (tuple (get bb)))")) ≡ None
   pub later_form : rule_of (checked (codes "(define-private (a) (b))(define-private (b) 1)")) ≡ None

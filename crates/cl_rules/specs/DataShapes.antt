@@ -4,7 +4,7 @@ use Rattle.std.specs.List.{list_any}
 use Rattle.cl_types.specs.Types.{PlainType, UintType, BoolType, TupleType, OptionalType, ResponseType, Fields, NoField, size_of}
 use Rattle.cl_types.specs.Sized.{placed}
 use Rattle.cl_shapes.specs.declared.name.CostName.TheVariants.{Make}
-use Rattle.cl_sexpr.specs.Tree.{Tree, LeafAt, Unsigned, Pairs, NoPair, Pair}
+use Rattle.cl_sexpr.specs.Tree.{Tree, LeafAt, Unsigned}
 use Rattle.cl_forms.specs.Heads.{Row}
 use Rattle.cl_forms.specs.declared.head.TokenNative.{TokenNative}
 use Rattle.cl_forms.specs.declared.head.TokenNative.TheVariants.{MintFt, BurnFt, SendFt, MintNft, BurnNft, SendNft, SendStx, BurnStx}

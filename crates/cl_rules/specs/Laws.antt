@@ -1,5 +1,5 @@
 -- The laws of typing and of the first break.
-use Rattle.std.specs.Prelude.{◌≡◌, ◌⊎◌, ℕ, List}
+use Rattle.std.specs.Prelude.{◌≡◌, ◌⊎◌, ℕ, List, length}
 use Rattle.cl_c32.specs.declared.principal.Principal.{Principal}
 use Rattle.cl_sexpr.specs.declared.sexpr.Span.{Span}
 use Rattle.cl_sexpr.specs.declared.rule.Rule.{Rule}
@@ -8,11 +8,12 @@ use Rattle.cl_forms.specs.Forms.{Form}
 use Rattle.cl_rules.specs.Context.{CostTable, Known, Context, Names}
 use Rattle.cl_rules.specs.Verdicts.{Found}
 use Rattle.cl_rules.specs.Typing.{Typed, Looked, Breaks, FirstBreak}
-use Rattle.cl_rules.specs.Placed.{IsPlaced, AreFormsPlaced}
+use Rattle.cl_sexpr.specs.Placed.{IsPlaced}
+use Rattle.cl_forms.specs.Placed.{AreFormsPlaced}
 use Rattle.cl_rules.specs.Walks.{Stops, FormsStop}
-use Rattle.cl_rules.specs.FormRules.{Defined}
+use Rattle.cl_rules.specs.FormRules.{Defined, nothing_defined}
 use Rattle.cl_rules.specs.FormTyping.{FormsTyped, Reached, FormBreaks, FirstFormBreak}
-use Rattle.cl_rules.specs.Acceptance.{Accepted, FirstBreakOf}
+use Rattle.cl_rules.specs.Acceptance.{Ordered, forms_at, Accepted, FirstUnordered, FirstBreakOf}
 use Rattle.cl_rules.specs.Judging.{Holds, Fails, judged, forms_judged}
 
 -- ---- expressions
@@ -78,6 +79,18 @@ FormsJudgedStop = (D : Defined) (forms : List Form) (r : Rule) (s : Span) → fo
 
 -- ---- whole texts
 
+-- a text has one row of forms, in one order
+abbrev pub OneOrder : Type 0
+OneOrder = (text : List ℕ) (f g : List Form) (o p : List ℕ) → Ordered text f o → Ordered text g p → (f ≡ g) × (o ≡ p)
+
+-- a text whose forms have an order has no first break before that
+abbrev pub OrderedIsClean : Type 0
+OrderedIsClean = (text : List ℕ) (forms : List Form) (order : List ℕ) (rule : Rule) (span : Span) (names : List (List ℕ)) → Ordered text forms order → FirstUnordered text rule span names → ⊥
+
+-- the first break before that is one
+abbrev pub OneFirstUnordered : Type 0
+OneFirstUnordered = (text : List ℕ) (r q : Rule) (s u : Span) (n m : List (List ℕ)) → FirstUnordered text r s n → FirstUnordered text q u m → (r ≡ q) × (s ≡ u) × (n ≡ m)
+
 -- no accepted text has a first break
 abbrev pub AcceptedIsClean : Type 0
 AcceptedIsClean = (deployed : List Known) (principal : Principal) (table : CostTable) (text : List ℕ) (rule : Rule) (span : Span) (names : List (List ℕ)) → Accepted deployed principal table text → FirstBreakOf deployed principal table text rule span names → ⊥
@@ -85,3 +98,17 @@ AcceptedIsClean = (deployed : List Known) (principal : Principal) (table : CostT
 -- what a text defines is one
 abbrev pub OneDefined : Type 0
 OneDefined = (deployed : List Known) (principal : Principal) (table : CostTable) (text : List ℕ) (a b : Accepted deployed principal table text) → a.defined ≡ b.defined
+
+-- the first break of a text is one: its rule, its span and its names
+abbrev pub OneFirstOf : Type 0
+OneFirstOf = (deployed : List Known) (principal : Principal) (table : CostTable) (text : List ℕ) (r q : Rule) (s u : Span) (n m : List (List ℕ)) → FirstBreakOf deployed principal table text r s n → FirstBreakOf deployed principal table text q u m → (r ≡ q) × (s ≡ u) × (n ≡ m)
+
+-- the forms of a text in their order are typed, or have a first break
+abbrev pub TextDecided : Type 0
+TextDecided = (deployed : List Known) (principal : Principal) (text : List ℕ) (forms : List Form) (order : List ℕ) → Ordered text forms order →
+    ((E : Defined) × FormsTyped (nothing_defined deployed principal (length text)) (forms_at forms order) E)
+    ⊎ ((r : Rule) × (s : Span) × FirstFormBreak (nothing_defined deployed principal (length text)) (forms_at forms order) r s)
+
+-- where a walk over them stops is the first break
+abbrev pub TextWalkIsFirst : Type 0
+TextWalkIsFirst = (D : Defined) (text : List ℕ) (forms : List Form) (order : List ℕ) (r : Rule) (s : Span) → Ordered text forms order → FormsStop D (forms_at forms order) r s → FirstFormBreak D (forms_at forms order) r s

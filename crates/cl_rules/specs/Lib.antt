@@ -8,7 +8,6 @@ pub mod DataShapes
 pub mod CallShapes
 pub mod Table
 pub mod Typing
-pub mod Placed
 pub mod FormRules
 pub mod FormTyping
 pub mod Judging

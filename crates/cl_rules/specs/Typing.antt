@@ -3,7 +3,7 @@ use Rattle.std.specs.Prelude.{◌≡◌, ◌⊎◌, ◌≤◌, ◌<◌, List, []
 use Rattle.cl_sexpr.specs.declared.sexpr.Span.{Span}
 use Rattle.cl_sexpr.specs.declared.rule.Rule.{Rule}
 use Rattle.cl_sexpr.specs.Rules.{number_of}
-use Rattle.cl_sexpr.specs.Tree.{Tree, LeafAt, ListAt, TupleAt, span_of}
+use Rattle.cl_sexpr.specs.Tree.{Tree, span_of}
 use Rattle.cl_rules.specs.Faults.{shape_rules, type_rules}
 use Rattle.cl_rules.specs.Context.{Context, Names}
 use Rattle.cl_rules.specs.Verdicts.{Found}

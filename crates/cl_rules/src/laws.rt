@@ -1,6 +1,6 @@
 //! The laws of typing, of the first break, and of the plain program that judges. Each function here is a law, and does
 //! nothing.
-ghost use Rattle.cl_rules.specs.Laws.{AcceptedIsClean, OneDefined, OneType, TypedIsClean, NeverBoth, OneFirst, WalkIsFirst, Decided, OneEnd, TypedFormsAreClean, FormsNeverBoth, OneFirstForm, FormsWalkIsFirst, FormsDecided, JudgedIsTyped, JudgedIsStop, FormsJudgedAreTyped, FormsJudgedStop};
+ghost use Rattle.cl_rules.specs.Laws.{AcceptedIsClean, OneDefined, OneFirstOf, OneOrder, OrderedIsClean, OneFirstUnordered, TextDecided, TextWalkIsFirst, OneType, TypedIsClean, NeverBoth, OneFirst, WalkIsFirst, Decided, OneEnd, TypedFormsAreClean, FormsNeverBoth, OneFirstForm, FormsWalkIsFirst, FormsDecided, JudgedIsTyped, JudgedIsStop, FormsJudgedAreTyped, FormsJudgedStop};
 
 /// An expression has one type, thrown type, height and bound, or one first break, and not both.
 pub fn one_answer()
@@ -35,10 +35,33 @@ pub fn the_plain_program_is_right()
     ensures forms_stop { FormsJudgedStop }
 {}
 
-/// An accepted text has no first break, and defines one thing.
-pub fn accepted_texts_are_clean()
-    ensures clean { AcceptedIsClean }
-    ensures one_defined { OneDefined }
+/// A text has forms in one order, or one first break by a rule of texts, of forms or of their order, and not both.
+pub fn texts_have_one_order()
+    ensures order { OneOrder }
+    ensures clean { OrderedIsClean }
+    ensures first { OneFirstUnordered }
 {
     cl_sexpr::one_reading();
+    cl_sexpr::items_stand_in_order();
+    cl_forms::expressions_are_placed();
+}
+
+/// An accepted text has no first break, and defines one thing; the first break of a text is one.
+pub fn texts_have_one_answer()
+    ensures clean { AcceptedIsClean }
+    ensures one_defined { OneDefined }
+    ensures one_first { OneFirstOf }
+{
+    cl_sexpr::one_reading();
+    cl_sexpr::items_stand_in_order();
+    cl_forms::expressions_are_placed();
+}
+
+/// The forms of a text in their order are typed or have a first break, and a walk over them stops there.
+pub fn forms_of_texts_are_decided()
+    ensures decided { TextDecided }
+    ensures walk { TextWalkIsFirst }
+{
+    cl_sexpr::items_stand_in_order();
+    cl_forms::expressions_are_placed();
 }

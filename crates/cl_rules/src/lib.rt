@@ -9,6 +9,6 @@ pub use examples::{
     rows_of_the_table,
 };
 pub use laws::{
-    a_walk_stops_at_the_first_break, accepted_texts_are_clean, forms_have_one_answer, one_answer,
-    the_plain_program_is_right,
+    a_walk_stops_at_the_first_break, forms_have_one_answer, forms_of_texts_are_decided, one_answer,
+    texts_have_one_answer, texts_have_one_order, the_plain_program_is_right,
 };

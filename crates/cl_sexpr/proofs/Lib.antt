@@ -8,3 +8,4 @@ pub mod Follows
 pub mod Unique
 pub mod Laws
 pub mod Sizes
+pub mod Places

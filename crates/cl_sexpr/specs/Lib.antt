@@ -11,3 +11,4 @@ pub mod Text
 pub mod Lexed
 pub mod Progress
 pub mod Advances
+pub mod Placed

@@ -5,6 +5,7 @@ mod bracket;
 mod bytes;
 mod leaf;
 mod lexer;
+mod order;
 mod quote;
 mod reader;
 mod reading;
@@ -14,6 +15,7 @@ mod sexpr;
 #[cfg(test)]
 mod tests;
 
+pub use order::items_stand_in_order;
 pub use reader::{MOST_BYTES, one_reading, read};
 pub use rule::{Break, Refusal, Rule};
 pub use run::{are_digits, value_of};

@@ -1,4 +1,4 @@
-use Rattle.std.proofs.Common.{◌≡◌, sym, subst}
+use Rattle.std.proofs.Common.{sym, subst}
 use Rattle.cl_types.specs.Fault.{IsRefusal}
 use Rattle.cl_types.specs.declared.fault.Fault.{Fault}
 use Rattle.cl_sexpr.specs.declared.rule.Break.{Break}

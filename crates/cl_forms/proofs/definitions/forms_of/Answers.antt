@@ -1,4 +1,4 @@
-use Rattle.std.proofs.Common.{◌≡◌, ◌∙◌, ap, ℕ, List, map}
+use Rattle.std.proofs.Common.{◌∙◌, ap, List, map}
 use Rattle.indexmap.specs.IndexMap.{get}
 use Rattle.cl_forms.specs.declared.entry.Entry.{Entry}
 use Rattle.cl_forms.specs.ItemView.{plain_item}

@@ -1,4 +1,4 @@
-use Rattle.std.proofs.Common.{◌≡◌, ◌∙◌, sym, ap, Some}
+use Rattle.std.proofs.Common.{◌∙◌, sym, ap, Some}
 use Rattle.cl_forms.specs.Shapes.{binding_of}
 use Rattle.cl_forms.specs.TypeRoom.{field_within}
 use Rattle.cl_forms.proofs.TypeSteps.{no_field, one_field, all_fields, no_part, one_part, all_parts}

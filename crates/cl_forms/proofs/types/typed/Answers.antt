@@ -1,4 +1,4 @@
-use Rattle.std.proofs.Common.{◌≡◌, ◌∙◌, sym, ap, option_map}
+use Rattle.std.proofs.Common.{◌∙◌, sym, ap, option_map}
 use Rattle.cl_forms.specs.WrittenTypes.{written_type}
 use Rattle.cl_forms.proofs.Typed.{typed_more}
 use Rattle.cl_forms.proofs.types.typed.Goals as goal
