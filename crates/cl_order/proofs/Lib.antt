@@ -4,3 +4,10 @@ pub mod Visits
 pub mod Good
 pub mod Rings
 pub mod Apart
+pub mod Walks
+pub mod Indexed
+pub mod Sorted
+pub mod Going
+pub mod States
+pub mod Stepping
+pub mod Refused

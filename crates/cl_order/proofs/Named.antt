@@ -21,12 +21,12 @@ below_there (y ∷ ys) zero h = (y, refl)
 below_there (y ∷ ys) (suc n) h = below_there ys n (omega arith)
 
 -- a form with a name among these at a place
-record Placed (xs : List (List ℕ)) (fs : List Form) (k m : ℕ) : Type 0 where
-  turn : ℕ
-  form : Form
-  at : m ≡ k + turn
-  there : slice_get fs turn ≡ Some form
-  among : is_among xs form.name ≡ true
+pub record Placed (xs : List (List ℕ)) (fs : List Form) (k m : ℕ) : Type 0 where
+  pub turn : ℕ
+  pub form : Form
+  pub at : m ≡ k + turn
+  pub there : slice_get fs turn ≡ Some form
+  pub among : is_among xs form.name ≡ true
 
 chosen : (b : Bool) (k m : ℕ) (rest : List ℕ) → is_in m (if b then k ∷ rest else rest) ≡ true → ((b ≡ true) × (m ≡ k)) ⊎ (is_in m rest ≡ true)
 chosen true k m rest h = elim (or_cases (nat_eq m k) (is_in m rest) h) [ inl e ↦ inl (refl, eqb-true m k e) | inr e ↦ inr e ]
@@ -43,7 +43,7 @@ chosen_later false k m rest h = h
 placed_later : (xs : List (List ℕ)) (f : Form) (fs : List Form) (k m : ℕ) → Placed xs fs (k + 1) m → Placed xs (f ∷ fs) k m
 placed_later xs f fs k m p = record { turn = suc p.turn; form = p.form; at = let e : m ≡ (k + 1) + p.turn = p.at in omega arith; there = p.there; among = p.among }
 
-placed : (xs : List (List ℕ)) (fs : List Form) (k m : ℕ) → is_in m (places_from k xs fs) ≡ true → Placed xs fs k m
+pub placed : (xs : List (List ℕ)) (fs : List Form) (k m : ℕ) → is_in m (places_from k xs fs) ≡ true → Placed xs fs k m
 placed xs [] k m h = absurd (false≢true h)
 placed xs (f ∷ fs) k m h =
     elim (chosen (is_among xs f.name) k m (places_from (k + 1) xs fs) h) [
@@ -51,7 +51,7 @@ placed xs (f ∷ fs) k m h =
       | inr e ↦ placed_later xs f fs k m (placed xs fs (k + 1) m e)
     ]
 
-placed_in : (xs : List (List ℕ)) (fs : List Form) (k i : ℕ) (g : Form) → slice_get fs i ≡ Some g → is_among xs g.name ≡ true → is_in (k + i) (places_from k xs fs) ≡ true
+pub placed_in : (xs : List (List ℕ)) (fs : List Form) (k i : ℕ) (g : Form) → slice_get fs i ≡ Some g → is_among xs g.name ≡ true → is_in (k + i) (places_from k xs fs) ≡ true
 placed_in xs [] k i g there among = cc
 placed_in xs (f ∷ fs) k zero g there among =
     let same : g ≡ f = cc in

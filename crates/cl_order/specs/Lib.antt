@@ -1,1 +1,3 @@
-pub mod Cycle
+pub mod Index
+pub mod Naming
+pub mod Search

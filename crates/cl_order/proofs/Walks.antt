@@ -1,0 +1,54 @@
+-- What a walk through an expression finds.
+use Rattle.std.proofs.Common.{◌≡◌, refl, sym, ap, ◌∙◌, ℕ, suc, List, [], ◌∷◌, ◌++◌, length, append_assoc, arith, ◌==◌, ne_eqb, flat_map, OnOk, Result, Ok, Err, Some, None}
+use Rattle.std.proofs.lemmas.Grind.{flat_map-append}
+use Rattle.cl_sexpr.specs.Tree.{Tree, LeafAt, ListAt, TupleAt, Named, Signed, Unsigned, Bytes, Ascii, Unicode, Standing, Local, Forest, Then, forest}
+use Rattle.cl_forms.specs.Items.{atom_of}
+use Rattle.cl_forms.specs.Names.{Place, Plain, place_behind, is_one, first_at, atoms_in, atoms_of_list, atoms_of}
+
+pub one_behind : (ts : List Tree) → is_one (forest ts) ≡ (length ts == 1)
+one_behind [] = refl
+one_behind (t ∷ []) = refl
+one_behind (t ∷ u ∷ ts) = let n : ℕ = length ts in sym (ne_eqb (suc (suc n)) 1 (λ e. let two : suc (suc n) ≡ 1 = e in absurd (omega arith)))
+
+named_first : (place : Place) (e : Tree) (es : Forest) (x : List ℕ) → Some x ≡ atom_of e → atoms_of_list place (Then e es) ≡ first_at place (is_one es) x ++ atoms_of (place_behind x) es
+named_first place (LeafAt (Named y) at) es x is = let same : y ≡ x = cc in ap (λ (z : List ℕ). first_at place (is_one es) z ++ atoms_of (place_behind z) es) same
+named_first place (LeafAt (Signed z) at) es x is = cc
+named_first place (LeafAt (Unsigned z) at) es x is = cc
+named_first place (LeafAt (Bytes z) at) es x is = cc
+named_first place (LeafAt (Ascii z) at) es x is = cc
+named_first place (LeafAt (Unicode z) at) es x is = cc
+named_first place (LeafAt (Standing z) at) es x is = cc
+named_first place (LeafAt (Local z) at) es x is = cc
+named_first place (ListAt items at) es x is = cc
+named_first place (TupleAt parts at) es x is = cc
+
+other_first : (place : Place) (e : Tree) (es : Forest) → None ≡ atom_of e → atoms_of_list place (Then e es) ≡ atoms_in Plain e ++ atoms_of Plain es
+other_first place (LeafAt (Named y) at) es is = cc
+other_first place (LeafAt (Signed z) at) es is = refl
+other_first place (LeafAt (Unsigned z) at) es is = refl
+other_first place (LeafAt (Bytes z) at) es is = refl
+other_first place (LeafAt (Ascii z) at) es is = refl
+other_first place (LeafAt (Unicode z) at) es is = refl
+other_first place (LeafAt (Standing z) at) es is = refl
+other_first place (LeafAt (Local z) at) es is = refl
+other_first place (ListAt items at) es is = refl
+other_first place (TupleAt parts at) es is = refl
+
+module _ (f : List ℕ → List ℕ) where
+  -- one part is found, then another
+  found_both : (xs ys all : List (List ℕ)) (old mid new : List ℕ) → all ≡ xs ++ ys → mid ≡ old ++ flat_map f xs → new ≡ mid ++ flat_map f ys → new ≡ old ++ flat_map f all
+  found_both xs ys all old mid new is first rest =
+      rest ∙ ap (λ (l : List ℕ). l ++ flat_map f ys) first ∙ append_assoc old (flat_map f xs) (flat_map f ys)
+      ∙ ap (λ (l : List ℕ). old ++ l) (sym (flat_map-append f xs ys)) ∙ ap (λ (l : List (List ℕ)). old ++ flat_map f l) (sym is)
+
+  found_then : {E : Type 0} (r : Result Unit E) (xs ys all : List (List ℕ)) (old mid new : List ℕ) → all ≡ xs ++ ys → mid ≡ old ++ flat_map f xs → OnOk r (new ≡ mid ++ flat_map f ys) → OnOk r (new ≡ old ++ flat_map f all)
+  found_then (Ok u) xs ys all old mid new is first rest = found_both xs ys all old mid new is first rest
+  found_then (Err e) xs ys all old mid new is first rest = tt
+
+  pub walked_named : {E : Type 0} (r : Result Unit E) (place behind : Place) (items : List Tree) (e : Tree) (es : List Tree) (x : List ℕ) (count : ℕ) (old mid new : List ℕ) → items ≡ e ∷ es → Some x ≡ atom_of e → count ≡ length es → behind ≡ place_behind x → mid ≡ old ++ flat_map f (first_at place (count == 1) x) → OnOk r (new ≡ mid ++ flat_map f (atoms_of behind (forest es))) → OnOk r (new ≡ old ++ flat_map f (atoms_of_list place (forest items)))
+  walked_named r place behind items e es x count old mid new is named counted placed first rest =
+      found_then r (first_at place (count == 1) x) (atoms_of behind (forest es)) (atoms_of_list place (forest items)) old mid new
+      (ap (λ (l : List Tree). atoms_of_list place (forest l)) is ∙ named_first place e (forest es) x named
+      ∙ ap (λ b. first_at place b x ++ atoms_of (place_behind x) (forest es)) (one_behind es ∙ ap (λ (n : ℕ). n == 1) (sym counted))
+      ∙ ap (λ p. first_at place (count == 1) x ++ atoms_of p (forest es)) (sym placed))
+      first rest
