@@ -16,15 +16,15 @@ def run(path, words, status, answer):
     return usage.ru_utime + usage.ru_stime, usage.ru_maxrss / 1024
 
 
-def table(rows, words, status):
-    """A line for each row, which is a name, a text by its size, and what the answer holds; and for 64 KiB to 1 MiB."""
+def table(rows, words, status, sizes=tuple(2**power for power in range(16, 21))):
+    """A line for each row, which is a name, a text by its size, and what the answer holds; and for each size, 64 KiB to 1 MiB."""
     print(f"{'text':9} {'bytes':>9} {'seconds':>9} {'MiB':>7} {'ns/byte':>8}")
     with tempfile.TemporaryDirectory() as folder:
         path = os.path.join(folder, "long.clar")
         for name, text, answer in rows:
-            for power in range(16, 21):
+            for wanted in sizes:
                 with open(path, "w") as file:
-                    size = file.write(text(2**power))
+                    size = file.write(text(wanted))
                 runs = [run(path, words, status, answer) for _ in range(5)]
                 seconds = min(one[0] for one in runs)
                 memory = max(one[1] for one in runs)

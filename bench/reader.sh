@@ -1,6 +1,6 @@
 #!/usr/bin/env bash
-# Reads texts of 64 KiB to 1 MiB that hold every kind of token. Each breaks no rule of texts and isn't accepted yet, or breaks
-# one, so nothing but reading takes time. Flat nanoseconds a byte say that reading is linear. Run by hand; python3 measures.
+# Reads texts of 64 KiB to 1 MiB that hold every kind of token, and puts their forms in order. Each isn't accepted yet, or breaks
+# a rule, so nothing comes after that. Flat nanoseconds a byte say that it is linear. Run by hand; python3 measures.
 set -eu
 cd "$(dirname "$0")"
 ../clarity call ../examples/inc.clar add1 41 >/dev/null
@@ -8,7 +8,7 @@ PYTHONDONTWRITEBYTECODE=1 python3 - <<'PYTHON'
 from measure import table
 
 contract = """;; Moves tokens of the sender.
-(define-public (transfer (amount uint) (to principal) (memo (optional (buff 34))))
+(define-public (transfer-NUMBER (amount uint) (to principal) (memo (optional (buff 34))))
   (begin
     (asserts! (> amount u0) (err u3))
     (try! (ft-transfer? token amount tx-sender to))
@@ -19,12 +19,16 @@ contract = """;; Moves tokens of the sender.
 """
 
 
+def contracts(size):
+    return "".join(contract.replace("NUMBER", f"{i:05}") for i in range(size // (len(contract) - 1)))
+
+
 def row(part):
     return lambda size: part * (size // len(part))
 
 
 table([
-    ("contract", row(contract), "N0 NotYet"),
+    ("contract", contracts, "N0 NotYet"),
     ("names", row("a "), "N0 NotYet"),
     ("lists", row("()"), "N0 NotYet"),
     ("tuples", row("{a:1}"), "N0 NotYet"),

@@ -1,4 +1,5 @@
 pub mod Rows
+pub mod Sources
 pub mod Limits
 pub mod Sums
 pub mod Leaves

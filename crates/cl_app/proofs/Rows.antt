@@ -2,9 +2,10 @@
 use Rattle.std.proofs.Common.{◌≡◌, List, [], ◌∷◌, refl, ap, ◌==◌, length, false, arith, ◌<◌, ◌≤◌, ℕ}
 use Rattle.std.proofs.lemmas.Bool.Decides.{nat_tests}
 use Rattle.cl_sexpr.specs.Tree.{Tree, forest, forest_size}
-use Rattle.cl_app.specs.Items.{trees, is_empty}
+use Rattle.cl_forms.specs.Shapes.{trees_of}
+use Rattle.cl_app.specs.Items.{is_empty}
 
-pub trees_forest : (ts : List Tree) → trees (forest ts) ≡ ts
+pub trees_forest : (ts : List Tree) → trees_of (forest ts) ≡ ts
 trees_forest [] = refl
 trees_forest (t ∷ ts) = ap (λ us. t ∷ us) (trees_forest ts)
 

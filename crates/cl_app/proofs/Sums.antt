@@ -5,7 +5,8 @@ use Rattle.cl_shapes.specs.Limits.{Purse}
 use Rattle.cl_shapes.specs.declared.name.CostName.TheVariants.{Arith}
 use Rattle.cl_sexpr.specs.Tree.{Tree, Forest, Empty, Then, forest}
 use Rattle.cl_app.specs.Contract.{is_expression, is_sum, are_expressions}
-use Rattle.cl_app.specs.Items.{is_atom, trees}
+use Rattle.cl_forms.specs.Shapes.{trees_of}
+use Rattle.cl_app.specs.Items.{is_atom}
 use Rattle.cl_app.proofs.Rows.{trees_forest}
 use Rattle.cl_app.specs.Meaning.{Outcome, Gives, Aborts, Wrong, Meant, stop, charged, and_then, added, sum_form, means, list_means, all_mean}
 use Rattle.cl_app.specs.Cost.{Limited, Gave, AbortedBy, limited, ended}
@@ -80,8 +81,8 @@ list_sums names values [] first h long is = absurd (omega (arith, long))
 list_sums names values (head ∷ []) first h long is = absurd (omega (arith, long))
 list_sums names values (head ∷ part ∷ parts) first h long is =
     let plus : is_atom (codes "+") head ≡ true = and_right true (is_atom (codes "+") head) (and_left (true && is_atom (codes "+") head) (are_expressions names (Then part (forest parts))) h) in
-    let count : length (trees (forest (part ∷ parts))) ≡ length parts + 1 = omega (arith, ap length (trees_forest (part ∷ parts))) in
-    chosen (is_atom (codes "+") head) plus (sum_form (length (trees (forest (part ∷ parts)))) (all_mean names values (Then part (forest parts)))) (stop Wrong)
+    let count : length (trees_of (forest (part ∷ parts))) ≡ length parts + 1 = omega (arith, ap length (trees_forest (part ∷ parts))) in
+    chosen (is_atom (codes "+") head) plus (sum_form (length (trees_of (forest (part ∷ parts)))) (all_mean names values (Then part (forest parts)))) (stop Wrong)
     ∙ ap (λ n. sum_form n (all_mean names values (Then part (forest parts)))) count
     ∙ ap (λ t. sum_form (length parts + 1) (all_mean names values (Then t (forest parts)))) (sym is)
   where

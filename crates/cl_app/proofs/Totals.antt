@@ -5,7 +5,8 @@ use Rattle.cl_shapes.specs.Costs.{IsAtMost, plus, zero_cost}
 use Rattle.cl_shapes.specs.declared.cost.Cost5.{Cost5}
 use Rattle.cl_shapes.specs.declared.name.CostName.TheVariants.{Literal, Lookup, Call, Bind, Arith}
 use Rattle.cl_sexpr.specs.Tree.{Tree, Forest, Named, Signed, LeafAt, ListAt, Empty, Then}
-use Rattle.cl_app.specs.Items.{trees, is_atom}
+use Rattle.cl_forms.specs.Shapes.{trees_of}
+use Rattle.cl_app.specs.Items.{is_atom}
 use Rattle.cl_app.specs.Contract.{Function}
 use Rattle.cl_app.specs.Meaning.{Charge, Outcome, Gives, Aborts, Wrong, Meant, stop, charged, go_on, and_then, int_size, literal, looked_up, value_of, found, sum_of, sum_form, means, list_means, all_mean, bound_to, applied}
 use Rattle.cl_app.proofs.Bounds.{binds_cost}
@@ -105,7 +106,7 @@ mutual
   costs_list : (names : List (List ℕ)) (values : List ℤ) (items : Forest) → Costs (list_means names values items) (list_bound items)
   costs_list names values Empty = costs_stop Wrong zero_cost
   costs_list names values (Then head parts) =
-      costs_chosen (is_atom (codes "+") head) (sum_form (length (trees parts)) (all_mean names values parts)) (plus (bounds_of parts) (cost_of (Arith, length (trees parts)))) (costs_sum (length (trees parts)) (all_mean names values parts) (bounds_of parts) (costs_all names values parts))
+      costs_chosen (is_atom (codes "+") head) (sum_form (length (trees_of parts)) (all_mean names values parts)) (plus (bounds_of parts) (cost_of (Arith, length (trees_of parts)))) (costs_sum (length (trees_of parts)) (all_mean names values parts) (bounds_of parts) (costs_all names values parts))
 
   costs_all : (names : List (List ℕ)) (values : List ℤ) (parts : Forest) → Costs (all_mean names values parts) (bounds_of parts)
   costs_all names values Empty = costs_stop (Gives []) zero_cost

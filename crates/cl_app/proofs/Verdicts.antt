@@ -1,29 +1,15 @@
 -- Whether a source is accepted, by what the reader answers.
 use Rattle.std.proofs.Common.{◌≡◌, ℕ, List, length, refl, sym, ap, subst, ◌∙◌}
 use Rattle.std.specs.Prelude.{Option, Some, None}
-use Rattle.cl_sexpr.specs.Tree.{Tree, Forest, forest}
-use Rattle.cl_sexpr.specs.Text.{Reads, Breaks}
-use Rattle.cl_sexpr.specs.declared.rule.Break.{Break}
+use Rattle.cl_forms.specs.Forms.{Form}
+use Rattle.cl_rules.specs.Acceptance.{Ordered}
+use Rattle.cl_rules.specs.Laws.{OneOrder, OrderedIsClean, OneFirstUnordered}
 use Rattle.cl_app.specs.Refusals.{SourceRefusal, IsRefused}
 use Rattle.cl_text.specs.Parsed.{Outcome, Parses}
-use Rattle.cl_app.specs.Items.{trees}
 use Rattle.cl_app.specs.Contract.{Function, function_in}
 use Rattle.cl_values.specs.Tree.{Tree as Value}
 use Rattle.cl_app.specs.Spelling.{Answer}
 use Rattle.cl_app.specs.Answer.{called_answer, Verdict, Accepted, NotYet, NotAccepted, IsVerdict, verdict_of, IsReport, IsReportOf}
-use Rattle.cl_app.proofs.Rows.{trees_forest}
-
--- a text has one list of items
-abbrev pub ReadsOnce : Type 0
-ReadsOnce = (bytes : List ℕ) (a b : Forest) → Reads bytes a → Reads bytes b → a ≡ b
-
--- a text that is read breaks no rule
-abbrev pub ReadsOrBreaks : Type 0
-ReadsOrBreaks = (bytes : List ℕ) (a : Forest) (r : Break) → Reads bytes a → Breaks bytes r → ⊥
-
--- a text has one first break
-abbrev pub BreaksOnce : Type 0
-BreaksOnce = (bytes : List ℕ) (r s : Break) → Breaks bytes r → Breaks bytes s → r ≡ s
 
 -- a text has one outcome as a literal
 abbrev pub ParsesOnce : Type 0
@@ -31,45 +17,50 @@ ParsesOnce = (text : List ℕ) (a b : Outcome) → Parses text a → Parses text
 
 -- the laws of reading
 pub record ReadingLaws : Type 0 where
-  pub once : ReadsOnce
-  pub either : ReadsOrBreaks
-  pub first : BreaksOnce
+  pub order : OneOrder
+  pub clean : OrderedIsClean
+  pub first : OneFirstUnordered
   pub outcome : ParsesOnce
 
-verdict_read : (source : List ℕ) (items : List Tree) (o : Option Function) → Reads source (forest items) → function_in items ≡ o → IsVerdict source (verdict_of o)
-verdict_read source items None reads is = record { items = forest items; reads = reads; none = ap function_in (trees_forest items) ∙ is }
-verdict_read source items (Some f) reads is = record { items = forest items; reads = reads; is = ap function_in (trees_forest items) ∙ is }
+verdict_read : (source : List ℕ) (forms : List Form) (order : List ℕ) (o : Option Function) → Ordered source forms order → function_in forms ≡ o → IsVerdict source (verdict_of o)
+verdict_read source forms order None ordered is = record { forms = forms; order = order; ordered = ordered; none = is }
+verdict_read source forms order (Some f) ordered is = record { forms = forms; order = order; ordered = ordered; is = is }
 
-pub report_read : (source name : List ℕ) (args : List Value) (items : List Tree) (answer : Answer) → Reads source (forest items) → IsReportOf (verdict_of (function_in items)) (length source) name args answer → IsReport source name args answer
-report_read source name args items answer reads report =
-    record { verdict = verdict_of (function_in items); is_verdict = verdict_read source items (function_in items) reads refl; report = report }
+pub report_read : (source name : List ℕ) (args : List Value) (forms : List Form) (order : List ℕ) (answer : Answer) → Ordered source forms order → IsReportOf (verdict_of (function_in forms)) (length source) name args answer → IsReport source name args answer
+report_read source name args forms order answer ordered report =
+    record { verdict = verdict_of (function_in forms); is_verdict = verdict_read source forms order (function_in forms) ordered refl; report = report }
 
 pub report_refused : (source name : List ℕ) (args : List Value) (r : SourceRefusal) (answer : Answer) → IsRefused source r → IsReportOf (NotAccepted r) (length source) name args answer → IsReport source name args answer
 report_refused source name args r answer breaks report = record { verdict = NotAccepted r; is_verdict = breaks; report = report }
 
--- of items that are those of a text there is one function
-functions_same : ReadingLaws → (source : List ℕ) (a b : Forest) (o p : Option Function) → Reads source a → Reads source b → function_in (trees a) ≡ o → function_in (trees b) ≡ p → o ≡ p
-functions_same laws source a b o p r s h k = sym h ∙ ap (λ items. function_in (trees items)) (laws.once source a b r s) ∙ k
+-- of forms that are those of a text there is one function
+functions_same : ReadingLaws → (source : List ℕ) (f g : List Form) (o p : List ℕ) (a b : Option Function) → Ordered source f o → Ordered source g p → function_in f ≡ a → function_in g ≡ b → a ≡ b
+functions_same laws source f g o p a b x y h k = sym h ∙ ap function_in (laws.order source f g o p x y).0 ∙ k
 
 some_none : (f : Function) → ◌≡◌ {A = Option Function} (Some f) None → ⊥
 some_none f e = cc
 
-refusal_same : (r s : SourceRefusal) → ◌≡◌ {A = Break} (record { rule = r.rule; span = r.span }) (record { rule = s.rule; span = s.span }) → r.names ≡ s.names → r ≡ s
-refusal_same r s e n i = record { rule = (e i).rule; span = (e i).span; names = n i }
+refusal_same : (r s : SourceRefusal) → r.rule ≡ s.rule → r.span ≡ s.span → r.names ≡ s.names → r ≡ s
+refusal_same r s e f n i = record { rule = e i; span = f i; names = n i }
+
+refused_once : ReadingLaws → (source : List ℕ) (r s : SourceRefusal) → IsRefused source r → IsRefused source s → r ≡ s
+refused_once laws source r s p q =
+    let same = laws.first source r.rule s.rule r.span s.span r.names s.names p q in
+    refusal_same r s same.0 same.1 same.2
 
 verdicts_same : ReadingLaws → (source : List ℕ) (v w : Verdict) → IsVerdict source v → IsVerdict source w → v ≡ w
 verdicts_same laws source (Accepted f) (Accepted g) p q =
-    let same : Some f ≡ Some g = functions_same laws source p.items q.items (Some f) (Some g) p.reads q.reads p.is q.is in
+    let same : Some f ≡ Some g = functions_same laws source p.forms q.forms p.order q.order (Some f) (Some g) p.ordered q.ordered p.is q.is in
     let function : f ≡ g = cc in
     ap (λ h. Accepted h) function
-verdicts_same laws source (Accepted f) NotYet p q = absurd (some_none f (functions_same laws source p.items q.items (Some f) None p.reads q.reads p.is q.none))
-verdicts_same laws source NotYet (Accepted g) p q = absurd (some_none g (functions_same laws source q.items p.items (Some g) None q.reads p.reads q.is p.none))
+verdicts_same laws source (Accepted f) NotYet p q = absurd (some_none f (functions_same laws source p.forms q.forms p.order q.order (Some f) None p.ordered q.ordered p.is q.none))
+verdicts_same laws source NotYet (Accepted g) p q = absurd (some_none g (functions_same laws source q.forms p.forms q.order p.order (Some g) None q.ordered p.ordered q.is p.none))
 verdicts_same laws source NotYet NotYet p q = refl
-verdicts_same laws source (NotAccepted r) (NotAccepted s) p q = ap (λ t. NotAccepted t) (refusal_same r s (laws.first source (record { rule = r.rule; span = r.span }) (record { rule = s.rule; span = s.span }) p.0 q.0) (p.1 ∙ sym q.1))
-verdicts_same laws source (Accepted f) (NotAccepted s) p q = absurd (laws.either source p.items (record { rule = s.rule; span = s.span }) p.reads q.0)
-verdicts_same laws source (NotAccepted r) (Accepted g) p q = absurd (laws.either source q.items (record { rule = r.rule; span = r.span }) q.reads p.0)
-verdicts_same laws source NotYet (NotAccepted s) p q = absurd (laws.either source p.items (record { rule = s.rule; span = s.span }) p.reads q.0)
-verdicts_same laws source (NotAccepted r) NotYet p q = absurd (laws.either source q.items (record { rule = r.rule; span = r.span }) q.reads p.0)
+verdicts_same laws source (NotAccepted r) (NotAccepted s) p q = ap (λ t. NotAccepted t) (refused_once laws source r s p q)
+verdicts_same laws source (Accepted f) (NotAccepted s) p q = absurd (laws.clean source p.forms p.order s.rule s.span s.names p.ordered q)
+verdicts_same laws source (NotAccepted r) (Accepted g) p q = absurd (laws.clean source q.forms q.order r.rule r.span r.names q.ordered p)
+verdicts_same laws source NotYet (NotAccepted s) p q = absurd (laws.clean source p.forms p.order s.rule s.span s.names p.ordered q)
+verdicts_same laws source (NotAccepted r) NotYet p q = absurd (laws.clean source q.forms q.order r.rule r.span r.names q.ordered p)
 
 reports_same : (v : Verdict) (count : ℕ) (name : List ℕ) (args : List Value) (a b : Answer) → IsReportOf v count name args a → IsReportOf v count name args b → a ≡ b
 reports_same (Accepted f) count name args a b p q =

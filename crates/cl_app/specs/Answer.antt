@@ -27,7 +27,7 @@ long_file_answer name = record { bytes = codes "bad file " ++ (name ++ codes " T
 abbrev pub refused_source_answer : SourceRefusal → Answer
 refused_source_answer r = record { bytes = refused_text r; status = 6 }
 
--- a source that is read, and isn't accepted yet
+-- a source with forms in an order, which isn't accepted yet
 abbrev pub not_yet_answer : Answer
 not_yet_answer = record { bytes = not_yet_text; status = 6 }
 
@@ -41,7 +41,7 @@ status_of (Refused refusal) = 7
 abbrev pub called_answer : ℕ → Function → List ℕ → CallResult → Answer
 called_answer count f name result = record { bytes = deployment_text count f ++ call_text name result; status = status_of result.outcome }
 
--- what is said of a source: it is accepted, with its function; it is read, and isn't accepted yet; or it is refused
+-- what is said of a source: it is accepted, with its function; it has forms in an order, and isn't accepted yet; or it is refused
 pub data Verdict : Type 0 where
   Accepted : Function → Verdict
   NotYet : Verdict
@@ -52,7 +52,7 @@ IsVerdict source (Accepted f) = IsContract source f
 IsVerdict source NotYet = IsNotYet source
 IsVerdict source (NotAccepted r) = IsRefused source r
 
--- what is said of a source that is read, by the function of its items
+-- what is said of a source with forms in an order, by their one function
 abbrev pub verdict_of : Option Function → Verdict
 verdict_of None = NotYet
 verdict_of (Some f) = Accepted f

@@ -8,7 +8,7 @@ use Rattle.cl_shapes.specs.declared.cost.Cost5.{Cost5}
 use Rattle.cl_shapes.specs.declared.limit.Over.{Over}
 use Rattle.cl_shapes.specs.declared.name.CostName.TheVariants.{Literal, Lookup, Call, Bind, Arith, Deploy, Define}
 use Rattle.cl_sexpr.specs.Tree.{Tree, Forest, LeafAt, ListAt, Empty, Then, Named, Signed}
-use Rattle.cl_app.specs.Items.{trees}
+use Rattle.cl_forms.specs.Shapes.{trees_of}
 use Rattle.cl_app.specs.Contract.{Function}
 use Rattle.cl_app.specs.Meaning.{Charge, Outcome, Gives, Aborts, Wrong, Meant, int_size}
 use Rattle.cl_app.specs.declared.evaluate.Abort.{Abort}
@@ -75,7 +75,7 @@ abbrev mutual
 
   pub list_bound : Forest → Cost5
   list_bound Empty = zero_cost
-  list_bound (Then head parts) = plus (bounds_of parts) (cost_of (Arith, length (trees parts)))
+  list_bound (Then head parts) = plus (bounds_of parts) (cost_of (Arith, length (trees_of parts)))
 
   pub bounds_of : Forest → Cost5
   bounds_of Empty = zero_cost

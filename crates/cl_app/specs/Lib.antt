@@ -1,5 +1,4 @@
 pub mod Items
-pub mod Reserved
 pub mod Contract
 pub mod Meaning
 pub mod Cost

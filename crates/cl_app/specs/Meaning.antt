@@ -4,7 +4,8 @@ use Rattle.std.specs.Cmp.Lexicographic.{pointwise}
 use Rattle.cl_shapes.specs.declared.name.CostName.{CostName}
 use Rattle.cl_shapes.specs.declared.name.CostName.TheVariants.{Literal, Lookup, Call, Bind, Arith}
 use Rattle.cl_sexpr.specs.Tree.{Tree, Forest, Named, Signed, LeafAt, ListAt, Empty, Then}
-use Rattle.cl_app.specs.Items.{is_atom, trees}
+use Rattle.cl_forms.specs.Shapes.{trees_of}
+use Rattle.cl_app.specs.Items.{is_atom}
 use Rattle.cl_app.specs.Contract.{Function}
 use Rattle.cl_app.specs.declared.evaluate.Abort.{Abort}
 use Rattle.cl_app.specs.declared.evaluate.Abort.TheVariants.{Overflow, Underflow}
@@ -88,7 +89,7 @@ abbrev mutual
 
   pub list_means : List (List ℕ) → List ℤ → Forest → Meant ℤ
   list_means names values Empty = stop Wrong
-  list_means names values (Then head parts) = if is_atom (codes "+") head then sum_form (length (trees parts)) (all_mean names values parts) else stop Wrong
+  list_means names values (Then head parts) = if is_atom (codes "+") head then sum_form (length (trees_of parts)) (all_mean names values parts) else stop Wrong
 
   -- parts from the left
   pub all_mean : List (List ℕ) → List ℤ → Forest → Meant (List ℤ)

@@ -1,12 +1,12 @@
 -- Why a source is refused, and how that prints.
-use Rattle.std.specs.Prelude.{◌≡◌, ℕ, List, [], ◌∷◌, ◌++◌, codes, decimal}
+use Rattle.std.specs.Prelude.{ℕ, List, [], ◌∷◌, ◌++◌, codes, decimal}
 use Rattle.cl_shapes.specs.Costs.{dimension_name}
 use Rattle.cl_sexpr.specs.Rules.{rule_text}
-use Rattle.cl_sexpr.specs.Text.{Breaks}
 use Rattle.cl_sexpr.specs.declared.sexpr.Span.{Span}
 use Rattle.cl_sexpr.specs.declared.rule.Rule.{Rule}
 use Rattle.cl_sexpr.specs.declared.rule.Rule.TheVariants.{BoundTooLarge}
 use Rattle.cl_sexpr.specs.declared.rule.Refusal.{Refusal}
+use Rattle.cl_rules.specs.Acceptance.{FirstUnordered}
 
 -- the rule that a source breaks first, where, and the names of the definitions of a cycle
 pub record SourceRefusal : Type 0 where
@@ -17,9 +17,9 @@ pub record SourceRefusal : Type 0 where
 abbrev pub refusal_seen : Refusal → SourceRefusal
 refusal_seen r = record { rule = r.rule; span = r.span; names = r.names.items }
 
--- the source breaks a rule of texts, and this is the first
+-- the source breaks a rule of texts, of forms or of their order, and this is the first
 abbrev pub IsRefused : List ℕ → SourceRefusal → Type 0
-IsRefused source r = Breaks source (record { rule = r.rule; span = r.span }) × (r.names ≡ [])
+IsRefused source r = FirstUnordered source r.rule r.span r.names
 
 -- names, each behind a space
 abbrev pub names_text : List (List ℕ) → List ℕ

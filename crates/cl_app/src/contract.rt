@@ -1,14 +1,14 @@
 //! The one function of a text.
 ghost use Rattle.std.specs.Prelude.{◌≡◌, [], IfOk};
-ghost use Rattle.std.specs.Option.{option_map};
-ghost use Rattle.cl_app.specs.Contract.{parameter_of, is_free, parameters_from, with_name, with_signature, definition_in, function_in};
+ghost use Rattle.std.specs.Option.{option_map, option_and_then};
+ghost use Rattle.cl_forms.specs.FormView.{plain_kind};
+ghost use Rattle.cl_app.specs.Contract.{is_int, names_from, with_body, function_of, function_by, function_in};
 ghost use Rattle.cl_app.specs.Seen.{function_seen};
 
 use crate::expression::is_expression;
-use crate::items::{atom, is_atom, parts};
-use crate::reserved::is_reserved;
+use cl_forms::{Form, FormKind};
 use cl_sexpr::Sexpr;
-use cl_types::Name;
+use cl_types::{Access, Name, SizedTy, TyKind};
 use indexmap::IndexSet;
 use std::alloc::{AllocError, Global};
 
@@ -20,62 +20,39 @@ pub(crate) struct Function<'a> {
     pub(crate) body: &'a Sexpr,
 }
 
-/// The name of a parameter, `(name int)`.
-fn parameter(item: &Sexpr) -> Option<Name>
-    ensures { result ≡ parameter_of item.now }
+fn is_int(t: &SizedTy) -> bool
+    ensures { result ≡ is_int t.now }
 {
-    match parts(item)? {
-        [name, kind] => {
-            if is_atom(kind, "int") {
-                atom(name)
-            } else {
-                None
-            }
-        }
-        _ => None,
-    }
+    matches!(t.ty().kind, TyKind::Int)
 }
 
-/// Whether one more parameter of a function may have this name.
-fn is_free(function: &Name, names: &IndexSet<Name>, name: &Name) -> bool
-    ensures { result ≡ is_free function.now names.now.keys name.now }
-{
-    !is_reserved(name.bytes()) && !(name == function) && !names.contains(name)
-}
-
-/// The names of the parameters, or none where an item is no parameter or its name isn't free.
-fn parameters(
-    alloc: Global,
-    function: &Name,
-    items: &[Sexpr],
-) -> Result<Option<IndexSet<Name>>, AllocError>
-    ensures { IfOk result (λ names. option_map (λ names. names.keys) names ≡ parameters_from function.now [] items.now) }
+/// The names of the parameters, or none where one isn't an int, or has the name of another.
+fn names(alloc: Global, params: &[(Name, SizedTy)]) -> Result<Option<IndexSet<Name>>, AllocError>
+    ensures { IfOk result (λ names. option_map (λ names. names.keys) names ≡ names_from [] params.now) }
 {
     let mut names = IndexSet::new(alloc);
-    for item in items {
-        let Some(name) = parameter(item) else {
-            return Ok(None);
-        };
-        if !is_free(function, &names, &name) {
+    for (name, t) in params {
+        if !is_int(t) {
             return Ok(None);
         }
-        names.insert(name)?;
+        if names.contains(name) {
+            return Ok(None);
+        }
+        names.insert(*name)?;
     }
     Ok(Some(names))
 }
 
-fn with_name<'a>(
+/// The function, where it is one of ints.
+fn of_ints<'a>(
     alloc: Global,
-    items: &[Sexpr],
-    body: &'a Sexpr,
     name: Name,
+    params: &[(Name, SizedTy)],
+    body: &'a Sexpr,
 ) -> Result<Option<Function<'a>>, AllocError>
-    ensures { IfOk result (λ f. option_map function_seen f ≡ with_name items.now body.now name) }
+    ensures { IfOk result (λ f. option_map function_seen f ≡ option_and_then (with_body name body.now) (names_from [] params.now)) }
 {
-    if is_reserved(name.bytes()) {
-        return Ok(None);
-    }
-    let Some(parameters) = parameters(alloc, &name, items)? else {
+    let Some(parameters) = names(alloc, params)? else {
         return Ok(None);
     };
     if !is_expression(&parameters, body) {
@@ -88,51 +65,41 @@ fn with_name<'a>(
     }))
 }
 
-fn with_signature<'a>(
+fn function_of<'a>(
     alloc: Global,
-    body: &'a Sexpr,
-    signature: &[Sexpr],
+    kind: &'a FormKind,
+    name: Name,
 ) -> Result<Option<Function<'a>>, AllocError>
-    ensures { IfOk result (λ f. option_map function_seen f ≡ with_signature body.now signature.now) }
+    ensures { IfOk result (λ f. option_map function_seen f ≡ function_of (plain_kind kind.now) name) }
 {
-    let Some((name, items)) = signature.split_first() else {
-        return Ok(None);
-    };
-    match atom(name) {
-        Some(name) => with_name(alloc, items, body, name),
-        None => Ok(None),
-    }
-}
-
-fn definition<'a>(alloc: Global, items: &'a [Sexpr]) -> Result<Option<Function<'a>>, AllocError>
-    ensures { IfOk result (λ f. option_map function_seen f ≡ definition_in items.now) }
-{
-    match items {
-        [word, signature, body] => {
-            if !is_atom(word, "define-read-only") {
-                return Ok(None);
-            }
-            match parts(signature) {
-                Some(signature) => with_signature(alloc, body, signature),
-                None => Ok(None),
-            }
-        }
+    match kind {
+        FormKind::Function {
+            access: Access::ReadOnly,
+            params,
+            body,
+        } => of_ints(alloc, name, params, body),
         _ => Ok(None),
     }
 }
 
-/// The function that the items define, where they are one such definition.
+fn function_by<'a>(alloc: Global, form: &'a Form) -> Result<Option<Function<'a>>, AllocError>
+    ensures { IfOk result (λ f. option_map function_seen f ≡ function_by form.now) }
+{
+    match &form.name {
+        Some(name) => function_of(alloc, &form.kind, *name),
+        None => Ok(None),
+    }
+}
+
+/// The function that the forms define, where they are one such definition.
 pub(crate) fn function_in<'a>(
     alloc: Global,
-    items: &'a [Sexpr],
+    forms: &'a [Form],
 ) -> Result<Option<Function<'a>>, AllocError>
-    ensures { IfOk result (λ f. option_map function_seen f ≡ function_in items.now) }
+    ensures { IfOk result (λ f. option_map function_seen f ≡ function_in forms.now) }
 {
-    match items {
-        [item] => match parts(item) {
-            Some(items) => definition(alloc, items),
-            None => Ok(None),
-        },
+    match forms {
+        [form] => function_by(alloc, form),
         _ => Ok(None),
     }
 }

@@ -14,7 +14,7 @@ mod pieces;
 mod refusal;
 mod reply;
 mod report;
-mod reserved;
+mod source;
 mod spelling;
 #[cfg(test)]
 mod tests;

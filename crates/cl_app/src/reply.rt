@@ -1,7 +1,7 @@
 //! The reply to a command: the pieces that are written, and the status.
 ghost use Rattle.std.specs.Prelude.{◌≡◌, ◌≢◌, ◌↔◌, ◌<◌, ◌^◌, ◌++◌, ◌∷◌, [], None, Some, IfOk, IfErr, string_bytes};
 ghost use Rattle.cl_ports.specs.Growth.{GrowsPart};
-ghost use Rattle.cl_sexpr.specs.Tree.{forest, forest_size};
+ghost use Rattle.cl_forms.specs.Weights.{weight_of_forms};
 ghost use Rattle.cl_app.specs.Contract.{IsCallable, function_in};
 ghost use Rattle.cl_app.specs.Seen.{function_seen};
 ghost use Rattle.cl_app.specs.Cost.{function_bound};
@@ -19,10 +19,13 @@ use crate::contract::{Function, function_in};
 use crate::pieces::{Reply, Stop, fixed_line, joined, one_piece, two_pieces, whole_piece};
 use crate::refusal::refusal_text;
 use crate::report::{call_text, deployment_back, deployment_front};
+use crate::source::ordered_forms;
 use crate::spelling::{no_value, value_reply, wire_reply};
 use crate::words::{Command, taken};
+use cl_forms::Form;
 use cl_ports::{Files, ReadRefusal};
-use cl_sexpr::{Refusal, Sexpr, one_reading, read};
+use cl_rules::texts_have_one_order;
+use cl_sexpr::Refusal;
 use cl_text::one_outcome;
 use cl_types::{Fault, NoMemory};
 use cl_values::Val;
@@ -62,7 +65,7 @@ fn refused_source(alloc: Global, refusal: &Refusal) -> Result<Reply, AllocError>
     whole_piece(alloc, refused_text(alloc, refusal)?, 6)
 }
 
-/// The reply to a source that is read, and isn't accepted yet.
+/// The reply to a source with forms in an order, which isn't accepted yet.
 fn not_yet(alloc: Global) -> Result<Reply, AllocError>
     ensures { IfOk result (λ reply. answer_of reply ≡ not_yet_answer) }
 {
@@ -111,19 +114,19 @@ fn called(
     two_pieces(alloc, deployed, line, status_of(ended.outcome))
 }
 
-/// The report of the items of a text of `count` bytes.
-fn items_report(
+/// The report of the forms of a text of `count` bytes.
+fn forms_report(
     alloc: Global,
     count: usize,
-    items: &[Sexpr],
+    forms: &[Form],
     name: &str,
     values: &[Val],
 ) -> Result<Reply, AllocError>
-    requires { forest_size (forest items.now) < 2 ^ 32 }
-    ensures answer { IfOk result (λ reply. IsReportOf (verdict_of (function_in items.now)) count name.now values.now (answer_of reply)) }
+    requires { weight_of_forms forms.now < 2 ^ 32 }
+    ensures answer { IfOk result (λ reply. IsReportOf (verdict_of (function_in forms.now)) count name.now values.now (answer_of reply)) }
     ensures status { IfOk result (λ reply. IsOwnStatus reply.status × (reply.status ≢ 2)) }
 {
-    match function_in(alloc, items) {
+    match function_in(alloc, forms) {
         Ok(Some(function)) => called(alloc, count, &function, name, values),
         Ok(None) => not_yet(alloc),
         Err(error) => Err(error),
@@ -135,9 +138,8 @@ fn report(alloc: Global, source: &[u8], name: &str, values: &[Val]) -> Result<Re
     ensures answer { IfOk result (λ reply. IsReport source.now name.now values.now (answer_of reply)) }
     ensures status { IfOk result (λ reply. IsOwnStatus reply.status × (reply.status ≢ 2)) }
 {
-    one_reading();
-    match read(alloc, source) {
-        Ok(items) => Ok(items_report(alloc, source.len(), &items, name, values)?),
+    match ordered_forms(alloc, source) {
+        Ok(forms) => Ok(forms_report(alloc, source.len(), &forms, name, values)?),
         Err(Fault::Refused(refusal)) => Ok(refused_source(alloc, &refusal)?),
         Err(Fault::NoMemory) => Err(NoMemory),
     }
@@ -177,7 +179,7 @@ fn call_reply<F: Files>(
     ensures cause { CountsStop (F.faults files.old) (F.faults files.new) result }
     ensures asked { AsksPart (Some (Call file.now name.now (texts args.now))) (F.held files.old) (F.asked files.old) (F.asked files.new) }
 {
-    one_reading();
+    texts_have_one_order();
     one_outcome();
     match values(alloc, args) {
         Ok(values) => file_reply(alloc, file, name, &values, files),

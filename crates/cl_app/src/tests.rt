@@ -10,6 +10,34 @@ const DEPLOYED: &str =
 
 const CALLED: &str = "1 call 'SP000000000000000000002Q6VF78.main ";
 
+const TOKEN: &str = r#";; token.clar
+(define-constant owner tx-sender)
+(define-constant err-owner (err u100))
+(define-constant err-sender (err u101))
+(define-fungible-token coin u1000000000000)
+(define-data-var uri (optional (string-utf8 256)) none)
+(define-read-only (get-name) (ok "Coin"))
+(define-read-only (get-symbol) (ok "CN"))
+(define-read-only (get-decimals) (ok u6))
+(define-read-only (get-balance (who principal)) (ok (ft-get-balance coin who)))
+(define-read-only (get-total-supply) (ok (ft-get-supply coin)))
+(define-read-only (get-token-uri) (ok (var-get uri)))
+(define-public (set-token-uri (value (string-utf8 256)))
+  (begin
+    (asserts! (is-eq tx-sender owner) err-owner)
+    (ok (var-set uri (some value)))))
+(define-public (mint (amount uint) (to principal))
+  (begin
+    (asserts! (is-eq tx-sender owner) err-owner)
+    (ft-mint? coin amount to)))
+(define-public (transfer (amount uint) (sender principal) (to principal) (memo (optional (buff 34))))
+  (begin
+    (asserts! (is-eq tx-sender sender) err-sender)
+    (try! (ft-transfer? coin amount sender to))
+    (match memo note (print note) 0x)
+    (ok true)))
+"#;
+
 const NOT_YET: &str =
     "0 deploy 'SP000000000000000000002Q6VF78.main refused E7 ContractRefused N0 NotYet 0..0\n";
 
@@ -168,26 +196,13 @@ fn sources_that_are_not_taken_yet(rt: HostRuntime) -> Result<(), Fail> {
         "x",
         "()",
         "(define-read-only (f) 1)(define-read-only (g) 1)",
+        "(define-private (a) (b))(define-private (b) 1)",
+        "(define-constant f 1)",
         "(define-public (f) 1)",
-        "(define-read-only f 1)",
-        "(define-read-only () 1)",
-        "(define-read-only (f) 1 2)",
-        "(define-read-only (f))",
-        "(define-read-only (1) 1)",
-        "(define-read-only (u1) 1)",
-        "(define-read-only (f (u1 int)) 1)",
+        "(define-private (f) 1)",
         "(define-read-only (f (x uint)) 1)",
-        "(define-read-only (f (x int int)) 1)",
-        "(define-read-only (f x) 1)",
-        "(define-read-only (f (x int) (x int)) 1)",
-        "(define-read-only (f (f int)) 1)",
-        "(define-read-only (+) 1)",
-        "(define-read-only (get) 1)",
-        "(define-read-only (hash160) 1)",
-        "(define-read-only (f (tx-sender int)) 1)",
-        "(define-read-only (f (define-map int)) 1)",
+        "(define-read-only (f (x int) (y {x: int})) 1)",
         "(define-read-only (f) y)",
-        "(define-read-only (f) f)",
         "(define-read-only (f) u1)",
         "(define-read-only (f) 0x01)",
         "(define-read-only (f) \"a\")",
@@ -199,6 +214,7 @@ fn sources_that_are_not_taken_yet(rt: HostRuntime) -> Result<(), Fail> {
         "(define-read-only (f) (+))",
         "(define-read-only (f) (- 1))",
         "(define-read-only (f) ((+) 1))",
+        TOKEN,
     ] {
         let ended = run(
             alloc,
@@ -213,7 +229,7 @@ fn sources_that_are_not_taken_yet(rt: HostRuntime) -> Result<(), Fail> {
     Ok(())
 }
 
-// The line of a source that breaks a rule of texts.
+// Whether this is the line of a source, with a rule and its span.
 fn is_broken(
     alloc: Global,
     source: &[u8],
@@ -263,6 +279,87 @@ fn sources_that_break_a_rule(rt: HostRuntime) -> Result<(), Fail> {
         let broken = is_broken(alloc, &INC[..count], "T4 Unclosed", open, open + 1)?;
         assert!(rt; broken, "{count}");
     }
+    Ok(())
+}
+
+#[test]
+fn sources_that_break_a_rule_of_forms(rt: HostRuntime) -> Result<(), Fail> {
+    let alloc = rt.alloc();
+    // The span is that of the one item.
+    for (source, rule) in [
+        ("(define-read-only f 1)", "F1 BadDefinition"),
+        ("(define-read-only () 1)", "F1 BadDefinition"),
+        ("(define-read-only (f) 1 2)", "F1 BadDefinition"),
+        ("(define-read-only (f))", "F1 BadDefinition"),
+        ("(define-read-only (1) 1)", "F1 BadDefinition"),
+        ("(define-read-only (u1) 1)", "F1 BadDefinition"),
+        ("(define-read-only (f (u1 int)) 1)", "F1 BadDefinition"),
+        ("(define-read-only (f (x int int)) 1)", "F1 BadDefinition"),
+        ("(define-read-only (f x) 1)", "F1 BadDefinition"),
+        ("(define-read-only (f (x integer)) 1)", "F2 BadType"),
+        ("(define-data-var v (buff 1048577) 0x)", "F2 BadType"),
+        ("(define-read-only (+) 1)", "F3 BadName"),
+        ("(define-read-only (get) 1)", "F3 BadName"),
+        ("(define-read-only (f (tx-sender int)) 1)", "F3 BadName"),
+        ("(define-read-only (f (define-map int)) 1)", "F3 BadName"),
+        ("hash160", "F4 NotInProfile"),
+        ("(define-read-only (f (x int) (x int)) 1)", "F5 NameUsed"),
+        ("(define-read-only (f (f int)) 1)", "F5 NameUsed"),
+    ] {
+        let broken = is_broken(alloc, source.as_bytes(), rule, 0, source.len())?;
+        assert!(rt; broken, "{source}");
+    }
+    let table: [(&[u8], &str, usize, usize); 7] = [
+        // Within an item, the name that is left out ends first.
+        (b"(define-read-only (hash160) 1)", "F4 NotInProfile", 19, 26),
+        // Of rules of texts, of forms and of their order the first phase counts.
+        (
+            b"(define-private (a) (a))(define-private (a) 1)",
+            "F5 NameUsed",
+            24,
+            46,
+        ),
+        (
+            b"(define-private (a) (a))(define-map 5",
+            "T4 Unclosed",
+            24,
+            25,
+        ),
+        (
+            b"(define-private (a) (b))(define-private (b) (c))(define-private (c) (a))",
+            "O1 Cycle",
+            0,
+            24,
+        ),
+        (b"1 (define-read-only (f) f)", "O1 Cycle", 2, 26),
+        (
+            b"(define-private (a) 1)(define-private (b) (c))(define-private (c) (b))",
+            "O1 Cycle",
+            22,
+            46,
+        ),
+        (b"(define-private (a) {a: (a)})", "O1 Cycle", 0, 29),
+    ];
+    let names = ["", "", "", " a b c", " f", " b c", " a"];
+    for ((source, rule, start, end), names) in table.into_iter().zip(names) {
+        let ended = run(alloc, &["call", "inc.clar", "f"], source, &[], &[])?;
+        let line = format!(in alloc;
+            "0 deploy 'SP000000000000000000002Q6VF78.main refused E7 ContractRefused {rule} {start}..{end}{names}\n"
+        )?;
+        assert_eq!(rt; ended.text.as_str(), line.as_str());
+        assert_eq!(rt; ended.status, 6);
+    }
+    Ok(())
+}
+
+#[test]
+fn names_that_are_left_out(rt: HostRuntime) -> Result<(), Fail> {
+    let alloc = rt.alloc();
+    let first = format!(in alloc; "(impl-trait .x)\n{TOKEN}")?;
+    assert!(rt; is_broken(alloc, first.as_bytes(), "F4 NotInProfile", 1, 11)?);
+    // A contract beside another is no token of a text.
+    let second = format!(in alloc; "(impl-trait .x.y)\n{TOKEN}")?;
+    assert!(rt; is_broken(alloc, second.as_bytes(), "T2 BadToken", 12, 16)?);
     Ok(())
 }
 

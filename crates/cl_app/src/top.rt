@@ -10,7 +10,7 @@ ghost use Rattle.cl_app.specs.Top.{Answers, AnswersPart, AsksPart};
 use crate::pieces::Stop;
 use crate::reply::reply_to;
 use cl_ports::{Failed, Files, Sink};
-use cl_sexpr::one_reading;
+use cl_rules::texts_have_one_order;
 use cl_text::one_outcome;
 use std::alloc::Global;
 
@@ -60,7 +60,7 @@ pub fn clarity<F: Files, K: Sink>(alloc: Global, words: &[String], files: &mut F
     ensures part { AnswersPart (taken (texts words.now)) (F.held files.old) (K.written out.old) (K.written out.new) }
     ensures asked { AsksPart (taken (texts words.now)) (F.held files.old) (F.asked files.old) (F.asked files.new) }
 {
-    one_reading();
+    texts_have_one_order();
     one_outcome();
     match reply_to(alloc, words, files) {
         Ok(reply) => {
