@@ -15,3 +15,4 @@ pub use key::Key;
 pub use laws::{acts_keep_ledgers, acts_move_amounts, transfers_keep_supply};
 pub use non_fungible::NonFungible;
 pub use refusal::TokenRefusal;
+pub use table::{Stored, Table};

@@ -11,7 +11,7 @@ use std::alloc::Global;
 use std::marker::Model;
 
 /// What a table can hold.
-pub(crate) trait Stored: Drop {
+pub trait Stored: Drop {
     /// A second, equal value.
     fn duplicate(&self) -> Result<Self, NoMemory>
         ensures { IfOk result (λ copy. copy ≡ self.now) };
@@ -31,7 +31,7 @@ impl Stored for Key {
 
 /// Values by key. A slot without a value is vacant: contracts don't see it, and a write to it takes no memory.
 #[derive(Drop)]
-pub(crate) struct Table<V> {
+pub struct Table<V> {
     slots: IndexMap<Key, Option<V>>,
 }
 
@@ -66,7 +66,8 @@ fn add_row<V: Stored>(rows: &mut Vec<(Key, V)>, key: &Key, slot: &Option<V>) -> 
 }
 
 impl<V: Stored> Table<V> {
-    pub(crate) fn new(alloc: Global) -> Table<V>
+    /// A table without slots.
+    pub fn new(alloc: Global) -> Table<V>
         ensures content { result.content ≡ empty }
         ensures room { result.room ≡ [] }
     {
@@ -75,7 +76,8 @@ impl<V: Stored> Table<V> {
         }
     }
 
-    pub(crate) fn get(&self, key: &Key) -> Option<&V>
+    /// The value under a key; None where there is none.
+    pub fn get(&self, key: &Key) -> Option<&V>
         ensures value { option_copied result ≡ get key.now self.now.content }
         ensures room { OnSome result (HasRoom self.now.room key.now) }
     {
@@ -86,7 +88,7 @@ impl<V: Stored> Table<V> {
     }
 
     /// Puts a value under a key, or takes it away; the key keeps its slot.
-    pub(crate) fn write(&mut self, key: &Key, value: Option<V>)
+    pub fn write(&mut self, key: &Key, value: Option<V>)
         requires { HasRoom self.old.room key.now }
         ensures content { self.new.content ≡ with_value key.now value self.old.content }
         ensures room { self.new.room ≡ self.old.room }
@@ -98,7 +100,7 @@ impl<V: Stored> Table<V> {
     }
 
     /// Makes a slot for a key that has none.
-    pub(crate) fn reserve(&mut self, key: Key) -> Result<(), NoMemory>
+    pub fn reserve(&mut self, key: Key) -> Result<(), NoMemory>
         ensures content { self.new.content ≡ self.old.content }
         ensures room { OnOk result (self.new.room ≡ with_room self.old.room key) }
         ensures refused { OnErr result (self.new.room ≡ self.old.room) }
@@ -112,8 +114,8 @@ impl<V: Stored> Table<V> {
         Ok(())
     }
 
-    /// The keys that have values, with these.
-    pub(crate) fn rows(&self) -> Result<Vec<(Key, V)>, NoMemory>
+    /// Each key that has a value once, with this.
+    pub fn rows(&self) -> Result<Vec<(Key, V)>, NoMemory>
         ensures { IfOk result (λ rows. IsPermutation rows.items self.now.content.list) }
     {
         let count = self.slots.len();
@@ -129,7 +131,8 @@ impl<V: Stored> Table<V> {
         Ok(rows)
     }
 
-    pub(crate) fn copy(&self) -> Result<Table<V>, NoMemory>
+    /// A second table with the same values and the same slots.
+    pub fn copy(&self) -> Result<Table<V>, NoMemory>
         ensures { IfOk result (λ copy. copy ≡ self.now) }
     {
         let count = self.slots.len();

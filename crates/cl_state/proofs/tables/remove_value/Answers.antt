@@ -1,0 +1,7 @@
+use Rattle.std.proofs.Common.{◌∙◌, ap, sym}
+use Rattle.std.specs.Prelude.{is_some}
+use Rattle.cl_maps.proofs.MapLaws.{without_absent}
+use Rattle.cl_state.proofs.tables.remove_value.Goals as goal
+
+pub returns-in_default-clause-content : goal.returns-in_default-clause-content
+returns-in_default-clause-content c = without_absent c.args.table.now.content c.args.key.now (sym c.in_default.ensures.value)

@@ -1,0 +1,16 @@
+use Rattle.std.proofs.Common.{◌∙◌, ap}
+use Rattle.std.specs.Prelude.{reverse}
+use Rattle.std.proofs.lemmas.Result.{on_ok_weaker}
+use Rattle.cl_maps.specs.Maps.{put}
+use Rattle.cl_events.specs.State.{place, with_variables}
+use Rattle.cl_state.specs.Stack.{with_top}
+use Rattle.cl_state.specs.Rows.{stack_of}
+use Rattle.cl_state.proofs.world.World.put_variable.Goals as goal
+
+pub returns-clause-done : goal.returns-clause-done
+returns-clause-done c =
+    let at = place c.args.at.now.contract c.args.at.now.name in
+    on_ok_weaker c.put_variable.result (λ done.
+    ap (λ t. stack_of t (reverse c.self.inside.below.items) c.self.inside.events.items c.self.inside.moves.items) done
+    ∙ ap (λ s. with_top s.stack (with_variables (put at c.args.value s.stack.top.variables) s.stack.top)) c.self.view_is)
+    c.put_variable.ensures.done

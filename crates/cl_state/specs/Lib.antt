@@ -1,0 +1,4 @@
+pub mod Stack
+pub mod Codes
+pub mod Holders
+pub mod Rows

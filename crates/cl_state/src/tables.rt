@@ -1,0 +1,162 @@
+//! What contracts keep in one state, in tables of its own.
+ghost use Rattle.std.specs.Prelude.{◌≡◌, IfOk, OnOk, OnErr, is_some, option_copied};
+ghost use Rattle.cl_maps.specs.Maps.{get, put, without};
+ghost use Rattle.cl_events.specs.State.{genesis, holder, holdings, or_as_before, place, spot, with_variables, with_entries};
+ghost use Rattle.cl_tokens.specs.Ledger.{minted};
+
+use crate::held::HeldValue;
+use crate::keys::{holder_key, place_key, spot_key};
+use crate::place::Place;
+use cl_c32::Principal;
+use cl_tokens::{Fungible, Key, Table};
+use cl_types::NoMemory;
+use cl_values::Val;
+use std::alloc::Global;
+use std::marker::Model;
+
+/// Variables, map entries and STX. Contracts see the state that has these, in which nothing was told and nothing was moved.
+#[derive(Drop)]
+pub(crate) struct Tables {
+    alloc: Global,
+    variables: Table<HeldValue>,
+    entries: Table<HeldValue>,
+    stx: Fungible,
+}
+
+impl Model for Tables {
+    ghost use Rattle.cl_events.specs.State.{State, empty_state, with_variables, with_entries, with_stx};
+    ghost use Rattle.cl_state.specs.Codes.{state_code};
+
+    ghost Value = { State };
+
+    ghost coded = { state_code };
+
+    ghost view = { λ t. with_variables t.variables.content (with_entries t.entries.content (with_stx t.stx.ledger empty_state)) };
+}
+
+// mints the STX that a holder has from the start, where that is more than 0
+fn pay(alloc: Global, stx: &mut Fungible, who: &Principal, amount: u128) -> Result<(), NoMemory>
+    ensures { OnOk result (stx.new.ledger ≡ or_as_before stx.old.ledger (minted amount (holder who.now) stx.old.ledger)) }
+{
+    let key = holder_key(alloc, who)?;
+    stx.reserve(key.copy()?)?;
+    match stx.mint(amount, &key) {
+        Ok(()) => {}
+        Err(_) => {}
+    }
+    Ok(())
+}
+
+fn paid(alloc: Global, holders: &[(Principal, u128)]) -> Result<Fungible, NoMemory>
+    ensures { IfOk result (λ stx. stx.ledger ≡ holdings holders.now) }
+{
+    let mut stx = Fungible::new(alloc, None);
+    let mut i = holders.len();
+    while i > 0 {
+        i -= 1;
+        let holder = &holders[i];
+        pay(alloc, &mut stx, &holder.0, holder.1)?;
+    }
+    Ok(stx)
+}
+
+impl Tables {
+    /// The first state of a node.
+    pub(crate) fn genesis(alloc: Global, holders: &[(Principal, u128)]) -> Result<Tables, NoMemory>
+        ensures { IfOk result (λ tables. tables ≡ genesis holders.now) }
+    {
+        Ok(Tables {
+            alloc,
+            variables: Table::new(alloc),
+            entries: Table::new(alloc),
+            stx: paid(alloc, holders)?,
+        })
+    }
+
+    pub(crate) fn copy(&self) -> Result<Tables, NoMemory>
+        ensures { IfOk result (λ copy. copy ≡ self.now) }
+    {
+        Ok(Tables {
+            alloc: self.alloc,
+            variables: self.variables.copy()?,
+            entries: self.entries.copy()?,
+            stx: self.stx.copy()?,
+        })
+    }
+
+    pub(crate) fn variable(&self, at: &Place) -> Result<Option<Val>, NoMemory>
+        ensures { IfOk result (λ found. found ≡ get (place at.now.contract at.now.name) self.now.variables) }
+    {
+        let key = place_key(self.alloc, at)?;
+        copy_found(self.variables.get(&key))
+    }
+
+    pub(crate) fn put_variable(&mut self, at: &Place, value: Val) -> Result<(), NoMemory>
+        ensures done { OnOk result (self.new ≡ with_variables (put (place at.now.contract at.now.name) value self.old.variables) self.old) }
+        ensures refused { OnErr result (self.new ≡ self.old) }
+    {
+        let key = place_key(self.alloc, at)?;
+        put_value(self.alloc, &mut self.variables, key, value)
+    }
+
+    pub(crate) fn entry(&self, at: &Place, key: &Val) -> Result<Option<Val>, NoMemory>
+        ensures { IfOk result (λ found. found ≡ get (spot at.now.contract at.now.name key.now) self.now.entries) }
+    {
+        let spot = spot_key(self.alloc, at, key)?;
+        copy_found(self.entries.get(&spot))
+    }
+
+    pub(crate) fn put_entry(&mut self, at: &Place, key: &Val, value: Val) -> Result<(), NoMemory>
+        ensures done { OnOk result (self.new ≡ with_entries (put (spot at.now.contract at.now.name key.now) value self.old.entries) self.old) }
+        ensures refused { OnErr result (self.new ≡ self.old) }
+    {
+        let spot = spot_key(self.alloc, at, key)?;
+        put_value(self.alloc, &mut self.entries, spot, value)
+    }
+
+    pub(crate) fn remove_entry(&mut self, at: &Place, key: &Val) -> Result<bool, NoMemory>
+        ensures found { IfOk result (λ found. found ≡ is_some (get (spot at.now.contract at.now.name key.now) self.old.entries)) }
+        ensures done { OnOk result (self.new ≡ with_entries (without (spot at.now.contract at.now.name key.now) self.old.entries) self.old) }
+        ensures refused { OnErr result (self.new ≡ self.old) }
+    {
+        let spot = spot_key(self.alloc, at, key)?;
+        let found = remove_value(&mut self.entries, &spot);
+        Ok(found)
+    }
+}
+
+fn copy_found(found: Option<&HeldValue>) -> Result<Option<Val>, NoMemory>
+    ensures { IfOk result (λ copy. copy ≡ option_copied found.entry) }
+{
+    match found {
+        Some(held) => Ok(Some(held.copy_out()?)),
+        None => Ok(None),
+    }
+}
+
+fn put_value(
+    alloc: Global,
+    table: &mut Table<HeldValue>,
+    key: Key,
+    value: Val,
+) -> Result<(), NoMemory>
+    ensures done { OnOk result (table.new.content ≡ put key value table.old.content) }
+    ensures refused { OnErr result (table.new.content ≡ table.old.content) }
+{
+    let slot = key.copy()?;
+    table.reserve(slot)?;
+    table.write(&key, Some(HeldValue::new(alloc, value)));
+    Ok(())
+}
+
+// whether there was a value under a key, which is then taken away
+fn remove_value(table: &mut Table<HeldValue>, key: &Key) -> bool
+    ensures found { result ≡ is_some (get key.now table.old.content) }
+    ensures content { table.new.content ≡ without key.now table.old.content }
+{
+    let Some(_value) = table.get(key) else {
+        return false;
+    };
+    table.write(key, None);
+    true
+}
