@@ -1,0 +1,13 @@
+pub mod Steps
+pub mod Parts
+pub mod NameLaws
+pub mod Nodes
+pub mod NumberLaws
+pub mod Wraps
+pub mod Binding
+pub mod Closing
+pub mod DataLaws
+pub mod Lasts
+pub mod Charged
+pub mod Alone
+pub mod AbortLaws

@@ -1,0 +1,4 @@
+pub mod Seen
+pub mod Runs
+pub mod Numbers
+pub mod Aborts

@@ -1,0 +1,37 @@
+-- What the definitions of the meaning see of functions and of the frame.
+use Rattle.std.specs.Prelude.{◌≡◌, ℕ, List, [], ◌∷◌, map, None}
+use Rattle.cl_c32.specs.declared.principal.Principal.{Principal}
+use Rattle.cl_costs.specs.Tables.{function_of as cost_function}
+use Rattle.cl_code.specs.declared.function.Function.{Function as TypedFunction}
+use Rattle.cl_code.specs.Typed.{expression_of}
+use Rattle.cl_code.specs.Functions.{form_of}
+use Rattle.cl_meaning.specs.Deployed.{Deployed, Function, contract_at, function_in, function_of, constant_of}
+use Rattle.cl_meaning.specs.Scope.{Frame, Bound, Scope}
+use Rattle.cl_meaning.specs.Limits.{Costs}
+use Rattle.cl_eval.specs.declared.context.Frame.{Frame as FrameOfCode}
+use Rattle.cl_eval.specs.declared.context.Context.{Context}
+
+abbrev pub function_seen : TypedFunction → Function
+function_seen f = record { name = f.name; access = f.access; params = f.params.items; body = expression_of f.body }
+
+abbrev pub frame_seen : FrameOfCode → Frame
+frame_seen f = record { contract = f.contract; sender = f.sender; caller = f.caller; height = f.height }
+
+abbrev pub costs_of : Context → Costs
+costs_of c = cost_function c.costs.now
+
+abbrev pub scope : Deployed → Context → Bound → Scope
+scope W c bound = record { deployed = W; frame = frame_seen c.frame.now; bound = bound }
+
+-- a contract is deployed that has these functions, no others, and no constants
+pub record Serves (W : Deployed) (contract : Principal) (functions : List TypedFunction) : Type 0 where
+  pub its_functions : (x : List ℕ) → function_of x (contract_at contract W) ≡ function_in x (map form_of functions)
+  pub no_constants : (x : List ℕ) → constant_of x (contract_at contract W) ≡ None
+
+-- the frame's contract is one with the context's functions
+abbrev pub Fits : Deployed → Context → Type 0
+Fits W c = Serves W c.frame.now.contract c.functions.now
+
+-- a contract that is deployed alone, with the forms that functions stand for
+abbrev pub alone : Principal → List TypedFunction → Deployed
+alone contract functions = record { principal = contract; forms = map form_of functions; source_length = 0; constants = [] } ∷ []
