@@ -1,0 +1,120 @@
+-- A node between two transactions, and what a transaction makes of it.
+use Rattle.std.specs.Prelude.{ℕ, ◌^◌, ◌-◌, true, false, List, [], ◌∷◌, ◌++◌, Option, Some, None}
+use Rattle.cl_types.specs.Types.{PlainType}
+use Rattle.cl_types.specs.declared.sized.Access.{Access}
+use Rattle.cl_types.specs.declared.sized.Access.TheVariants.{Public}
+use Rattle.cl_c32.specs.Address.{AddressParts}
+use Rattle.cl_c32.specs.declared.principal.Principal.{Principal}
+use Rattle.cl_arith.specs.declared.ArithRefusal.TheVariants as arith
+use Rattle.cl_shapes.specs.declared.cost.Cost5.{Cost5}
+use Rattle.cl_shapes.specs.Costs.{zero_cost, in_each}
+use Rattle.cl_shapes.specs.Limits.{Purse}
+use Rattle.cl_values.specs.Tree.{Tree, ResponseV}
+use Rattle.cl_events.specs.State.{State, at_rest}
+use Rattle.cl_events.specs.declared.event.Event.{Event}
+use Rattle.cl_meaning.specs.Answers.{Cause, ByArithmetic, ByPanic, BySupply}
+use Rattle.cl_meaning.specs.Deployed.{Contract, Deployed}
+use Rattle.cl_meaning.specs.Limits.{Limited, Gave, Threw, AbortedBy, Passed, Lost}
+use Rattle.cl_meaning.specs.Scope.{Frame}
+use Rattle.cl_rules.specs.Context.{Known}
+use Rattle.cl_tx.specs.declared.outcome.Stop.{Stop}
+use Rattle.cl_tx.specs.declared.outcome.Stop.TheVariants as stop
+use Rattle.cl_tx.specs.declared.outcome.EntryRefusal.{EntryRefusal}
+use Rattle.cl_tx.specs.declared.outcome.Outcome.{Outcome}
+use Rattle.cl_tx.specs.declared.outcome.Outcome.TheVariants.{Done, Good, Bad, Plain, Aborted, Refused}
+use Rattle.cl_tx.specs.declared.outcome.Bounds.{Bounds}
+use Rattle.cl_tx.specs.declared.outcome.TxResult.{TxResult}
+
+-- The state, which is at rest; the deployed contracts, in the order of their deployments, as evaluations see them, and the same
+-- ones as their callers see them; and the height of the block.
+pub record NodeSeen : Type 0 where
+  pub state : State
+  pub contracts : Deployed
+  pub known : List Known
+  pub height : ℕ
+
+-- the node after an entry, and the entry's result
+pub record Stepped : Type 0 where
+  pub node : NodeSeen
+  pub result : TxResult
+
+-- a sender, who is no contract
+abbrev pub person : AddressParts → Principal
+person sender = record { address = sender; contract = None }
+
+-- a contract deployed by a sender
+abbrev pub contract_of : AddressParts → List ℕ → Principal
+contract_of sender name = record { address = sender; contract = Some name }
+
+-- the frame of what a sender runs
+abbrev pub frame_of : NodeSeen → AddressParts → Principal → Frame
+frame_of node sender contract = record { contract = contract; sender = person sender; caller = person sender; height = node.height }
+
+-- nothing is spent of the limit that stands where none is stated
+abbrev pub no_limit : Purse
+no_limit = record { limit = in_each (2 ^ 64 - 1); spent = zero_cost }
+
+-- the abort that a cause is
+abbrev pub stop_of : Cause → Stop
+stop_of (ByArithmetic arith.Overflow) = stop.Overflow
+stop_of (ByArithmetic arith.Underflow) = stop.Underflow
+stop_of (ByArithmetic arith.DivideByZero) = stop.DivideByZero
+stop_of (ByArithmetic arith.NegativeArgument) = stop.NegativeArgument
+stop_of ByPanic = stop.Panic
+stop_of BySupply = stop.SupplyOverflow
+
+-- ---- results
+
+-- what a result tells of an accepted contract: its bounds, and what its functions return
+pub record Told : Type 0 where
+  pub bounds : Option Bounds
+  pub types : List PlainType
+
+abbrev pub nothing_told : Told
+nothing_told = record { bounds = None; types = [] }
+
+abbrev pub result_of : Told → Outcome → Option Cost5 → List Event → TxResult
+result_of told outcome cost events = record { outcome = outcome; cost = cost; bounds = told.bounds; types = told.types; events = events }
+
+-- the node stays as it was, and no event is handed out
+abbrev pub stays : NodeSeen → Told → Outcome → Option Cost5 → Stepped
+stays node told outcome cost = record { node = node; result = result_of told outcome cost [] }
+
+abbrev pub refused : NodeSeen → EntryRefusal → Stepped
+refused node refusal = stays node nothing_told (Refused refusal) None
+
+abbrev pub aborted : NodeSeen → Told → Stop → Cost5 → Stepped
+aborted node told why cost = stays node told (Aborted why) (Some cost)
+
+-- the node goes on with a state, whose events are handed out
+abbrev pub goes_on : NodeSeen → Told → Outcome → Cost5 → State → Stepped
+goes_on node told outcome cost s = record {
+  node = record node { state = at_rest s };
+  result = result_of told outcome (Some cost) s.events;
+}
+
+-- ---- what comes of a run under a limit; a run that is wrong or needs more depth comes to nothing
+
+-- a public function answers a response, whose err undoes all; another function gives a plain value
+abbrev pub answered : Access → Tree → NodeSeen → Cost5 → State → Option Stepped
+answered Public (ResponseV true v) node cost s = Some (goes_on node nothing_told (Good v) cost s)
+answered Public (ResponseV false v) node cost s = Some (stays node nothing_told (Bad v) (Some cost))
+answered Public v node cost s = None
+answered access v node cost s = Some (goes_on node nothing_told (Plain v) cost s)
+
+abbrev pub call_ended : Access → NodeSeen → Limited Tree → Option Stepped
+call_ended access node (Gave v s purse) = answered access v node purse.spent s
+call_ended access node (Threw v s purse) = None
+call_ended access node (AbortedBy why purse) = Some (aborted node nothing_told (stop_of why) purse.spent)
+call_ended access node (Passed over purse) = Some (aborted node nothing_told (stop.CostLimit over) over.attempted)
+call_ended access node (Lost purse) = None
+
+abbrev pub with_contract : NodeSeen → Contract → Known → NodeSeen
+with_contract node contract known = record node { contracts = node.contracts ++ contract ∷ []; known = node.known ++ known ∷ [] }
+
+abbrev pub deployment_ended : NodeSeen → Told → Known → Limited Contract → Option Stepped
+deployment_ended node told known (Gave contract s purse) = Some (goes_on (with_contract node contract known) told Done purse.spent s)
+deployment_ended node told known (Threw v s purse) = Some (aborted node told stop.EarlyTop purse.spent)
+deployment_ended node told known (AbortedBy why purse) = Some (aborted node told (stop_of why) purse.spent)
+deployment_ended node told known (Passed over purse) = Some (aborted node told (stop.CostLimit over) over.attempted)
+deployment_ended node told known (Lost purse) = None

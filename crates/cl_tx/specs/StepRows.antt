@@ -1,0 +1,63 @@
+-- Steps by example, under the unit table: what calls come to, and what the deployments of accepted texts come to.
+use Rattle.std.specs.Prelude.{ℕ, List, [], ◌∷◌, codes, Option, Some, None}
+use Rattle.cl_types.specs.declared.sized.Access.TheVariants.{Private}
+use Rattle.cl_c32.specs.declared.principal.Principal.{Principal}
+use Rattle.cl_shapes.specs.declared.cost.Cost5.{Cost5}
+use Rattle.cl_values.specs.Tree.{Tree}
+use Rattle.cl_events.specs.State.{State}
+use Rattle.cl_events.specs.declared.event.Event.{Event}
+use Rattle.cl_meaning.specs.Deployed.{Deployed}
+use Rattle.cl_meaning.specs.Samples.{P0, of_P0, unit, uint, function, contract}
+use Rattle.cl_meaning.specs.Opened.{opened as meaning_opened}
+use Rattle.cl_rules.specs.FormRules.{Defined}
+use Rattle.cl_rules.specs.Judging.{Judged, Holds}
+use Rattle.cl_rules.specs.PlainProgram.{Program, program_of, text_judged}
+use Rattle.cl_rules.specs.Samples.{opened as rules_opened}
+use Rattle.cl_tx.specs.declared.entry.Common.{Common}
+use Rattle.cl_tx.specs.declared.outcome.Outcome.{Outcome}
+use Rattle.cl_tx.specs.declared.outcome.EntryRefusal.{EntryRefusal}
+use Rattle.cl_tx.specs.declared.outcome.TxResult.{TxResult}
+use Rattle.cl_tx.specs.Nodes.{NodeSeen, Stepped, nothing_told, result_of, refused}
+use Rattle.cl_tx.specs.Step.{run_call, call_step, run_deployment, first_node}
+
+-- all that an example opens
+unfoldable pub opened : Unit {0}
+unfolding meaning_opened rules_opened run_call call_step run_deployment
+opened = tt
+
+abbrev pub by : Principal → Common
+by p = record { sender = p.address }
+
+-- ---- calls
+
+-- a node with these contracts in this state
+abbrev pub node_with : Deployed → State → NodeSeen
+node_with W s = record { state = s; contracts = W; known = []; height = 0 }
+
+-- a call of a contract of P0
+abbrev pub called : Deployed → State → Principal → List ℕ → List ℕ → List Tree → Option Stepped
+called W s sender name f args = call_step unit (node_with W s) (by sender) (of_P0 name) f args
+
+-- the call was run: the state after it, its outcome, its cost and its events
+abbrev pub ran : Deployed → State → Outcome → Cost5 → List Event → Option Stepped
+ran W s outcome cost events = Some (record { node = node_with W s; result = result_of nothing_told outcome (Some cost) events })
+
+abbrev pub not_run : Deployed → State → EntryRefusal → Option Stepped
+not_run W s why = Some (refused (node_with W s) why)
+
+-- (define-private (h) u1)
+abbrev pub hidden : Deployed
+hidden = contract (codes "p") 23 (function Private (codes "h") [] (uint 1) ∷ []) ∷ []
+
+-- ---- deployments, by P0 on the first node
+
+abbrev pub run_by : Principal → List ℕ → Option Program → Judged Defined → Option Stepped
+run_by principal text (Some p) (Holds defined) = run_deployment unit first_node (by P0) principal text p.forms defined
+run_by principal text p judged = None
+
+abbrev pub deployed : List ℕ → List ℕ → Option Stepped
+deployed name text = run_by (of_P0 name) text (program_of text) (text_judged [] (of_P0 name) text)
+
+abbrev pub result_in : Option Stepped → Option TxResult
+result_in None = None
+result_in (Some s) = Some s.result
