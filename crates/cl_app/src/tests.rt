@@ -309,42 +309,44 @@ fn sources_that_break_a_rule_of_forms(rt: HostRuntime) -> Result<(), Fail> {
         let broken = is_broken(alloc, source.as_bytes(), rule, 0, source.len())?;
         assert!(rt; broken, "{source}");
     }
-    let table: [(&[u8], &str, usize, usize); 7] = [
+    Ok(())
+}
+
+#[test]
+fn the_first_break_of_a_source(rt: HostRuntime) -> Result<(), Fail> {
+    let alloc = rt.alloc();
+    for (source, broken) in [
         // Within an item, the name that is left out ends first.
-        (b"(define-read-only (hash160) 1)", "F4 NotInProfile", 19, 26),
+        ("(define-read-only (hash160) 1)", "F4 NotInProfile 19..26"),
         // Of rules of texts, of forms and of their order the first phase counts.
         (
-            b"(define-private (a) (a))(define-private (a) 1)",
-            "F5 NameUsed",
-            24,
-            46,
+            "(define-private (a) (a))(define-private (a) 1)",
+            "F5 NameUsed 24..46",
         ),
         (
-            b"(define-private (a) (a))(define-map 5",
-            "T4 Unclosed",
-            24,
-            25,
+            "(define-private (a) (a))(define-map 5",
+            "T4 Unclosed 24..25",
         ),
         (
-            b"(define-private (a) (b))(define-private (b) (c))(define-private (c) (a))",
-            "O1 Cycle",
-            0,
-            24,
+            "(define-private (a) (b))(define-private (b) (c))(define-private (c) (a))",
+            "O1 Cycle 0..24 a b c",
         ),
-        (b"1 (define-read-only (f) f)", "O1 Cycle", 2, 26),
+        ("1 (define-read-only (f) f)", "O1 Cycle 2..26 f"),
         (
-            b"(define-private (a) 1)(define-private (b) (c))(define-private (c) (b))",
-            "O1 Cycle",
-            22,
-            46,
+            "(define-private (a) 1)(define-private (b) (c))(define-private (c) (b))",
+            "O1 Cycle 22..46 b c",
         ),
-        (b"(define-private (a) {a: (a)})", "O1 Cycle", 0, 29),
-    ];
-    let names = ["", "", "", " a b c", " f", " b c", " a"];
-    for ((source, rule, start, end), names) in table.into_iter().zip(names) {
-        let ended = run(alloc, &["call", "inc.clar", "f"], source, &[], &[])?;
+        ("(define-private (a) {a: (a)})", "O1 Cycle 0..29 a"),
+    ] {
+        let ended = run(
+            alloc,
+            &["call", "inc.clar", "f"],
+            source.as_bytes(),
+            &[],
+            &[],
+        )?;
         let line = format!(in alloc;
-            "0 deploy 'SP000000000000000000002Q6VF78.main refused E7 ContractRefused {rule} {start}..{end}{names}\n"
+            "0 deploy 'SP000000000000000000002Q6VF78.main refused E7 ContractRefused {broken}\n"
         )?;
         assert_eq!(rt; ended.text.as_str(), line.as_str());
         assert_eq!(rt; ended.status, 6);
