@@ -4,3 +4,4 @@ pub mod TypedCode
 pub mod TypedFalls
 pub mod Expression
 pub mod Functions
+pub mod Definitions

@@ -2,9 +2,11 @@
 #![tactic(auto)]
 
 mod code;
+mod definition;
 mod function;
 mod op;
 
 pub use code::Code;
+pub use definition::{Definition, Variable};
 pub use function::Function;
 pub use op::{Op, Strict, Word};

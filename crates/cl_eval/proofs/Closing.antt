@@ -1,18 +1,18 @@
 -- How the body of a function ends its application.
-use Rattle.std.proofs.Common.{◌≡◌, ℕ, Bool, true, false, List, [], ◌∷◌, Option, Some, None, Result, Ok, Err, refl, sym, ap, ◌∙◌, subst}
+use Rattle.std.proofs.Common.{◌≡◌, true, false, List, ◌∷◌, Some, None, Result, Ok, Err, refl, sym, ap, ◌∙◌, subst}
 use Rattle.cl_types.specs.declared.sized.Access.{Access}
 use Rattle.cl_types.specs.declared.sized.Access.TheVariants.{Public, ReadOnly, Private}
 use Rattle.cl_shapes.specs.Limits.{Purse}
-use Rattle.cl_values.specs.Tree.{Tree as Val, IntV, UintV, BoolV, BuffV, AsciiV, Utf8V, PrincipalV, ListV, TupleV, NoneV, SomeV, ResponseV}
+use Rattle.cl_values.specs.Tree.{Tree as Val, ResponseV}
 use Rattle.cl_events.specs.State.{State}
 use Rattle.cl_state.specs.Stack.{Stack, rest_of}
-use Rattle.cl_meaning.specs.Answers.{Answer, Given, Wrong, give, wrong, stop, and_then, returning}
+use Rattle.cl_meaning.specs.Answers.{Answer, Given, give, wrong, stop, and_then, returning}
 use Rattle.cl_meaning.specs.Calls.{closing}
-use Rattle.cl_meaning.specs.Limits.{Costs, pay, Limited, Gave, Threw, AbortedBy, Passed, Lost, limited, after, returned}
+use Rattle.cl_meaning.specs.Limits.{Costs, Limited, Gave, Threw, AbortedBy, Passed, Lost, limited, after, returned}
 use Rattle.cl_meaning.proofs.LimitLaws.{limited-then, limited-stop, limited-returning, then_gave}
 use Rattle.cl_eval.specs.declared.stop.Stop.{Stop}
 use Rattle.cl_eval.specs.declared.stop.Stop.TheVariants.{Arithmetic, CostLimit, Stuck, NoMemory}
-use Rattle.cl_eval.specs.Runs.{Stops, Ends, Ended, Closes, is_public, response_of}
+use Rattle.cl_eval.specs.Runs.{Ends, Closes, is_public, response_of}
 use Rattle.cl_eval.proofs.Steps.{stops_then}
 
 -- an early return taken for a return changes nothing where there is none

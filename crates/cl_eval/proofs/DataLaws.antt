@@ -1,5 +1,5 @@
 -- Variables that are there, and others.
-use Rattle.std.proofs.Common.{◌≡◌, ℕ, List, [], ◌∷◌, Bool, true, false, Option, Some, None, refl, ap, ◌∙◌}
+use Rattle.std.proofs.Common.{◌≡◌, ℕ, List, [], ◌∷◌, true, false, Option, Some, None, refl, ap, ◌∙◌}
 use Rattle.std.specs.Prelude.{is_some}
 use Rattle.cl_shapes.specs.Limits.{Purse}
 use Rattle.cl_shapes.specs.declared.name.CostName.TheVariants.{ReadVar}
@@ -9,7 +9,7 @@ use Rattle.cl_maps.specs.Maps.{get, put}
 use Rattle.cl_events.specs.State.{State, with_variables}
 use Rattle.cl_code.specs.declared.op.Word.{Word}
 use Rattle.cl_code.specs.Expression.{word}
-use Rattle.cl_meaning.specs.Answers.{Answer, Wrong, give, wrong, charged, with_known}
+use Rattle.cl_meaning.specs.Answers.{Wrong, give, wrong, charged, with_known}
 use Rattle.cl_meaning.specs.Scope.{Scope}
 use Rattle.cl_meaning.specs.Data.{here, variable_set, var_get_form}
 use Rattle.cl_meaning.specs.Limits.{Costs, Lost, limited}

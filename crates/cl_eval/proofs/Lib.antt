@@ -10,4 +10,5 @@ pub mod DataLaws
 pub mod Lasts
 pub mod Charged
 pub mod Alone
+pub mod Defining
 pub mod AbortLaws

@@ -8,9 +8,9 @@ use Rattle.cl_values.specs.Tree.{Tree as Val}
 use Rattle.cl_values.specs.Wire.{size_of}
 use Rattle.cl_forms.specs.Heads.{Row, row_in, table, native, keywords, define_words, left_out, is_one_of, is_reserved}
 use Rattle.cl_events.specs.State.{State}
-use Rattle.cl_meaning.specs.Answers.{Answer, give, wrong, charged, with_known}
-use Rattle.cl_meaning.specs.Deployed.{Deployed, value_of, constant_of}
-use Rattle.cl_meaning.specs.Scope.{Scope, Bound, home}
+use Rattle.cl_meaning.specs.Answers.{give, wrong, charged, with_known}
+use Rattle.cl_meaning.specs.Deployed.{value_of, constant_of}
+use Rattle.cl_meaning.specs.Scope.{Scope, home}
 use Rattle.cl_meaning.specs.Names.{standing, first_of, name_form}
 use Rattle.cl_shapes.specs.declared.name.CostName.{CostName}
 use Rattle.cl_shapes.specs.declared.name.CostName.TheVariants.{Lookup}

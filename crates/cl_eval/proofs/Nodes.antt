@@ -1,5 +1,5 @@
 -- What each node means, as equations: the form of its operation over the expressions of its parts.
-use Rattle.std.proofs.Common.{◌≡◌, ◌≢◌, ℤ, ℕ, zero, suc, true, false, ◌-◌, ◌<◌, List, [], ◌∷◌, length, get_or, map, Option, Some, None, refl, sym, ap, ◌∙◌, arith, codes}
+use Rattle.std.proofs.Common.{◌≡◌, ◌≢◌, ℤ, ℕ, zero, suc, true, false, ◌-◌, ◌<◌, List, [], ◌∷◌, length, get_or, map, Some, refl, sym, ap, ◌∙◌, arith, codes}
 use Rattle.std.proofs.lemmas.List.{length-map}
 use Rattle.cl_types.specs.Types.{PlainType}
 use Rattle.cl_shapes.specs.Limits.{Purse}
@@ -23,7 +23,7 @@ use Rattle.cl_code.specs.Expression.{word, headed, expression, has_own_names}
 use Rattle.cl_code.specs.declared.op.Word.{Word}
 use Rattle.cl_code.specs.declared.op.Op.{Op}
 use Rattle.cl_code.specs.declared.op.Op.TheVariants.{Int, Bound, OnValues, Begin, VarGet, VarSet, Call}
-use Rattle.cl_meaning.specs.Answers.{Answer, Deeper, stop, give, wrong, charged, and_then, ending, with_known, outcome_of}
+use Rattle.cl_meaning.specs.Answers.{Answer, Deeper, stop, give, wrong, charged, and_then, with_known, outcome_of}
 use Rattle.cl_meaning.specs.Deployed.{Deployed, Function, function_of}
 use Rattle.cl_meaning.specs.Scope.{Frame, Scope, home, OwnFunction, Take, Enter, parts}
 use Rattle.cl_meaning.specs.Top.{call_from}

@@ -1,13 +1,12 @@
 -- Numbers one after another.
-use Rattle.std.proofs.Common.{◌≡◌, ◌≢◌, ℕ, ◌+◌, ◌<◌, ◌≤◌, List, [], ◌∷◌, length, get_or, drop, Option, Some, None, Result, Ok, Err, add-one, refl, sym, ap, ◌∙◌, subst, arith}
+use Rattle.std.proofs.Common.{◌≡◌, ◌≢◌, ℕ, ◌+◌, ◌<◌, ◌≤◌, List, [], ◌∷◌, length, get_or, drop, Option, Some, None, Result, Ok, Err, refl, sym, ap, ◌∙◌, subst}
 use Rattle.std.proofs.lemmas.List.{drop_all}
 use Rattle.std.specs.Prelude.{ℤ}
 use Rattle.cl_arith.specs.declared.Num.{Num}
-use Rattle.cl_arith.specs.declared.Num.TheVariants.{Int, Uint}
 use Rattle.cl_arith.specs.declared.ArithRefusal.{ArithRefusal}
 use Rattle.cl_arith.specs.Numbers.{Kind, IntKind, UintKind, kind_of, int_number, uint_number, as_int, as_uint, in_range}
 use Rattle.cl_arith.specs.Operations.{Operation, tested, computed, difference}
-use Rattle.cl_values.specs.Tree.{Tree, IntV, UintV, BoolV, BuffV, AsciiV, Utf8V, PrincipalV, ListV, TupleV, NoneV, SomeV, ResponseV}
+use Rattle.cl_values.specs.Tree.{Tree, IntV, UintV}
 use Rattle.cl_values.specs.Computed.{Computed, Undefined}
 use Rattle.cl_values.specs.Arithmetic.{zero_of, and_number, of_kind, on_numbers, numbers_of, numeric, from_left, subtracted, number_or_abort}
 use Rattle.cl_meaning.specs.Answers.{outcome_of}

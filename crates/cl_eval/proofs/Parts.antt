@@ -1,5 +1,5 @@
 -- The parts of a node, one after another.
-use Rattle.std.proofs.Common.{◌≡◌, ℕ, suc, ◌+◌, ◌<◌, ◌≤◌, List, [], ◌∷◌, ◌++◌, length, get_or, drop, map, Result, Ok, Err, add-one, append_assoc, refl, sym, ap, ◌∙◌, subst}
+use Rattle.std.proofs.Common.{◌≡◌, ℕ, suc, ◌+◌, ◌<◌, ◌≤◌, List, [], ◌∷◌, ◌++◌, length, get_or, drop, map, Result, Err, add-one, append_assoc, refl, sym, ap, ◌∙◌}
 use Rattle.std.proofs.Common.{Vec, Global}
 use Rattle.std.proofs.Math.Seq.{drop-cons}
 use Rattle.std.proofs.lemmas.List.{append-nil, drop_all}
@@ -8,7 +8,7 @@ use Rattle.cl_sexpr.specs.Tree.{Tree}
 use Rattle.cl_values.specs.Tree.{Tree as Val}
 use Rattle.cl_events.specs.State.{State}
 use Rattle.cl_code.specs.Typed.{Typed, expression_of}
-use Rattle.cl_meaning.specs.Answers.{Given, Answer, stop, give, and_then}
+use Rattle.cl_meaning.specs.Answers.{Given, stop, give}
 use Rattle.cl_meaning.specs.Scope.{Scope, Take, parts}
 use Rattle.cl_meaning.specs.Limits.{Costs, pay, Limited, Gave, Threw, AbortedBy, Passed, Lost, limited, after}
 use Rattle.cl_meaning.proofs.LimitLaws.{limited-then, limited-stop, then_gave}

@@ -1,11 +1,11 @@
 -- How a run goes along the parts of an answer.
-use Rattle.std.proofs.Common.{◌≡◌, ℕ, List, Option, Some, None, Result, Ok, Err, sym, ap, ◌∙◌, subst}
+use Rattle.std.proofs.Common.{◌≡◌, ℕ, Option, Some, None, Result, Ok, Err, sym, ap, ◌∙◌, subst}
 use Rattle.cl_shapes.specs.Limits.{Purse, spend}
 use Rattle.cl_shapes.specs.declared.name.CostName.{CostName}
 use Rattle.cl_values.specs.Tree.{Tree as Val}
 use Rattle.cl_events.specs.State.{State}
 use Rattle.cl_meaning.specs.Answers.{Outcome, Given, Aborted, Wrong, ByArithmetic, Answer, stop, charged, and_then, with_known}
-use Rattle.cl_meaning.specs.Limits.{Costs, cost_of, Limited, Gave, AbortedBy, Passed, Lost, limited, after}
+use Rattle.cl_meaning.specs.Limits.{Costs, cost_of, Limited, Passed, Lost, limited, after}
 use Rattle.cl_meaning.proofs.LimitLaws.{limited-then, limited-stop, charge_within, charge_over}
 use Rattle.cl_eval.specs.declared.stop.Stop.{Stop}
 use Rattle.cl_eval.specs.declared.stop.Stop.TheVariants.{Arithmetic, CostLimit, Stuck, NoMemory}

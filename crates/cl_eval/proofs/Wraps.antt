@@ -6,9 +6,9 @@ use Rattle.cl_values.specs.declared.refusal.ValueRefusal.TheVariants.{BadTuple, 
 use Rattle.cl_values.specs.Tree.{Tree, ResponseV, depth_of}
 use Rattle.cl_values.specs.Wire.{size_of}
 use Rattle.cl_values.specs.Valid.{IsVal, has_rising_keys, has_good_texts, made}
-use Rattle.cl_values.specs.Computed.{Computed, Gives, Undefined}
+use Rattle.cl_values.specs.Computed.{Gives, Undefined}
 use Rattle.cl_values.specs.Natives.{wrapped}
-use Rattle.cl_meaning.specs.Answers.{Outcome, Given, Wrong, is_within, outcome_of}
+use Rattle.cl_meaning.specs.Answers.{Given, Wrong, outcome_of}
 
 pub wrapped_one : (wrap : Tree → Tree) (vs : List Tree) (v : Tree) → vs ≡ v ∷ [] → wrapped wrap vs ≡ Gives (wrap v)
 wrapped_one wrap vs v h = ap (wrapped wrap) h

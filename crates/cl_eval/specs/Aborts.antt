@@ -16,7 +16,7 @@ use Rattle.cl_eval.specs.declared.abort.Abort.{Abort}
 use Rattle.cl_eval.specs.declared.abort.Abort.TheVariants.{Overflow, Underflow, DivideByZero, NegativeArgument, CostLimit, Stuck}
 
 -- what a limit leaves where a call aborts so, with what is spent then
-abbrev pub AbortsBy : Limited Val → Abort → Purse → Type 0
+abbrev pub AbortsBy : {A : Type 0} → Limited A → Abort → Purse → Type 0
 AbortsBy l Overflow q = l ≡ AbortedBy (ByArithmetic arith.Overflow) q
 AbortsBy l Underflow q = l ≡ AbortedBy (ByArithmetic arith.Underflow) q
 AbortsBy l DivideByZero q = l ≡ AbortedBy (ByArithmetic arith.DivideByZero) q

@@ -2,3 +2,4 @@ pub mod Seen
 pub mod Runs
 pub mod Numbers
 pub mod Aborts
+pub mod Deploys

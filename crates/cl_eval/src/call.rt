@@ -11,7 +11,7 @@ ghost use Rattle.cl_eval.specs.Runs.{Ends};
 ghost use Rattle.cl_eval.specs.Aborts.{Answers};
 
 use crate::abort::{Abort, fault};
-use crate::context::{Context, Frame};
+use crate::context::{Context, Frame, Functions};
 use crate::evaluate::enter;
 use crate::names::function_named;
 use crate::stop::Stop;
@@ -24,7 +24,7 @@ use cl_values::Val;
 use std::alloc::Global;
 
 /// How deep an evaluation goes, calls included.
-const MOST_DEPTH: u32 = 256;
+pub(crate) const MOST_DEPTH: u32 = 256;
 
 fn call_named(
     alloc: Global,
@@ -41,7 +41,7 @@ fn call_named(
     ensures below { world.new.stack.below ≡ world.old.stack.below }
 {
     let context = Context {
-        functions,
+        functions: Functions::Alone(functions),
         frame,
         costs,
     };

@@ -18,7 +18,7 @@ ghost use Rattle.cl_eval.specs.Runs.{Ends, items_in};
 use crate::application::{bind, close, is_public, last};
 use crate::context::Context;
 use crate::data::{evaluate_var_get, write_variable};
-use crate::names::{evaluate_int, evaluate_name, function_named};
+use crate::names::{evaluate_int, evaluate_name, function_of};
 use crate::natives::{apply, charged_number};
 use crate::payment::pay;
 use crate::stop::Stop;
@@ -31,7 +31,7 @@ use std::alloc::Global;
 
 /// Evaluates a tree to a depth, where names are bound to values.
 #[cycle(evaluate)]
-fn evaluate(
+pub(crate) fn evaluate(
     alloc: Global,
     context: &Context,
     bound: &[(Name, Val)],
@@ -192,7 +192,7 @@ fn evaluate_call(
     ensures below { world.new.stack.below ≡ world.old.stack.below }
 {
     let values = evaluate_parts(alloc, context, bound, codes, below, world, meter)?;
-    match function_named(context.functions, name) {
+    match function_of(context.functions, name) {
         Some(function) => enter(alloc, context, function, values, below, world, meter),
         None => Err(Stop::Stuck),
     }

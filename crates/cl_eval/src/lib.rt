@@ -15,9 +15,11 @@ mod payment;
 mod stop;
 #[cfg(test)]
 mod tests;
+mod top;
 mod values;
 
 pub use abort::Abort;
 pub use call::run;
 pub use context::Frame;
 pub use laws::forms_of_functions_serve;
+pub use top::run_top;

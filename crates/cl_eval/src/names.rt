@@ -2,6 +2,7 @@
 ghost use Rattle.std.specs.Prelude.{◌≡◌, map, false};
 ghost use Rattle.std.specs.Option.{option_map};
 ghost use Rattle.cl_forms.specs.Heads.{is_reserved};
+ghost use Rattle.cl_code.specs.Definitions.{form_defined};
 ghost use Rattle.cl_code.specs.Functions.{form_of};
 ghost use Rattle.cl_meaning.specs.Deployed.{Deployed, value_of, function_in};
 ghost use Rattle.cl_shapes.specs.declared.name.CostName.TheVariants.{Literal, Lookup};
@@ -11,14 +12,14 @@ ghost use Rattle.cl_meaning.specs.Answers.{give, charged};
 ghost use Rattle.cl_meaning.specs.Limits.{limited};
 ghost use Rattle.cl_meaning.specs.Names.{name_form, standing};
 ghost use Rattle.cl_events.specs.State.{State};
-ghost use Rattle.cl_eval.specs.Seen.{function_seen, costs_of, scope, Fits};
+ghost use Rattle.cl_eval.specs.Seen.{function_seen, forms_in, costs_of, scope, Fits};
 ghost use Rattle.cl_eval.specs.Runs.{Ends};
 
-use crate::context::Context;
+use crate::context::{Context, Functions};
 use crate::payment::pay;
 use crate::stop::Stop;
 use crate::values::int_value;
-use cl_code::Function;
+use cl_code::{Definition, Function};
 use cl_shapes::{CostName, Meter};
 use cl_types::Name;
 use cl_values::Val;
@@ -46,6 +47,37 @@ pub(crate) fn function_named<'a>(functions: &'a [Function], name: &Name) -> Opti
         }
     }
     None
+}
+
+/// The first definition of a name, if it is a function.
+fn function_defined<'a>(definitions: &'a [Definition], name: &Name) -> Option<&'a Function>
+    ensures { option_map (λ f. function_seen f.now) result ≡ function_in name.now (map form_defined definitions.now) }
+{
+    for definition in definitions {
+        match definition {
+            Definition::Variable(variable) => {
+                if variable.name.bytes() == name.bytes() {
+                    return None;
+                }
+            }
+            Definition::Function(function) => {
+                if function.name.bytes() == name.bytes() {
+                    return Some(function);
+                }
+            }
+        }
+    }
+    None
+}
+
+/// The function of a name in the frame's contract.
+pub(crate) fn function_of<'a>(functions: Functions<'a>, name: &Name) -> Option<&'a Function>
+    ensures { option_map (λ f. function_seen f.now) result ≡ function_in name.now (forms_in functions.entry) }
+{
+    match functions {
+        Functions::Alone(functions) => function_named(functions, name),
+        Functions::Defined(definitions) => function_defined(definitions, name),
+    }
 }
 
 /// The length of an int on the wire, in bytes.

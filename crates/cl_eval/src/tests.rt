@@ -1,7 +1,7 @@
-//! Calls of small contracts. What they answer, cost and leave was reckoned by hand from the rules.
-use crate::{Abort, Frame, run};
+//! Calls and deployments of small contracts. What they answer, cost and leave was reckoned by hand from the rules.
+use crate::{Abort, Frame, run, run_top};
 use cl_c32::{Address, ContractName, Principal};
-use cl_code::{Code, Function, Op, Strict, Word};
+use cl_code::{Code, Definition, Function, Op, Strict, Variable, Word};
 use cl_costs::CostTable;
 use cl_sexpr::Span;
 use cl_shapes::{Cost5, Dimension, Meter, Over};
@@ -350,5 +350,172 @@ fn a_limit_stops_above_it(rt: HostRuntime) -> Result<(), Fail> {
     assert_eq!(rt; answer, Seen::Aborted(Abort::CostLimit(over)));
     assert_eq!(rt; spent, cost(4, 0, 0));
     assert_eq!(rt; variable, Some(7));
+    Ok(())
+}
+
+// (define-data-var NAME int VALUE)
+fn first(alloc: Global, name: &str, value: Code) -> Result<Definition, Fail> {
+    Ok(Definition::Variable(Variable {
+        name: word(name)?.name,
+        ty: int_type(alloc)?,
+        value,
+        span: NOWHERE,
+    }))
+}
+
+/// What a deployment gave: the number of its constants, or how it aborted.
+#[derive(Clone, Copy, Debug, PartialEq, Eq)]
+enum Deployment {
+    Constants(usize),
+    Aborted(Abort),
+    NoMemory,
+}
+
+fn deployer() -> Principal {
+    Principal {
+        address: Address::new(22, &[0; 20]),
+        contract: None,
+    }
+}
+
+// the deployer calls, and is who sent the transaction
+fn deployer_frame() -> Result<Frame, Fail> {
+    Ok(Frame {
+        contract: contract()?,
+        sender: deployer(),
+        caller: deployer(),
+        height: 0,
+    })
+}
+
+fn deployment_of(answer: &Result<Vec<(Name, Val)>, Fault<Abort>>) -> Deployment {
+    match answer {
+        Ok(constants) => Deployment::Constants(constants.len()),
+        Err(Fault::Refused(abort)) => Deployment::Aborted(*abort),
+        Err(Fault::NoMemory) => Deployment::NoMemory,
+    }
+}
+
+/// Deploys a text of 147 bytes: what it gives, what is spent, and what `n` is then, of this contract and of its deployer.
+fn deployed(
+    alloc: Global,
+    definitions: &[Definition],
+    limit: [u64; 5],
+) -> Result<(Deployment, Cost5, Option<i128>, Option<i128>), Fail> {
+    let frame = deployer_frame()?;
+    let mut world = World::genesis(Vec::new(alloc))?;
+    let mut meter = Meter::new(limit);
+    let costs = CostTable::builtin();
+    let result = run_top(
+        alloc,
+        &mut world,
+        definitions,
+        147,
+        &frame,
+        &costs,
+        &mut meter,
+    );
+    let seen = deployment_of(&result);
+    let own = held(&world, &frame.contract)?;
+    let other = held(&world, &frame.sender)?;
+    Ok((seen, meter.spent(), own, other))
+}
+
+fn held(world: &World, contract: &Principal) -> Result<Option<i128>, Fail> {
+    let place = Place {
+        contract: *contract,
+        name: word("n")?.name,
+    };
+    match world.variable(&place)? {
+        Some(value) => Ok(plain(value.value())),
+        None => Ok(None),
+    }
+}
+
+// what is charged for writing alone
+fn writing_cost(runtime: u128, count: u128, length: u128) -> Cost5 {
+    Cost5 {
+        runtime,
+        read_count: 0,
+        read_length: 0,
+        write_count: count,
+        write_length: length,
+    }
+}
+
+// (define-data-var n int 0)(define-public (put (x int)) ..)(define-public (no (x int)) ..)
+fn variable_and_functions(alloc: Global) -> Result<Vec<Definition>, Fail> {
+    let mut definitions = Vec::new(alloc);
+    definitions.push(first(alloc, "n", int(alloc, 0)?)?)?;
+    definitions.push(Definition::Function(put(alloc)?))?;
+    definitions.push(Definition::Function(no(alloc)?))?;
+    Ok(definitions)
+}
+
+#[test]
+fn deployment_is_charged_and_defines(rt: HostRuntime) -> Result<(), Fail> {
+    let definitions = variable_and_functions(rt.alloc())?;
+    let (answer, spent, own, other) = deployed(rt.alloc(), &definitions, MOST)?;
+    assert_eq!(rt; answer, Deployment::Constants(0));
+    assert_eq!(rt; spent, writing_cost(5, 4, 164));
+    assert_eq!(rt; own, Some(0));
+    assert_eq!(rt; other, None);
+    Ok(())
+}
+
+#[test]
+fn deployment_stops_above_the_limit(rt: HostRuntime) -> Result<(), Fail> {
+    let definitions = variable_and_functions(rt.alloc())?;
+    let (answer, spent, own, _) = deployed(rt.alloc(), &definitions, [5, 0, 0, 4, 164])?;
+    assert_eq!(rt; answer, Deployment::Constants(0));
+    assert_eq!(rt; spent, writing_cost(5, 4, 164));
+    assert_eq!(rt; own, Some(0));
+    let (answer, spent, own, _) = deployed(rt.alloc(), &definitions, [5, 0, 0, 4, 163])?;
+    let over = Over {
+        dimension: Dimension::WriteLength,
+        attempted: writing_cost(3, 2, 164),
+        limit: 163,
+    };
+    assert_eq!(rt; answer, Deployment::Aborted(Abort::CostLimit(over)));
+    assert_eq!(rt; spent, writing_cost(2, 1, 147));
+    assert_eq!(rt; own, None);
+    Ok(())
+}
+
+#[test]
+fn first_value_is_evaluated(rt: HostRuntime) -> Result<(), Fail> {
+    let alloc = rt.alloc();
+    let mut definitions = Vec::new(alloc);
+    definitions.push(Definition::Function(f(alloc)?))?;
+    let call = one(alloc, Op::Call(word("f")?), int(alloc, 4)?)?;
+    definitions.push(first(alloc, "n", call)?)?;
+    let (answer, spent, own, _) = deployed(alloc, &definitions, MOST)?;
+    assert_eq!(rt; answer, Deployment::Constants(0));
+    assert_eq!(rt; spent, writing_cost(9, 3, 164));
+    assert_eq!(rt; own, Some(5));
+    Ok(())
+}
+
+#[test]
+fn deployment_aborts_as_its_first_values_do(rt: HostRuntime) -> Result<(), Fail> {
+    let alloc = rt.alloc();
+    let sum = two(
+        alloc,
+        strict(Strict::Add),
+        int(alloc, i128::MAX)?,
+        int(alloc, 1)?,
+    )?;
+    let mut overflowing = Vec::new(alloc);
+    overflowing.push(first(alloc, "n", sum)?)?;
+    let (answer, spent, own, _) = deployed(alloc, &overflowing, MOST)?;
+    assert_eq!(rt; answer, Deployment::Aborted(Abort::Overflow));
+    assert_eq!(rt; spent, writing_cost(4, 1, 147));
+    assert_eq!(rt; own, None);
+    let mut unknown = Vec::new(alloc);
+    unknown.push(first(alloc, "n", bound(alloc, "x")?)?)?;
+    let (answer, spent, own, _) = deployed(alloc, &unknown, MOST)?;
+    assert_eq!(rt; answer, Deployment::Aborted(Abort::Stuck));
+    assert_eq!(rt; spent, writing_cost(1, 1, 147));
+    assert_eq!(rt; own, None);
     Ok(())
 }

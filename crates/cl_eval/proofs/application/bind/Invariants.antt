@@ -1,4 +1,4 @@
-use Rattle.std.proofs.Common.{◌≡◌, drop, length}
+use Rattle.std.proofs.Common.{drop, length}
 use Rattle.std.specs.Vec.Iter.{into_iter_items}
 use Rattle.cl_costs.specs.Tables.{function_of}
 use Rattle.cl_eval.proofs.Binding.{SameFrom}

@@ -1,4 +1,4 @@
-use Rattle.std.proofs.Common.{◌≡◌, false, true, ap, ◌∙◌, sym, refl}
+use Rattle.std.proofs.Common.{◌≡◌, false, true, ap, ◌∙◌, sym}
 use Rattle.std.specs.Prelude.{is_some}
 use Rattle.std.proofs.lemmas.Result.{err_from_is_err_and}
 use Rattle.cl_shapes.specs.declared.name.CostName.TheVariants.{WriteVar}

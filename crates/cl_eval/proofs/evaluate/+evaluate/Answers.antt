@@ -1,10 +1,9 @@
 -- The cycle of evaluation: each step is one law of the limit.
-use Rattle.std.proofs.Common.{◌≡◌, ◌≢◌, ◌<◌, ◌≤◌, ◌-◌, ◌∷◌, length, map, refl, sym, ap, ◌∙◌, arith}
+use Rattle.std.proofs.Common.{◌≡◌, ◌≢◌, ◌<◌, ◌≤◌, ◌-◌, length, map, refl, sym, ap, ◌∙◌, arith}
 use Rattle.std.proofs.lemmas.Int.{ints, to_z-of_z}
 use Rattle.std.proofs.lemmas.Result.{err_from_is_err_and}
 use mir.Syntax.{w128}
 use mir.Val.{to_z, of_z}
-use Rattle.cl_types.specs.declared.sized.Access.{Access}
 use Rattle.cl_values.specs.Tree.{IntV}
 use Rattle.cl_state.specs.Stack.{Stack}
 use Rattle.cl_code.specs.Typed.{expression_of}
@@ -17,11 +16,10 @@ use Rattle.cl_meaning.specs.Calls.{closing, body_in}
 use Rattle.cl_meaning.specs.Limits.{limited}
 use Rattle.cl_meaning.specs.Meaning.{means}
 use Rattle.cl_meaning.proofs.LimitLaws.{charge_within, limited-stop, then_gave}
-use Rattle.cl_eval.specs.declared.stop.Stop.TheVariants.{NoMemory}
 use Rattle.cl_eval.specs.Seen.{costs_of, scope, function_seen}
 use Rattle.cl_eval.proofs.Steps.{hands_on, stops_eq, stops_then, charge_stops, ends_so, known_some, known_none}
-use Rattle.cl_eval.proofs.Parts.{parts_turn, parts_turn_stop, parts_end, hands_on_all, onto-nil}
-use Rattle.cl_eval.proofs.Nodes.{node_is, own_name, begin_at, strict_at, var_set_at, var_set_other, call_at, means_none, means_down, applied_none, applied_down}
+use Rattle.cl_eval.proofs.Parts.{parts_turn, parts_turn_stop, parts_end, hands_on_all}
+use Rattle.cl_eval.proofs.Nodes.{node_is, begin_at, strict_at, var_set_at, var_set_other, call_at, means_none, means_down, applied_none, applied_down}
 use Rattle.cl_eval.proofs.Closing.{public_ends, public_one, other_ends, returning_ends, closes_below}
 use Rattle.cl_eval.proofs.Charged.{native_refused, native_runs}
 use Rattle.cl_eval.proofs.evaluate.+evaluate.Goals as goal

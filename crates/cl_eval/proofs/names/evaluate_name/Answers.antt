@@ -1,4 +1,4 @@
-use Rattle.std.proofs.Common.{ap, ◌∙◌, refl}
+use Rattle.std.proofs.Common.{ap, ◌∙◌}
 use Rattle.cl_meaning.specs.Answers.{Wrong}
 use Rattle.cl_meaning.specs.Limits.{limited}
 use Rattle.cl_meaning.proofs.LimitLaws.{limited-stop}
