@@ -1,0 +1,14 @@
+pub mod Costs
+pub mod Logic
+pub mod Values
+pub mod Fitting
+pub mod Scopes
+pub mod Ints
+pub mod Bodies
+pub mod Depth
+pub mod Made
+pub mod Deployments
+pub mod Sound
+pub mod Read
+pub mod UnderLimits
+pub mod Others
