@@ -19,7 +19,7 @@ use Rattle.cl_code.specs.declared.definition.Definition.TheVariants.{Function}
 use Rattle.cl_code.specs.Typed.{expression_of}
 use Rattle.cl_code.specs.Definitions.{form_defined}
 use Rattle.cl_meaning.specs.Answers.{Given, give, charged, and_then, with_known}
-use Rattle.cl_meaning.specs.Deployed.{Contract, Deployed, function_of, constant_of}
+use Rattle.cl_meaning.specs.Deployed.{Contract, Deployed}
 use Rattle.cl_meaning.specs.Deploying.{defined, all_defined, deployment, in_order}
 use Rattle.cl_meaning.specs.Scope.{Frame}
 use Rattle.cl_meaning.specs.Limits.{Costs, cost_of, Gave, Limited, limited}
@@ -28,10 +28,9 @@ use Rattle.cl_meaning.specs.Top.{top}
 use Rattle.cl_meaning.proofs.LimitLaws.{limited-stop, then_gave, charge_within}
 use Rattle.cl_eval.specs.declared.stop.Stop.{Stop}
 use Rattle.cl_eval.specs.declared.context.Context.{Context}
-use Rattle.cl_eval.specs.Seen.{forms_in}
 use Rattle.cl_eval.specs.Runs.{Stops, Ends, Pays}
 use Rattle.cl_eval.specs.Deploys.{Opens, Ordered, first_put, contract_in, contract_of, all_charged, name_of}
-use Rattle.cl_eval.proofs.Alone.{found_first}
+use Rattle.cl_eval.proofs.Serving.{found_first, serves}
 use Rattle.cl_eval.proofs.Parts.{next_part}
 use Rattle.cl_eval.proofs.Steps.{stops_eq, stops_then, hands_on, ends_so, charge_spent, charge_stops}
 
@@ -102,11 +101,14 @@ put_there costs p q c contract x v m s t home size spent top =
     ∙ ap (λ u. Gave c u q) (sym top)
 
 -- a contract with these forms is the first that is deployed
-pub opens_first : (W : Deployed) (context : Context) (forms : List Form) (n : ℕ) → Ordered forms (forms_in context.functions) → Opens W (contract_of context.frame.now.contract forms n []) context
-opens_first W context forms n ordered = record {
-  fits = record {
-    its_functions = λ x. ap (function_of x) (found_first (contract_of context.frame.now.contract forms n []) W) ∙ ordered.functions x;
-    no_constants = λ x. ap (constant_of x) (found_first (contract_of context.frame.now.contract forms n []) W);
-  };
-  home = refl;
-}
+pub opens_first : (W : Deployed) (context : Context) (forms : List Form) (n : ℕ) → Ordered forms (map form_defined context.definitions.now) → Opens W (contract_of context.frame.now.contract forms n []) context
+opens_first W context forms n ordered =
+    let opened = contract_of context.frame.now.contract forms n [] in
+    let its_own = serves (opened ∷ W) opened opened.principal (found_first opened W) refl in
+    record {
+      fits = record {
+        its_functions = λ x. its_own.its_functions x ∙ ordered.functions x;
+        no_constants = its_own.no_constants;
+      };
+      home = refl;
+    }

@@ -9,6 +9,6 @@ pub mod Closing
 pub mod DataLaws
 pub mod Lasts
 pub mod Charged
-pub mod Alone
+pub mod Serving
 pub mod Defining
 pub mod AbortLaws

@@ -33,7 +33,7 @@ pub record Ordered (forms in_turn : List Form) : Type 0 where
   pub order : in_order forms ≡ Some in_turn
   pub functions : (x : List ℕ) → function_in x forms ≡ function_in x in_turn
 
--- a contract is the frame's, and with it what is deployed has the context's functions
+-- a contract is the frame's, and with it what is deployed has the functions of the context's definitions
 pub record Opens (W : Deployed) (c : Contract) (context : Context) : Type 0 where
   pub fits : Fits (c ∷ W) context
   pub home : c.principal ≡ context.frame.now.contract

@@ -1,18 +1,15 @@
 -- What the definitions of the meaning see of functions and of the frame.
-use Rattle.std.specs.Prelude.{◌≡◌, ℕ, List, [], ◌∷◌, map, None}
+use Rattle.std.specs.Prelude.{◌≡◌, ℕ, List, map, None}
 use Rattle.cl_c32.specs.declared.principal.Principal.{Principal}
 use Rattle.cl_costs.specs.Tables.{function_of as cost_function}
 use Rattle.cl_code.specs.declared.function.Function.{Function as TypedFunction}
 use Rattle.cl_code.specs.Typed.{expression_of}
-use Rattle.cl_code.specs.Functions.{form_of}
 use Rattle.cl_code.specs.Definitions.{form_defined}
 use Rattle.cl_forms.specs.Forms.{Form}
 use Rattle.cl_meaning.specs.Deployed.{Deployed, Function, contract_at, function_in, function_of, constant_of}
 use Rattle.cl_meaning.specs.Scope.{Frame, Bound, Scope}
 use Rattle.cl_meaning.specs.Limits.{Costs}
 use Rattle.cl_eval.specs.declared.context.Frame.{Frame as FrameOfCode}
-use Rattle.cl_eval.specs.declared.context.Functions.{Functions}
-use Rattle.cl_eval.specs.declared.context.Functions.TheVariants.{Alone, Defined}
 use Rattle.cl_eval.specs.declared.context.Context.{Context}
 
 abbrev pub function_seen : TypedFunction → Function
@@ -28,23 +25,10 @@ abbrev pub scope : Deployed → Context → Bound → Scope
 scope W c bound = record { deployed = W; frame = frame_seen c.frame.now; bound = bound }
 
 -- a contract is deployed that has the functions of these forms, no others, and no constants
-pub record Holds (W : Deployed) (contract : Principal) (forms : List Form) : Type 0 where
+pub record Serves (W : Deployed) (contract : Principal) (forms : List Form) : Type 0 where
   pub its_functions : (x : List ℕ) → function_of x (contract_at contract W) ≡ function_in x forms
   pub no_constants : (x : List ℕ) → constant_of x (contract_at contract W) ≡ None
 
--- a contract is deployed that has these functions, no others, and no constants
-abbrev pub Serves : Deployed → Principal → List TypedFunction → Type 0
-Serves W contract functions = Holds W contract (map form_of functions)
-
--- the forms that the functions stand in
-abbrev pub forms_in : Functions → List Form
-forms_in (Alone functions) = map form_of functions.now
-forms_in (Defined definitions) = map form_defined definitions.now
-
--- the frame's contract is one with the context's functions
+-- the frame's contract is one with the functions of the context's definitions
 abbrev pub Fits : Deployed → Context → Type 0
-Fits W c = Holds W c.frame.now.contract (forms_in c.functions)
-
--- a contract that is deployed alone, with the forms that functions stand for
-abbrev pub alone : Principal → List TypedFunction → Deployed
-alone contract functions = record { principal = contract; forms = map form_of functions; source_length = 0; constants = [] } ∷ []
+Fits W c = Serves W c.frame.now.contract (map form_defined c.definitions.now)

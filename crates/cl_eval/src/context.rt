@@ -1,6 +1,6 @@
 //! What stays the same while the body of a function is evaluated.
 use cl_c32::Principal;
-use cl_code::{Definition, Function};
+use cl_code::Definition;
 use cl_costs::CostTable;
 
 /// Where code is evaluated.
@@ -16,17 +16,10 @@ pub struct Frame {
     pub height: u128,
 }
 
-/// Where the functions of a contract stand: alone, or among its definitions.
-#[derive(Clone, Copy)]
-pub(crate) enum Functions<'a> {
-    Alone(&'a [Function]),
-    Defined(&'a [Definition]),
-}
-
-/// The functions of the frame's contract, the frame, and what is charged for what.
+/// The definitions of the frame's contract, the frame, and what is charged for what.
 #[derive(Clone, Copy)]
 pub(crate) struct Context<'a> {
-    pub(crate) functions: Functions<'a>,
+    pub(crate) definitions: &'a [Definition],
     pub(crate) frame: &'a Frame,
     pub(crate) costs: &'a CostTable,
 }

@@ -18,7 +18,7 @@ ghost use Rattle.cl_eval.specs.Runs.{Ends, items_in};
 use crate::application::{bind, close, is_public, last};
 use crate::context::Context;
 use crate::data::{evaluate_var_get, write_variable};
-use crate::names::{evaluate_int, evaluate_name, function_of};
+use crate::names::{evaluate_int, evaluate_name, function_named};
 use crate::natives::{apply, charged_number};
 use crate::payment::pay;
 use crate::stop::Stop;
@@ -192,7 +192,7 @@ fn evaluate_call(
     ensures below { world.new.stack.below ≡ world.old.stack.below }
 {
     let values = evaluate_parts(alloc, context, bound, codes, below, world, meter)?;
-    match function_of(context.functions, name) {
+    match function_named(context.definitions, name.bytes()) {
         Some(function) => enter(alloc, context, function, values, below, world, meter),
         None => Err(Stop::Stuck),
     }
@@ -209,7 +209,7 @@ pub(crate) fn enter(
     world: &mut World,
     meter: &mut Meter,
 ) -> Result<Val, Stop>
-    requires { length values.items < 1048576 }
+    requires { length values.items < 4294967296 }
     ensures meant { (W : Deployed) (outer : Bound) → Fits W context.now → Ends (limited (costs_of context.now) meter.old (applied depth (scope W context.now outer) (OwnFunction (function_seen function.now)) values.items world.old.stack.top)) result meter.new world.new.stack.top }
     ensures below { world.new.stack.below ≡ world.old.stack.below }
 {

@@ -21,5 +21,6 @@ mod values;
 pub use abort::Abort;
 pub use call::run;
 pub use context::Frame;
-pub use laws::forms_of_functions_serve;
+pub use laws::contracts_serve_their_forms;
+pub use names::function_named;
 pub use top::run_top;

@@ -1,5 +1,5 @@
 //! What stands under a name.
-ghost use Rattle.std.specs.Prelude.{◌≡◌, map, false};
+ghost use Rattle.std.specs.Prelude.{◌≡◌, map, false, Contains, IfSome};
 ghost use Rattle.std.specs.Option.{option_map};
 ghost use Rattle.cl_forms.specs.Heads.{is_reserved};
 ghost use Rattle.cl_code.specs.Definitions.{form_defined};
@@ -12,10 +12,10 @@ ghost use Rattle.cl_meaning.specs.Answers.{give, charged};
 ghost use Rattle.cl_meaning.specs.Limits.{limited};
 ghost use Rattle.cl_meaning.specs.Names.{name_form, standing};
 ghost use Rattle.cl_events.specs.State.{State};
-ghost use Rattle.cl_eval.specs.Seen.{function_seen, forms_in, costs_of, scope, Fits};
+ghost use Rattle.cl_eval.specs.Seen.{function_seen, costs_of, scope, Fits};
 ghost use Rattle.cl_eval.specs.Runs.{Ends};
 
-use crate::context::{Context, Functions};
+use crate::context::Context;
 use crate::payment::pay;
 use crate::stop::Stop;
 use crate::values::int_value;
@@ -37,47 +37,26 @@ fn bound_value<'a>(bound: &'a [(Name, Val)], name: &Name) -> Option<&'a Val>
     None
 }
 
-/// The first function of a name.
-pub(crate) fn function_named<'a>(functions: &'a [Function], name: &Name) -> Option<&'a Function>
-    ensures { option_map (λ f. function_seen f.now) result ≡ function_in name.now (map form_of functions.now) }
-{
-    for function in functions {
-        if function.name.bytes() == name.bytes() {
-            return Some(function);
-        }
-    }
-    None
-}
-
 /// The first definition of a name, if it is a function.
-fn function_defined<'a>(definitions: &'a [Definition], name: &Name) -> Option<&'a Function>
-    ensures { option_map (λ f. function_seen f.now) result ≡ function_in name.now (map form_defined definitions.now) }
+pub fn function_named<'a>(definitions: &'a [Definition], name: &[u8]) -> Option<&'a Function>
+    ensures found { option_map (λ f. function_seen f.now) result ≡ function_in name.now (map form_defined definitions.now) }
+    ensures among { IfSome result (λ f. Contains (map form_defined definitions.now) (form_of f.now)) }
 {
     for definition in definitions {
         match definition {
             Definition::Variable(variable) => {
-                if variable.name.bytes() == name.bytes() {
+                if variable.name.bytes() == name {
                     return None;
                 }
             }
             Definition::Function(function) => {
-                if function.name.bytes() == name.bytes() {
+                if function.name.bytes() == name {
                     return Some(function);
                 }
             }
         }
     }
     None
-}
-
-/// The function of a name in the frame's contract.
-pub(crate) fn function_of<'a>(functions: Functions<'a>, name: &Name) -> Option<&'a Function>
-    ensures { option_map (λ f. function_seen f.now) result ≡ function_in name.now (forms_in functions.entry) }
-{
-    match functions {
-        Functions::Alone(functions) => function_named(functions, name),
-        Functions::Defined(definitions) => function_defined(definitions, name),
-    }
 }
 
 /// The length of an int on the wire, in bytes.

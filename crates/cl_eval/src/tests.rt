@@ -1,4 +1,6 @@
 //! Calls and deployments of small contracts. What they answer, cost and leave was reckoned by hand from the rules.
+ghost use Rattle.std.specs.Prelude.{◌<◌, length};
+
 use crate::{Abort, Frame, run, run_top};
 use cl_c32::{Address, ContractName, Principal};
 use cl_code::{Code, Definition, Function, Op, Strict, Variable, Word};
@@ -13,9 +15,13 @@ use std::test::Fail;
 
 const NOWHERE: Span = Span { start: 0, end: 0 };
 
-fn word(name: &str) -> Result<Word, Fail> {
+fn name_of(text: &str) -> Result<Name, Fail> {
+    Ok(Name::make(text.as_bytes()).ok_or("a name")?)
+}
+
+fn word(text: &str) -> Result<Word, Fail> {
     Ok(Word {
-        name: Name::make(name.as_bytes()).ok_or("a name")?,
+        name: name_of(text)?,
         span: NOWHERE,
     })
 }
@@ -24,61 +30,67 @@ fn int_type(alloc: Global) -> Result<SizedTy, Fail> {
     Ok(SizedTy::make(alloc, Ty { kind: TyKind::Int })?)
 }
 
-fn node(alloc: Global, op: Op, parts: Vec<Code>) -> Result<Code, Fail> {
-    Ok(Code::make(op, parts, int_type(alloc)?, NOWHERE).ok_or("a node")?)
+/// A node whose parts are the nodes before it, in a list of nodes from the innermost on.
+#[derive(Clone, Copy)]
+enum Node {
+    Int(i128),
+    Bound(&'static str),
+    Get(&'static str),
+    Set(&'static str),
+    Call(&'static str),
+    One(Strict),
+    Two(Strict),
+    Begin,
 }
 
-fn int(alloc: Global, number: i128) -> Result<Code, Fail> {
-    node(alloc, Op::Int(number), Vec::new(alloc))
-}
+use Node::{Begin, Bound, Call, Get, Int, One, Set, Two};
 
-fn bound(alloc: Global, name: &str) -> Result<Code, Fail> {
-    node(alloc, Op::Bound(word(name)?.name), Vec::new(alloc))
-}
-
-fn variable(alloc: Global, name: &str) -> Result<Code, Fail> {
-    let op = Op::VarGet {
-        head: NOWHERE,
-        variable: word(name)?,
-    };
-    node(alloc, op, Vec::new(alloc))
-}
-
-fn set(alloc: Global, name: &str, value: Code) -> Result<Code, Fail> {
-    let op = Op::VarSet {
-        head: NOWHERE,
-        variable: word(name)?,
-    };
-    one(alloc, op, value)
-}
-
-fn one(alloc: Global, op: Op, part: Code) -> Result<Code, Fail> {
-    let mut parts = Vec::new(alloc);
-    parts.push(part)?;
-    node(alloc, op, parts)
-}
-
-fn two(alloc: Global, op: Op, first: Code, second: Code) -> Result<Code, Fail> {
-    let mut parts = Vec::new(alloc);
-    parts.push(first)?;
-    parts.push(second)?;
-    node(alloc, op, parts)
-}
-
-fn strict(native: Strict) -> Op {
-    Op::OnValues {
-        native,
-        head: NOWHERE,
+/// What a node does, and the number of its parts.
+fn op_of(node: Node) -> Result<(Op, usize), Fail> {
+    let head = NOWHERE;
+    match node {
+        Int(number) => Ok((Op::Int(number), 0)),
+        Bound(name) => Ok((Op::Bound(name_of(name)?), 0)),
+        Get(name) => {
+            let variable = word(name)?;
+            Ok((Op::VarGet { head, variable }, 0))
+        }
+        Set(name) => {
+            let variable = word(name)?;
+            Ok((Op::VarSet { head, variable }, 1))
+        }
+        Call(name) => Ok((Op::Call(word(name)?), 1)),
+        One(native) => Ok((Op::OnValues { native, head }, 1)),
+        Two(native) => Ok((Op::OnValues { native, head }, 2)),
+        Begin => Ok((Op::Begin { head }, 2)),
     }
 }
 
-const BEGIN: Op = Op::Begin { head: NOWHERE };
+/// Puts a node in place of its parts, the last ones.
+fn add(alloc: Global, codes: &mut Vec<Code>, node: Node) -> Result<(), Fail> {
+    let (op, count) = op_of(node)?;
+    let before = codes.len().checked_sub(count).ok_or("parts")?;
+    let parts = codes.split_off(before)?;
+    let code = Code::make(op, parts, int_type(alloc)?, NOWHERE).ok_or("a node")?;
+    codes.push(code)?;
+    Ok(())
+}
+
+fn tree(alloc: Global, nodes: &[Node]) -> Result<Code, Fail> {
+    let mut codes = Vec::new(alloc);
+    for node in nodes {
+        add(alloc, &mut codes, *node)?;
+    }
+    Ok(codes.pop().ok_or("a tree")?)
+}
+
+/// The access of a function of an int `x`, or none for a variable; a name; and the body or the first value.
+type Form = (Option<Access>, &'static str, &'static [Node]);
 
 fn function(alloc: Global, access: Access, name: &str, body: Code) -> Result<Function, Fail> {
-    let mut params = Vec::new(alloc);
-    params.push((word("x")?.name, int_type(alloc)?))?;
+    let params = vec![in alloc; (name_of("x")?, int_type(alloc)?)]?;
     Ok(Function {
-        name: word(name)?.name,
+        name: name_of(name)?,
         access,
         params,
         returns: int_type(alloc)?,
@@ -88,119 +100,98 @@ fn function(alloc: Global, access: Access, name: &str, body: Code) -> Result<Fun
     })
 }
 
-// (begin (var-set n x) R)
-fn writing(alloc: Global, answer: Code) -> Result<Code, Fail> {
-    let write = set(alloc, "n", bound(alloc, "x")?)?;
-    two(alloc, BEGIN, write, answer)
+fn variable(alloc: Global, name: &str, value: Code) -> Result<Variable, Fail> {
+    Ok(Variable {
+        name: name_of(name)?,
+        ty: int_type(alloc)?,
+        value,
+        span: NOWHERE,
+    })
 }
+
+fn definition(alloc: Global, form: &Form) -> Result<Definition, Fail> {
+    let tree = tree(alloc, form.2)?;
+    match form.0 {
+        Some(access) => Ok(Definition::Function(function(alloc, access, form.1, tree)?)),
+        None => Ok(Definition::Variable(variable(alloc, form.1, tree)?)),
+    }
+}
+
+fn definitions(alloc: Global, forms: &[Form]) -> Result<Vec<Definition>, Fail> {
+    let mut definitions = Vec::new(alloc);
+    for form in forms {
+        definitions.push(definition(alloc, form)?)?;
+    }
+    Ok(definitions)
+}
+
+const X: Node = Bound("x");
+
+const SET: Node = Set("n");
+
+const SUM: Node = Two(Strict::Add);
+
+const ERR: Node = One(Strict::MakeErr);
+
+const READ_ONLY: Option<Access> = Some(Access::ReadOnly);
 
 // (define-public (put (x int)) (begin (var-set n x) (ok (+ x 1))))
-fn put(alloc: Global) -> Result<Function, Fail> {
-    let sum = two(
-        alloc,
-        strict(Strict::Add),
-        bound(alloc, "x")?,
-        int(alloc, 1)?,
-    )?;
-    let answer = one(alloc, strict(Strict::MakeOk), sum)?;
-    function(alloc, Access::Public, "put", writing(alloc, answer)?)
-}
+const PUT: Form = (
+    Some(Access::Public),
+    "put",
+    &[X, SET, X, Int(1), SUM, One(Strict::MakeOk), Begin],
+);
 
 // (define-public (no (x int)) (begin (var-set n x) (err x)))
-fn no(alloc: Global) -> Result<Function, Fail> {
-    let answer = one(alloc, strict(Strict::MakeErr), bound(alloc, "x")?)?;
-    function(alloc, Access::Public, "no", writing(alloc, answer)?)
-}
+const NO: Form = (Some(Access::Public), "no", &[X, SET, X, ERR, Begin]);
 
 // (define-private (keep (x int)) (begin (var-set n x) (err x)))
-fn keep(alloc: Global) -> Result<Function, Fail> {
-    let answer = one(alloc, strict(Strict::MakeErr), bound(alloc, "x")?)?;
-    function(alloc, Access::Private, "keep", writing(alloc, answer)?)
-}
+const KEEP: Form = (Some(Access::Private), "keep", &[X, SET, X, ERR, Begin]);
 
 // (define-read-only (f (x int)) (+ x 1))
-fn f(alloc: Global) -> Result<Function, Fail> {
-    let sum = two(
-        alloc,
-        strict(Strict::Add),
-        bound(alloc, "x")?,
-        int(alloc, 1)?,
-    )?;
-    function(alloc, Access::ReadOnly, "f", sum)
-}
+const F: Form = (READ_ONLY, "f", &[X, Int(1), SUM]);
 
 // (define-read-only (g (x int)) (f (f x)))
-fn g(alloc: Global) -> Result<Function, Fail> {
-    let inner = one(alloc, Op::Call(word("f")?), bound(alloc, "x")?)?;
-    let outer = one(alloc, Op::Call(word("f")?), inner)?;
-    function(alloc, Access::ReadOnly, "g", outer)
-}
+const G: Form = (READ_ONLY, "g", &[X, Call("f"), Call("f")]);
 
 // (define-read-only (less (x int)) (- x 3))
-fn less(alloc: Global) -> Result<Function, Fail> {
-    let rest = two(
-        alloc,
-        strict(Strict::Subtract),
-        bound(alloc, "x")?,
-        int(alloc, 3)?,
-    )?;
-    function(alloc, Access::ReadOnly, "less", rest)
-}
+const LESS: Form = (READ_ONLY, "less", &[X, Int(3), Two(Strict::Subtract)]);
 
 // (define-read-only (negated (x int)) (- x))
-fn negated(alloc: Global) -> Result<Function, Fail> {
-    let body = one(alloc, strict(Strict::Subtract), bound(alloc, "x")?)?;
-    function(alloc, Access::ReadOnly, "negated", body)
-}
+const NEGATED: Form = (READ_ONLY, "negated", &[X, One(Strict::Subtract)]);
 
 // (define-read-only (square (x int)) (* x x))
-fn square(alloc: Global) -> Result<Function, Fail> {
-    let body = two(
-        alloc,
-        strict(Strict::Multiply),
-        bound(alloc, "x")?,
-        bound(alloc, "x")?,
-    )?;
-    function(alloc, Access::ReadOnly, "square", body)
-}
+const SQUARE: Form = (READ_ONLY, "square", &[X, X, Two(Strict::Multiply)]);
 
 // (define-read-only (again (x int)) (again x))
-fn again(alloc: Global) -> Result<Function, Fail> {
-    let body = one(alloc, Op::Call(word("again")?), bound(alloc, "x")?)?;
-    function(alloc, Access::ReadOnly, "again", body)
-}
+const AGAIN: Form = (READ_ONLY, "again", &[X, Call("again")]);
 
-// (define-read-only (read (x int)) (var-get n)), and of a variable that isn't there
-fn read(alloc: Global, name: &str, read: &str) -> Result<Function, Fail> {
-    function(alloc, Access::ReadOnly, name, variable(alloc, read)?)
-}
+// (define-read-only (read (x int)) (var-get n))
+const READ: Form = (READ_ONLY, "read", &[Get("n")]);
 
-fn functions(alloc: Global) -> Result<Vec<Function>, Fail> {
-    let mut functions = Vec::new(alloc);
-    functions.push(put(alloc)?)?;
-    functions.push(no(alloc)?)?;
-    functions.push(keep(alloc)?)?;
-    functions.push(f(alloc)?)?;
-    functions.push(g(alloc)?)?;
-    functions.push(less(alloc)?)?;
-    functions.push(negated(alloc)?)?;
-    functions.push(square(alloc)?)?;
-    functions.push(again(alloc)?)?;
-    functions.push(read(alloc, "read", "n")?)?;
-    functions.push(read(alloc, "missing", "m")?)?;
-    Ok(functions)
-}
+// (define-read-only (missing (x int)) (var-get m)), of a variable that isn't there
+const MISSING: Form = (READ_ONLY, "missing", &[Get("m")]);
 
-/// What a call gave.
-#[derive(Clone, Copy, Debug, PartialEq, Eq)]
+// (define-data-var n int 0)
+const ZERO: Form = (None, "n", &[Int(0)]);
+
+const FORMS: &[Form] = &[
+    ZERO, PUT, NO, KEEP, F, G, LESS, NEGATED, SQUARE, AGAIN, READ, MISSING,
+];
+
+/// What a call gave, or the number of the constants that a deployment did.
+#[derive(Clone, Copy, PartialEq, Eq)]
 enum Seen {
     Plain(i128),
     Good(i128),
     Bad(i128),
+    Constants(usize),
     Aborted(Abort),
     NoMemory,
     Other,
 }
+
+use Seen::{Aborted, Bad, Constants, Good, Plain};
 
 fn plain(value: &Value) -> Option<i128> {
     match value.kind {
@@ -209,20 +200,26 @@ fn plain(value: &Value) -> Option<i128> {
     }
 }
 
+fn response(good: bool, inner: &Value) -> Seen {
+    match plain(inner) {
+        Some(number) if good => Good(number),
+        Some(number) => Bad(number),
+        None => Seen::Other,
+    }
+}
+
 fn given(value: &Value) -> Seen {
     match &value.kind {
-        Kind::Int(number) => Seen::Plain(*number),
-        Kind::Response { good, inner } => match plain(inner) {
-            Some(number) => {
-                if *good {
-                    Seen::Good(number)
-                } else {
-                    Seen::Bad(number)
-                }
-            }
-            None => Seen::Other,
-        },
+        Kind::Int(number) => Plain(*number),
+        Kind::Response { good, inner } => response(*good, inner),
         _ => Seen::Other,
+    }
+}
+
+fn stopped(fault: &Fault<Abort>) -> Seen {
+    match fault {
+        Fault::Refused(abort) => Aborted(*abort),
+        Fault::NoMemory => Seen::NoMemory,
     }
 }
 
@@ -233,59 +230,96 @@ fn contract() -> Result<Principal, Fail> {
     })
 }
 
+fn deployer() -> Principal {
+    Principal {
+        address: Address::new(22, &[0; 20]),
+        contract: None,
+    }
+}
+
+// the deployer calls, and is who sent the transaction
+fn frame() -> Result<Frame, Fail> {
+    Ok(Frame {
+        contract: contract()?,
+        sender: deployer(),
+        caller: deployer(),
+        height: 0,
+    })
+}
+
+// the variable `n` of a contract
+fn place(contract: &Principal) -> Result<Place, Fail> {
+    let name = name_of("n")?;
+    let contract = *contract;
+    Ok(Place { contract, name })
+}
+
+fn held(world: &World, contract: &Principal) -> Result<Option<i128>, Fail> {
+    match world.variable(&place(contract)?)? {
+        Some(value) => Ok(plain(value.value())),
+        None => Ok(None),
+    }
+}
+
 fn int_val(number: i128) -> Result<Val, Fail> {
     let kind = Kind::Int(number);
     Ok(Val::make(Value { kind })?)
 }
 
-/// Calls a function where the variable `n` is 7: what it gives, what is spent, and what `n` is then.
+/// What a call or a deployment gives, what is spent, and what `n` is then.
+type Outcome = (Seen, Cost5, Option<i128>);
+
+fn call(
+    alloc: Global,
+    world: &mut World,
+    definitions: &[Definition],
+    frame: &Frame,
+    name: &Name,
+    args: Vec<Val>,
+    meter: &mut Meter,
+) -> Seen
+    requires { length args.items < 4294967296 }
+{
+    let costs = CostTable::builtin();
+    match run(alloc, world, definitions, frame, name, args, &costs, meter) {
+        Ok(value) => given(value.value()),
+        Err(fault) => stopped(&fault),
+    }
+}
+
+/// Calls a function with an argument where the variable `n` is 7.
 fn called(
     alloc: Global,
+    definitions: &[Definition],
     name: &str,
     argument: i128,
     limit: [u64; 5],
-) -> Result<(Seen, Cost5, Option<i128>), Fail> {
-    let contract = contract()?;
-    let frame = Frame {
-        contract,
-        sender: contract,
-        caller: contract,
-        height: 0,
-    };
-    let place = Place {
-        contract,
-        name: word("n")?.name,
-    };
+) -> Result<Outcome, Fail> {
+    let name = name_of(name)?;
+    let args = vec![in alloc; int_val(argument)?]?;
+    let frame = frame()?;
     let mut world = World::genesis(Vec::new(alloc))?;
-    world.put_variable(&place, int_val(7)?)?;
+    world.put_variable(&place(&frame.contract)?, int_val(7)?)?;
     let mut meter = Meter::new(limit);
-    let mut args = Vec::new(alloc);
-    args.push(int_val(argument)?)?;
-    let functions = functions(alloc)?;
-    let costs = CostTable::builtin();
-    let result = run(
+    let seen = call(
         alloc,
         &mut world,
-        &functions,
+        definitions,
         &frame,
-        &word(name)?.name,
+        &name,
         args,
-        &costs,
         &mut meter,
     );
-    let seen = match &result {
-        Ok(value) => given(value.value()),
-        Err(Fault::Refused(abort)) => Seen::Aborted(*abort),
-        Err(Fault::NoMemory) => Seen::NoMemory,
-    };
-    let after = match world.variable(&place)? {
-        Some(value) => plain(value.value()),
-        None => None,
-    };
-    Ok((seen, meter.spent(), after))
+    Ok((seen, meter.spent(), held(&world, &frame.contract)?))
 }
 
-fn cost(runtime: u128, reads: u128, writes: u128) -> Cost5 {
+const MOST: [u64; 5] = [u64::MAX; 5];
+
+/// A call: the function, its argument and the limit; what it gives; the runtime, the reads and the writes that are spent; and
+/// what `n` is then.
+type Row = (&'static str, i128, [u64; 5], Seen, [u128; 3], i128);
+
+fn cost([runtime, reads, writes]: [u128; 3]) -> Cost5 {
     Cost5 {
         runtime,
         read_count: reads.min(1),
@@ -295,227 +329,146 @@ fn cost(runtime: u128, reads: u128, writes: u128) -> Cost5 {
     }
 }
 
-const MOST: [u64; 5] = [u64::MAX; 5];
+// the first call that doesn't go as it says
+fn first_wrong_call(alloc: Global, rows: &[Row]) -> Result<Option<&'static str>, Fail> {
+    let definitions = definitions(alloc, FORMS)?;
+    for (name, argument, limit, seen, spent, after) in rows {
+        let outcome = called(alloc, &definitions, name, *argument, *limit)?;
+        if outcome != (*seen, cost(*spent), Some(*after)) {
+            return Ok(Some(*name));
+        }
+    }
+    Ok(None)
+}
 
 #[test]
 fn answers_costs_and_writes(rt: HostRuntime) -> Result<(), Fail> {
-    let overflow = Seen::Aborted(Abort::Overflow);
-    let stuck = Seen::Aborted(Abort::Stuck);
-    let table = [
-        ("put", 4, Seen::Good(5), cost(9, 0, 1), 4),
-        ("no", 9, Seen::Bad(9), cost(7, 0, 1), 7),
-        ("keep", 9, Seen::Bad(9), cost(7, 0, 1), 9),
-        ("put", i128::MAX, overflow, cost(8, 0, 1), 7),
-        ("f", 4, Seen::Plain(5), cost(5, 0, 0), 7),
-        ("f", i128::MAX, overflow, cost(5, 0, 0), 7),
-        ("g", 4, Seen::Plain(6), cost(13, 0, 0), 7),
-        ("less", 1, Seen::Plain(-2), cost(5, 0, 0), 7),
-        ("negated", 4, Seen::Plain(-4), cost(4, 0, 0), 7),
-        ("square", -4, Seen::Plain(16), cost(5, 0, 0), 7),
-        ("read", 1, Seen::Plain(7), cost(3, 1, 0), 7),
-        ("missing", 1, stuck, cost(2, 0, 0), 7),
-        ("again", 1, stuck, cost(383, 0, 0), 7),
-        ("unknown", 1, stuck, cost(0, 0, 0), 7),
+    let overflow = Aborted(Abort::Overflow);
+    let stuck = Aborted(Abort::Stuck);
+    let rows: &[Row] = &[
+        ("put", 4, MOST, Good(5), [9, 0, 1], 4),
+        ("no", 9, MOST, Bad(9), [7, 0, 1], 7),
+        ("keep", 9, MOST, Bad(9), [7, 0, 1], 9),
+        ("put", i128::MAX, MOST, overflow, [8, 0, 1], 7),
+        ("f", 4, MOST, Plain(5), [5, 0, 0], 7),
+        ("f", i128::MAX, MOST, overflow, [5, 0, 0], 7),
+        ("g", 4, MOST, Plain(6), [13, 0, 0], 7),
+        ("less", 1, MOST, Plain(-2), [5, 0, 0], 7),
+        ("negated", 4, MOST, Plain(-4), [4, 0, 0], 7),
+        ("square", -4, MOST, Plain(16), [5, 0, 0], 7),
+        ("read", 1, MOST, Plain(7), [3, 1, 0], 7),
+        ("missing", 1, MOST, stuck, [2, 0, 0], 7),
+        ("again", 1, MOST, stuck, [383, 0, 0], 7),
+        ("unknown", 1, MOST, stuck, [0, 0, 0], 7),
     ];
-    for (name, argument, seen, cost, after) in table {
-        let (answer, spent, variable) = called(rt.alloc(), name, argument, MOST)?;
-        assert_eq!(rt; answer, seen);
-        assert_eq!(rt; spent, cost);
-        assert_eq!(rt; variable, Some(after));
-    }
+    assert_eq!(rt; first_wrong_call(rt.alloc(), rows)?, None);
     Ok(())
+}
+
+fn over(dimension: Dimension, attempted: Cost5, limit: u64) -> Seen {
+    Aborted(Abort::CostLimit(Over {
+        dimension,
+        attempted,
+        limit,
+    }))
 }
 
 #[test]
 fn a_limit_stops_above_it(rt: HostRuntime) -> Result<(), Fail> {
-    let (answer, spent, variable) = called(rt.alloc(), "put", 4, [9, 0, 0, 1, 17])?;
-    assert_eq!(rt; answer, Seen::Good(5));
-    assert_eq!(rt; spent, cost(9, 0, 1));
-    assert_eq!(rt; variable, Some(4));
-    let (answer, spent, variable) = called(rt.alloc(), "put", 4, [8, 0, 0, 1, 17])?;
-    let over = Over {
-        dimension: Dimension::Runtime,
-        attempted: cost(9, 0, 1),
-        limit: 8,
-    };
-    assert_eq!(rt; answer, Seen::Aborted(Abort::CostLimit(over)));
-    assert_eq!(rt; spent, cost(8, 0, 1));
-    assert_eq!(rt; variable, Some(7));
-    let (answer, spent, variable) = called(rt.alloc(), "put", 4, [9, 0, 0, 1, 16])?;
-    let over = Over {
-        dimension: Dimension::WriteLength,
-        attempted: cost(5, 0, 1),
-        limit: 16,
-    };
-    assert_eq!(rt; answer, Seen::Aborted(Abort::CostLimit(over)));
-    assert_eq!(rt; spent, cost(4, 0, 0));
-    assert_eq!(rt; variable, Some(7));
+    let runtime = over(Dimension::Runtime, cost([9, 0, 1]), 8);
+    let length = over(Dimension::WriteLength, cost([5, 0, 1]), 16);
+    let rows: &[Row] = &[
+        ("put", 4, [9, 0, 0, 1, 17], Good(5), [9, 0, 1], 4),
+        ("put", 4, [8, 0, 0, 1, 17], runtime, [8, 0, 1], 7),
+        ("put", 4, [9, 0, 0, 1, 16], length, [4, 0, 0], 7),
+    ];
+    assert_eq!(rt; first_wrong_call(rt.alloc(), rows)?, None);
     Ok(())
 }
 
-// (define-data-var NAME int VALUE)
-fn first(alloc: Global, name: &str, value: Code) -> Result<Definition, Fail> {
-    Ok(Definition::Variable(Variable {
-        name: word(name)?.name,
-        ty: int_type(alloc)?,
-        value,
-        span: NOWHERE,
-    }))
-}
-
-/// What a deployment gave: the number of its constants, or how it aborted.
-#[derive(Clone, Copy, Debug, PartialEq, Eq)]
-enum Deployment {
-    Constants(usize),
-    Aborted(Abort),
-    NoMemory,
-}
-
-fn deployer() -> Principal {
-    Principal {
-        address: Address::new(22, &[0; 20]),
-        contract: None,
+fn deploy(
+    alloc: Global,
+    world: &mut World,
+    definitions: &[Definition],
+    frame: &Frame,
+    meter: &mut Meter,
+) -> Seen {
+    let costs = CostTable::builtin();
+    match run_top(alloc, world, definitions, 147, frame, &costs, meter) {
+        Ok(constants) => Constants(constants.len()),
+        Err(fault) => stopped(&fault),
     }
 }
 
-// the deployer calls, and is who sent the transaction
-fn deployer_frame() -> Result<Frame, Fail> {
-    Ok(Frame {
-        contract: contract()?,
-        sender: deployer(),
-        caller: deployer(),
-        height: 0,
-    })
-}
-
-fn deployment_of(answer: &Result<Vec<(Name, Val)>, Fault<Abort>>) -> Deployment {
-    match answer {
-        Ok(constants) => Deployment::Constants(constants.len()),
-        Err(Fault::Refused(abort)) => Deployment::Aborted(*abort),
-        Err(Fault::NoMemory) => Deployment::NoMemory,
-    }
-}
-
-/// Deploys a text of 147 bytes: what it gives, what is spent, and what `n` is then, of this contract and of its deployer.
+/// Deploys a text of 147 bytes; and what `n` is then of the deployer.
 fn deployed(
     alloc: Global,
     definitions: &[Definition],
     limit: [u64; 5],
-) -> Result<(Deployment, Cost5, Option<i128>, Option<i128>), Fail> {
-    let frame = deployer_frame()?;
+) -> Result<(Outcome, Option<i128>), Fail> {
+    let frame = frame()?;
     let mut world = World::genesis(Vec::new(alloc))?;
     let mut meter = Meter::new(limit);
-    let costs = CostTable::builtin();
-    let result = run_top(
-        alloc,
-        &mut world,
-        definitions,
-        147,
-        &frame,
-        &costs,
-        &mut meter,
-    );
-    let seen = deployment_of(&result);
+    let seen = deploy(alloc, &mut world, definitions, &frame, &mut meter);
     let own = held(&world, &frame.contract)?;
     let other = held(&world, &frame.sender)?;
-    Ok((seen, meter.spent(), own, other))
+    Ok(((seen, meter.spent(), own), other))
 }
 
-fn held(world: &World, contract: &Principal) -> Result<Option<i128>, Fail> {
-    let place = Place {
-        contract: *contract,
-        name: word("n")?.name,
-    };
-    match world.variable(&place)? {
-        Some(value) => Ok(plain(value.value())),
-        None => Ok(None),
-    }
-}
+/// A deployment: its forms and the limit; what it gives; the runtime, and the number and length of the writes, that are spent;
+/// and what `n` is then.
+type DeploymentRow = (&'static [Form], [u64; 5], Seen, [u128; 3], Option<i128>);
 
-// what is charged for writing alone
-fn writing_cost(runtime: u128, count: u128, length: u128) -> Cost5 {
+fn written([runtime, write_count, write_length]: [u128; 3]) -> Cost5 {
     Cost5 {
         runtime,
         read_count: 0,
         read_length: 0,
-        write_count: count,
-        write_length: length,
+        write_count,
+        write_length,
     }
 }
 
-// (define-data-var n int 0)(define-public (put (x int)) ..)(define-public (no (x int)) ..)
-fn variable_and_functions(alloc: Global) -> Result<Vec<Definition>, Fail> {
-    let mut definitions = Vec::new(alloc);
-    definitions.push(first(alloc, "n", int(alloc, 0)?)?)?;
-    definitions.push(Definition::Function(put(alloc)?))?;
-    definitions.push(Definition::Function(no(alloc)?))?;
-    Ok(definitions)
+// the first deployment that doesn't go as it says
+fn first_wrong_deployment(alloc: Global, rows: &[DeploymentRow]) -> Result<Option<usize>, Fail> {
+    for (i, (forms, limit, seen, spent, after)) in rows.iter().enumerate() {
+        let definitions = definitions(alloc, forms)?;
+        let outcome = deployed(alloc, &definitions, *limit)?;
+        if outcome != ((*seen, written(*spent), *after), None) {
+            return Ok(Some(i));
+        }
+    }
+    Ok(None)
 }
 
-#[test]
-fn deployment_is_charged_and_defines(rt: HostRuntime) -> Result<(), Fail> {
-    let definitions = variable_and_functions(rt.alloc())?;
-    let (answer, spent, own, other) = deployed(rt.alloc(), &definitions, MOST)?;
-    assert_eq!(rt; answer, Deployment::Constants(0));
-    assert_eq!(rt; spent, writing_cost(5, 4, 164));
-    assert_eq!(rt; own, Some(0));
-    assert_eq!(rt; other, None);
-    Ok(())
-}
+const WRITING: &[Form] = &[ZERO, PUT, NO];
+
+// (define-data-var n int (f 4)), after the function
+const EVALUATED: &[Form] = &[F, (None, "n", &[Int(4), Call("f")])];
+
+const OVERFLOWING: &[Form] = &[(None, "n", &[Int(i128::MAX), Int(1), SUM])];
+
+const UNKNOWN: &[Form] = &[(None, "n", &[X])];
 
 #[test]
-fn deployment_stops_above_the_limit(rt: HostRuntime) -> Result<(), Fail> {
-    let definitions = variable_and_functions(rt.alloc())?;
-    let (answer, spent, own, _) = deployed(rt.alloc(), &definitions, [5, 0, 0, 4, 164])?;
-    assert_eq!(rt; answer, Deployment::Constants(0));
-    assert_eq!(rt; spent, writing_cost(5, 4, 164));
-    assert_eq!(rt; own, Some(0));
-    let (answer, spent, own, _) = deployed(rt.alloc(), &definitions, [5, 0, 0, 4, 163])?;
-    let over = Over {
-        dimension: Dimension::WriteLength,
-        attempted: writing_cost(3, 2, 164),
-        limit: 163,
-    };
-    assert_eq!(rt; answer, Deployment::Aborted(Abort::CostLimit(over)));
-    assert_eq!(rt; spent, writing_cost(2, 1, 147));
-    assert_eq!(rt; own, None);
-    Ok(())
-}
-
-#[test]
-fn first_value_is_evaluated(rt: HostRuntime) -> Result<(), Fail> {
-    let alloc = rt.alloc();
-    let mut definitions = Vec::new(alloc);
-    definitions.push(Definition::Function(f(alloc)?))?;
-    let call = one(alloc, Op::Call(word("f")?), int(alloc, 4)?)?;
-    definitions.push(first(alloc, "n", call)?)?;
-    let (answer, spent, own, _) = deployed(alloc, &definitions, MOST)?;
-    assert_eq!(rt; answer, Deployment::Constants(0));
-    assert_eq!(rt; spent, writing_cost(9, 3, 164));
-    assert_eq!(rt; own, Some(5));
-    Ok(())
-}
-
-#[test]
-fn deployment_aborts_as_its_first_values_do(rt: HostRuntime) -> Result<(), Fail> {
-    let alloc = rt.alloc();
-    let sum = two(
-        alloc,
-        strict(Strict::Add),
-        int(alloc, i128::MAX)?,
-        int(alloc, 1)?,
-    )?;
-    let mut overflowing = Vec::new(alloc);
-    overflowing.push(first(alloc, "n", sum)?)?;
-    let (answer, spent, own, _) = deployed(alloc, &overflowing, MOST)?;
-    assert_eq!(rt; answer, Deployment::Aborted(Abort::Overflow));
-    assert_eq!(rt; spent, writing_cost(4, 1, 147));
-    assert_eq!(rt; own, None);
-    let mut unknown = Vec::new(alloc);
-    unknown.push(first(alloc, "n", bound(alloc, "x")?)?)?;
-    let (answer, spent, own, _) = deployed(alloc, &unknown, MOST)?;
-    assert_eq!(rt; answer, Deployment::Aborted(Abort::Stuck));
-    assert_eq!(rt; spent, writing_cost(1, 1, 147));
-    assert_eq!(rt; own, None);
+fn deployments_charge_and_define(rt: HostRuntime) -> Result<(), Fail> {
+    let over = over(Dimension::WriteLength, written([3, 2, 164]), 163);
+    let overflow = Aborted(Abort::Overflow);
+    let stuck = Aborted(Abort::Stuck);
+    let rows: &[DeploymentRow] = &[
+        (WRITING, MOST, Constants(0), [5, 4, 164], Some(0)),
+        (
+            WRITING,
+            [5, 0, 0, 4, 164],
+            Constants(0),
+            [5, 4, 164],
+            Some(0),
+        ),
+        (WRITING, [5, 0, 0, 4, 163], over, [2, 1, 147], None),
+        (EVALUATED, MOST, Constants(0), [9, 3, 164], Some(5)),
+        (OVERFLOWING, MOST, overflow, [4, 1, 147], None),
+        (UNKNOWN, MOST, stuck, [1, 1, 147], None),
+    ];
+    assert_eq!(rt; first_wrong_deployment(rt.alloc(), rows)?, None);
     Ok(())
 }

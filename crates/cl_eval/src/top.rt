@@ -14,7 +14,7 @@ ghost use Rattle.cl_eval.specs.Deploys.{Opens, Defines, Ordered, first_put, cont
 
 use crate::abort::{Abort, fault};
 use crate::call::MOST_DEPTH;
-use crate::context::{Context, Frame, Functions};
+use crate::context::{Context, Frame};
 use crate::evaluate::evaluate;
 use crate::payment::pay;
 use crate::stop::Stop;
@@ -140,7 +140,7 @@ pub fn run_top(
     ensures below { world.new.stack.below ≡ world.old.stack.below }
 {
     let context = Context {
-        functions: Functions::Defined(definitions),
+        definitions,
         frame,
         costs,
     };

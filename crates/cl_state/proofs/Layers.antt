@@ -1,12 +1,12 @@
 -- What each change of a world is to the stack that it makes.
-use Rattle.std.proofs.Common.{◌≡◌, refl, ap, subst, ◌∙◌, ℕ, ◌≤◌, List, [], ◌∷◌, ◌++◌, length, arith, take}
+use Rattle.std.proofs.Common.{◌≡◌, refl, sym, ap, subst, ◌∙◌, ℕ, ◌≤◌, List, [], ◌∷◌, ◌++◌, length, arith, take}
 use Rattle.std.specs.Prelude.{map, reverse, Option, Some, None, option_to_list}
-use Rattle.std.proofs.lemmas.List.{take-take, reverse-append, append-nil}
+use Rattle.std.proofs.lemmas.List.{take-take, take-append-le, length-append, reverse-append, append-nil}
 use Rattle.cl_events.specs.declared.event.Event.{Event}
 use Rattle.cl_events.specs.declared.event.Move.{Move}
 use Rattle.cl_events.specs.State.{State}
 use Rattle.cl_state.specs.declared.world.Lower.{Lower}
-use Rattle.cl_state.specs.Stack.{dropped}
+use Rattle.cl_state.specs.Stack.{with_top, dropped}
 use Rattle.cl_state.specs.Rows.{with_told, lower_state, stack_of, Falls}
 
 pub popped : {A : Type 0} (xs ys : List A) (u : A) → xs ≡ ys ++ u ∷ [] → reverse xs ≡ u ∷ reverse ys
@@ -29,6 +29,24 @@ below_cut es ms n m (l ∷ ls) f =
     let here = lower_same (take n es) es (take m ms) ms l (take-take l.events n es f.0) (take-take l.moves m ms f.1) in
     let rest = below_cut es ms n m ls (falls_more l.events l.moves n m ls f.0 f.1 f.2) in
     λ i. here i ∷ rest i
+
+-- events that grew
+below_grown : (es more : List Event) (ms : List Move) (m : ℕ) (ls : List Lower) → Falls (length es) m ls → map (lower_state (es ++ more) ms) ls ≡ map (lower_state es ms) ls
+below_grown es more ms m [] f = refl
+below_grown es more ms m (l ∷ ls) f =
+    let here = lower_same (es ++ more) es ms ms l (take-append-le l.events es more f.0) refl in
+    let rest = below_grown es more ms m ls (falls_more l.events l.moves (length es) m ls f.0 f.1 f.2) in
+    λ i. here i ∷ rest i
+
+pub told_law : (top : State) (ls : List Lower) (es new : List Event) (ms : List Move) (e : Event) → new ≡ es ++ e ∷ [] → Falls (length es) (length ms) ls
+    → stack_of top ls new ms ≡ with_top (stack_of top ls es ms) (with_told (es ++ e ∷ []) ms top)
+told_law top ls es new ms e is f =
+    ap (λ xs. stack_of top ls xs ms) is ∙ (λ i. record { top = with_told (es ++ e ∷ []) ms top; below = below_grown es (e ∷ []) ms (length ms) ls f i })
+
+pub told_falls : (ls : List Lower) (es new : List Event) (m : ℕ) (e : Event) → new ≡ es ++ e ∷ [] → Falls (length es) m ls → Falls (length new) m ls
+told_falls ls es new m e is f =
+    let longer = length-append es (e ∷ []) in
+    subst (λ xs. Falls (length xs) m ls) (sym is) (falls_more (length es) m (length (es ++ e ∷ [])) m ls (omega (arith, longer)) (omega arith) f)
 
 -- ------------------------------------------------------------ a layer less
 

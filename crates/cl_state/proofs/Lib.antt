@@ -1,2 +1,5 @@
-pub mod Layers
 pub mod Holders
+pub mod Layers
+pub mod Places
+pub mod PlaceKeys
+pub mod Rows

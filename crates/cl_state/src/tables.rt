@@ -1,14 +1,16 @@
 //! What contracts keep in one state, in tables of its own.
-ghost use Rattle.std.specs.Prelude.{◌≡◌, IfOk, OnOk, OnErr, is_some, option_copied};
+ghost use Rattle.std.specs.Prelude.{◌≡◌, IfOk, OnOk, OnErr, is_some, map, option_copied};
+ghost use Rattle.std.specs.Option.{option_map};
 ghost use Rattle.cl_maps.specs.Maps.{get, put, without};
 ghost use Rattle.cl_events.specs.State.{genesis, holder, holdings, or_as_before, place, spot, with_variables, with_entries};
 ghost use Rattle.cl_tokens.specs.Ledger.{minted};
+ghost use Rattle.cl_state.specs.Variables.{AreVariables};
 
-use crate::held::HeldValue;
+use crate::held::{HeldValue, Placed};
 use crate::keys::{holder_key, place_key, spot_key};
 use crate::place::Place;
 use cl_c32::Principal;
-use cl_tokens::{Fungible, Key, Table};
+use cl_tokens::{Fungible, Key, Stored, Table};
 use cl_types::NoMemory;
 use cl_values::Val;
 use std::alloc::Global;
@@ -18,7 +20,7 @@ use std::marker::Model;
 #[derive(Drop)]
 pub(crate) struct Tables {
     alloc: Global,
-    variables: Table<HeldValue>,
+    variables: Table<Placed>,
     entries: Table<HeldValue>,
     stx: Fungible,
 }
@@ -31,7 +33,11 @@ impl Model for Tables {
 
     ghost coded = { state_code };
 
-    ghost view = { λ t. with_variables t.variables.content (with_entries t.entries.content (with_stx t.stx.ledger empty_state)) };
+    ghost use Rattle.cl_state.specs.Places.{values_of, AreAtPlaces};
+
+    ghost view = { λ t. with_variables (values_of t.variables.content) (with_entries t.entries.content (with_stx t.stx.ledger empty_state)) };
+
+    ghost invariant = { λ t. AreAtPlaces t.variables.content };
 }
 
 // mints the STX that a holder has from the start, where that is more than 0
@@ -88,7 +94,15 @@ impl Tables {
         ensures { IfOk result (λ found. found ≡ get (place at.now.contract at.now.name) self.now.variables) }
     {
         let key = place_key(self.alloc, at)?;
-        copy_found(self.variables.get(&key))
+        copy_placed(self.variables.get(&key))
+    }
+
+    /// The variables with their places.
+    pub(crate) fn variables(&self) -> Result<Vec<(Place, Val)>, NoMemory>
+        ensures { IfOk result (λ rows. AreVariables rows.items self.now.variables) }
+    {
+        let rows = self.variables.rows()?;
+        placed_values(self.alloc, rows)
     }
 
     pub(crate) fn put_variable(&mut self, at: &Place, value: Val) -> Result<(), NoMemory>
@@ -96,7 +110,11 @@ impl Tables {
         ensures refused { OnErr result (self.new ≡ self.old) }
     {
         let key = place_key(self.alloc, at)?;
-        put_value(self.alloc, &mut self.variables, key, value)
+        let placed = Placed {
+            at: *at,
+            value: HeldValue::new(self.alloc, value),
+        };
+        put_value(&mut self.variables, key, placed)
     }
 
     pub(crate) fn entry(&self, at: &Place, key: &Val) -> Result<Option<Val>, NoMemory>
@@ -111,7 +129,7 @@ impl Tables {
         ensures refused { OnErr result (self.new ≡ self.old) }
     {
         let spot = spot_key(self.alloc, at, key)?;
-        put_value(self.alloc, &mut self.entries, spot, value)
+        put_value(&mut self.entries, spot, HeldValue::new(self.alloc, value))
     }
 
     pub(crate) fn remove_entry(&mut self, at: &Place, key: &Val) -> Result<bool, NoMemory>
@@ -134,18 +152,33 @@ fn copy_found(found: Option<&HeldValue>) -> Result<Option<Val>, NoMemory>
     }
 }
 
-fn put_value(
-    alloc: Global,
-    table: &mut Table<HeldValue>,
-    key: Key,
-    value: Val,
-) -> Result<(), NoMemory>
+fn copy_placed(found: Option<&Placed>) -> Result<Option<Val>, NoMemory>
+    ensures { IfOk result (λ copy. copy ≡ option_map (λ p. p.value) (option_copied found.entry)) }
+{
+    match found {
+        Some(placed) => Ok(Some(placed.value.copy_out()?)),
+        None => Ok(None),
+    }
+}
+
+// without the keys
+fn placed_values(alloc: Global, rows: Vec<(Key, Placed)>) -> Result<Vec<(Place, Val)>, NoMemory>
+    ensures { IfOk result (λ values. values.items ≡ map (λ r. (r.1.at, r.1.value)) rows.items) }
+{
+    let values = rows
+        .into_iter()
+        .map(|row| (row.1.at, row.1.value.into_value()))
+        .collect(alloc)?;
+    Ok(values)
+}
+
+fn put_value<V: Stored>(table: &mut Table<V>, key: Key, value: V) -> Result<(), NoMemory>
     ensures done { OnOk result (table.new.content ≡ put key value table.old.content) }
     ensures refused { OnErr result (table.new.content ≡ table.old.content) }
 {
     let slot = key.copy()?;
     table.reserve(slot)?;
-    table.write(&key, Some(HeldValue::new(alloc, value)));
+    table.write(&key, Some(value));
     Ok(())
 }
 

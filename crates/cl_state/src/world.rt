@@ -3,14 +3,16 @@ ghost use Rattle.std.specs.Prelude.{◌≡◌, ◌<◌, ◌≤◌, ◌+◌, ◌^
 ghost use Rattle.cl_c32.specs.declared.principal.Principal.{Principal};
 ghost use Rattle.cl_maps.specs.Maps.{get, put, without};
 ghost use Rattle.cl_tokens.specs.Ledger.{balance};
-ghost use Rattle.cl_events.specs.State.{genesis, holder, place, spot, with_variables, with_entries};
+ghost use Rattle.cl_events.specs.declared.event.EventKind.TheVariants.{Print};
+ghost use Rattle.cl_events.specs.State.{genesis, holder, place, spot, with_variables, with_entries, with_event};
 ghost use Rattle.cl_state.specs.Holders.{sum_of, sum_for};
 ghost use Rattle.cl_state.specs.Stack.{base_alone, pushed, dropped, kept, committed, with_top};
+ghost use Rattle.cl_state.specs.Variables.{AreVariables};
 
 use crate::place::Place;
 use crate::tables::Tables;
 use cl_c32::Principal;
-use cl_events::{Event, Move};
+use cl_events::{Event, EventKind, Move};
 use cl_types::NoMemory;
 use cl_values::Val;
 use std::marker::Model;
@@ -138,6 +140,13 @@ impl World {
         self.top.variable(at)
     }
 
+    /// The variables of the top state: each once, with what it holds, in no order that is told.
+    pub fn variables(&self) -> Result<Vec<(Place, Val)>, NoMemory>
+        ensures { IfOk result (λ rows. AreVariables rows.items self.now.stack.top.variables) }
+    {
+        self.top.variables()
+    }
+
     /// Makes a variable of the top state hold a value.
     pub fn put_variable(&mut self, at: &Place, value: Val) -> Result<(), NoMemory>
         ensures done { OnOk result (self.new.stack ≡ with_top self.old.stack (with_variables (put (place at.now.contract at.now.name) value self.old.stack.top.variables) self.old.stack.top)) }
@@ -171,6 +180,20 @@ impl World {
         ensures spare { self.old.spare ≤ self.new.spare }
     {
         self.top.remove_entry(at, key)
+    }
+
+    /// Tells, in the top state, that a contract printed a value.
+    pub fn print(&mut self, contract: &Principal, value: Val) -> Result<(), NoMemory>
+        ensures done { OnOk result (self.new.stack ≡ with_top self.old.stack (with_event contract.now (Print value) self.old.stack.top)) }
+        ensures refused { OnErr result (self.new.stack ≡ self.old.stack) }
+        ensures spare { self.old.spare ≤ self.new.spare }
+    {
+        let event = Event {
+            contract: *contract,
+            kind: EventKind::Print(value),
+        };
+        self.events.push(event)?;
+        Ok(())
     }
 
     /// What was told since the last commit, as the top state has it.

@@ -7,6 +7,7 @@ use mir.Val.{to_z, of_z}
 use Rattle.cl_values.specs.Tree.{IntV}
 use Rattle.cl_state.specs.Stack.{Stack}
 use Rattle.cl_code.specs.Typed.{expression_of}
+use Rattle.cl_code.specs.Definitions.{form_defined}
 use Rattle.cl_meaning.specs.Answers.{Wrong, and_then, returning}
 use Rattle.cl_shapes.specs.declared.name.CostName.TheVariants.{Literal, Control}
 use Rattle.cl_meaning.specs.Names.{standing}
@@ -19,6 +20,7 @@ use Rattle.cl_meaning.proofs.LimitLaws.{charge_within, limited-stop, then_gave}
 use Rattle.cl_eval.specs.Seen.{costs_of, scope, function_seen}
 use Rattle.cl_eval.proofs.Steps.{hands_on, stops_eq, stops_then, charge_stops, ends_so, known_some, known_none}
 use Rattle.cl_eval.proofs.Parts.{parts_turn, parts_turn_stop, parts_end, hands_on_all}
+use Rattle.cl_eval.proofs.NameLaws.{found_as}
 use Rattle.cl_eval.proofs.Nodes.{node_is, begin_at, strict_at, var_set_at, var_set_other, call_at, means_none, means_down, applied_none, applied_down}
 use Rattle.cl_eval.proofs.Closing.{public_ends, public_one, other_ends, returning_ends, closes_below}
 use Rattle.cl_eval.proofs.Charged.{native_refused, native_runs}
@@ -158,13 +160,13 @@ pub evaluate_call-returns-in-Some-clause-meant : goal.evaluate_call-returns-in-S
 evaluate_call-returns-in-Some-clause-meant t c W fits =
     ends_so _ _ _ _ _
     (ap (limited _ _) (call_at _ _ _ _ _ _) ∙ then_gave _ _ _ _ _ _ _ (c.in_ok-values.ensures.meant W fits)
-    ∙ known_some _ _ _ _ _ _ (fits.its_functions _ ∙ sym c.in-Some.ensures))
+    ∙ known_some _ _ _ _ _ _ (fits.its_functions _ ∙ found_as _ _ (map form_defined c.args.context.now.definitions.now) _ c.bytes.ensures.value c.in-Some.ensures.found))
     (c.enter.ensures.meant W _ fits)
 
 pub evaluate_call-returns-in-None-clause-meant : goal.evaluate_call-returns-in-None-clause-meant
 evaluate_call-returns-in-None-clause-meant t c W fits =
     ap (limited _ _) (call_at _ _ _ _ _ _) ∙ then_gave _ _ _ _ _ _ _ (c.in_ok-values.ensures.meant W fits)
-    ∙ known_none _ _ _ _ _ (fits.its_functions _ ∙ sym c.in-None.ensures)
+    ∙ known_none _ _ _ _ _ (fits.its_functions _ ∙ found_as _ _ (map form_defined c.args.context.now.definitions.now) _ c.bytes.ensures.value c.in-None.ensures.found)
 
 -- ---- applications
 

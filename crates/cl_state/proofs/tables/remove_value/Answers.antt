@@ -1,5 +1,4 @@
-use Rattle.std.proofs.Common.{◌∙◌, ap, sym}
-use Rattle.std.specs.Prelude.{is_some}
+use Rattle.std.proofs.Common.{sym}
 use Rattle.cl_maps.proofs.MapLaws.{without_absent}
 use Rattle.cl_state.proofs.tables.remove_value.Goals as goal
 
