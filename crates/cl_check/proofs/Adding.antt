@@ -1,51 +1,53 @@
 -- One form after another is taken.
-use Rattle.std.proofs.Common.{◌≡◌, ℕ, zero, suc, ◌+◌, ◌*◌, ◌<◌, ◌≤◌, ◌^◌, List, [], ◌∷◌, length, drop, get_or, slice_get, add-one, Option, Some, None, refl, sym, ap, ◌∙◌, arith}
+use Rattle.std.proofs.Common.{◌≡◌, ℕ, suc, ◌+◌, ◌*◌, ◌≤◌, ◌^◌, false, List, [], ◌∷◌, ◌++◌, length, slice_get, map, Option, Some, None, refl, sym, ap, subst, ◌∙◌, arith}
 use Rattle.std.specs.Prelude.{option_and_then}
+use Rattle.std.specs.List.{list_any}
 use Rattle.std.proofs.lemmas.Bool.{true≢false, false_from_ne_true}
 use Rattle.cl_types.proofs.Lattice.{key_same}
-use Rattle.cl_shapes.specs.declared.cost.Cost5.{Cost5}
 use Rattle.cl_shapes.specs.Costs.{in_each, IsAtMost}
-use Rattle.cl_forms.specs.Forms.{Form}
+use Rattle.cl_forms.specs.Forms.{Form, FormKind, ConstantForm, VariableForm, MapForm, FungibleForm, NonFungibleForm, FunctionForm, ExpressionForm}
+use Rattle.cl_forms.specs.Heads.{is_reserved}
 use Rattle.cl_forms.specs.Weights.{weight_of_kind, weight_of_forms}
+use Rattle.cl_forms.specs.Shapes.{trees_of}
+use Rattle.cl_code.specs.declared.definition.Definition.{Definition}
+use Rattle.cl_code.specs.Definitions.{form_defined}
+use Rattle.cl_rules.specs.Acceptance.{Ordered}
 use Rattle.cl_check.specs.declared.scope.Callee.{Callee}
 use Rattle.cl_check.specs.Taken.{Definitions, is_among, callee_in, with_name, taken_all}
-use Rattle.cl_check.specs.FormNames.{AreNamed}
+use Rattle.cl_check.specs.FormNames.{AreNamed, IsFreeName, HasFreeParams, params_in}
 use Rattle.cl_check.specs.Refusal.{IsNew, IsNewName}
-use Rattle.cl_forms.specs.Shapes.{trees_of}
-use Rattle.cl_rules.specs.Acceptance.{Ordered}
 use Rattle.cl_check.proofs.Named.{are_named}
 use Rattle.cl_check.proofs.Accepting.{form_adds}
 use Rattle.cl_check.proofs.Places.{IsBefore, StandBefore, with_form}
+use Rattle.cl_check.proofs.Pure.{free_at}
 
-pub at_place : (xs : List Form) (i : ℕ) (x : Form) → i < length xs → x ≡ get_or xs i x → slice_get xs i ≡ Some x
-at_place [] i x low is = absurd (omega arith)
-at_place (y ∷ ys) zero x low is = ap (λ (z : Form). Some z) (sym is)
-at_place (y ∷ ys) (suc i) x low is = at_place ys i x (omega arith) is
+-- ---- a form behind those that are taken
 
-pub kind_small : (xs : List Form) (i : ℕ) (x : Form) → i < length xs → x ≡ get_or xs i x → weight_of_kind x.kind ≤ weight_of_forms xs
-kind_small [] i x low is = absurd (omega arith)
-kind_small (y ∷ ys) zero x low is = let same_weight : weight_of_kind x.kind ≡ weight_of_kind y.kind = ap (λ (z : Form). weight_of_kind z.kind) is in omega arith
-kind_small (y ∷ ys) (suc i) x low is = let rest : weight_of_kind x.kind ≤ weight_of_forms ys = kind_small ys i x (omega arith) is in omega arith
+at_place : (ds : List Definition) (x : Form) (more : List Form) → slice_get (map form_defined ds ++ x ∷ more) (length ds) ≡ Some x
+at_place [] x more = refl
+at_place (d ∷ ds) x more = at_place ds x more
 
-next_taken : (xs : List Form) (i : ℕ) (x : Form) (D E : Definitions) (o : Option Definitions) → i < length xs → x ≡ get_or xs i x → Some E ≡ with_name D x.name x.kind → taken_all D (drop i xs) ≡ o → taken_all E (drop (suc i) xs) ≡ o
-next_taken [] i x D E o low is h k = absurd (omega arith)
-next_taken (y ∷ ys) zero x D E o low is h k = ap (option_and_then (λ C. taken_all C ys)) (h ∙ ap (λ (z : Form). with_name D z.name z.kind) is) ∙ k
-next_taken (y ∷ ys) (suc i) x D E o low is h k = next_taken ys i x D E o (omega arith) is h k
+kind_among : (ds : List Definition) (x : Form) (more : List Form) → weight_of_kind x.kind + 1 ≤ weight_of_forms (map form_defined ds ++ x ∷ more)
+kind_among [] x more = omega arith
+kind_among (d ∷ ds) x more = let rest : weight_of_kind x.kind + 1 ≤ weight_of_forms (map form_defined ds ++ x ∷ more) = kind_among ds x more in omega arith
 
-pub turn_taken : (xs : List Form) (i : ℕ) (x : Form) (D E : Definitions) (o : Option Definitions) → i < length xs → x ≡ get_or xs i x → Some E ≡ with_name D x.name x.kind → taken_all D (drop i xs) ≡ o → taken_all E (drop (i + 1) xs) ≡ o
-turn_taken xs i x D E o low is h k = rw add-one (next_taken xs i x D E o low is h k)
+pub one_behind : (ds : List Definition) (d : Definition) (x : Form) (more : List Form) → form_defined d ≡ x → map form_defined (ds ++ d ∷ []) ++ more ≡ map form_defined ds ++ x ∷ more
+one_behind [] d x more h = ap (λ (y : Form). y ∷ more) h
+one_behind (c ∷ ds) d x more h = ap (λ (fs : List Form). form_defined c ∷ fs) (one_behind ds d x more h)
 
-pub turn_stops : (xs : List Form) (i : ℕ) (x : Form) (D : Definitions) (o : Option Definitions) → i < length xs → x ≡ get_or xs i x → None ≡ with_name D x.name x.kind → taken_all D (drop i xs) ≡ o → None ≡ o
-turn_stops [] i x D o low is h k = absurd (omega arith)
-turn_stops (y ∷ ys) zero x D o low is h k = ap (option_and_then (λ C. taken_all C ys)) (h ∙ ap (λ (z : Form). with_name D z.name z.kind) is) ∙ k
-turn_stops (y ∷ ys) (suc i) x D o low is h k = turn_stops ys i x D o (omega arith) is h k
+one_longer : (ds : List Definition) (d : Definition) → suc (length ds) ≡ length (ds ++ d ∷ [])
+one_longer [] d = refl
+one_longer (c ∷ ds) d = ap suc (one_longer ds d)
 
-pub turn_before : (xs : List Form) (i : ℕ) (x : Form) (D E : Definitions) → i < length xs → x ≡ get_or xs i x → Some E ≡ with_name D x.name x.kind → StandBefore xs i D → StandBefore xs (i + 1) E
-turn_before xs i x D E low is h s = rw add-one (with_form xs i x (at_place xs i x low is) D s x.name E refl (sym h))
+-- ---- one more form
 
-pub turn_deploy : (i : ℕ) (x : Form) (D E : Definitions) → Some E ≡ with_name D x.name x.kind → IsAtMost D.deploy (in_each (2 ^ 40 + 17 * i)) → IsAtMost E.deploy (in_each (2 ^ 40 + 17 * (i + 1)))
-turn_deploy i x D E h a =
+pub turn_taken : (rest more : List Form) (x : Form) (D E : Definitions) (o : Option Definitions) → rest ≡ x ∷ more → Some E ≡ with_name D x.name x.kind → taken_all D rest ≡ o → taken_all E more ≡ o
+turn_taken rest more x D E o is h k = ap (option_and_then (λ C. taken_all C more)) h ∙ ap (taken_all D) (sym is) ∙ k
+
+pub turn_deploy : (ds : List Definition) (d : Definition) (x : Form) (D E : Definitions) → Some E ≡ with_name D x.name x.kind → IsAtMost D.deploy (in_each (2 ^ 40 + 17 * length ds)) → IsAtMost E.deploy (in_each (2 ^ 40 + 17 * length (ds ++ d ∷ [])))
+turn_deploy ds d x D E h a =
     let b = form_adds D E x.name x.kind (sym h) in
+    let longer : suc (length ds) ≡ length (ds ++ d ∷ []) = one_longer ds d in
     record {
       runtime = omega (arith, a.runtime, b.runtime);
       read_count = omega (arith, a.read_count, b.read_count);
@@ -54,35 +56,52 @@ turn_deploy i x D E h a =
       write_length = omega (arith, a.write_length, b.write_length);
     }
 
-pub low_deploy : (c : Cost5) (i : ℕ) → i < 2 ^ 32 → IsAtMost c (in_each (2 ^ 40 + 17 * i)) → IsAtMost c (in_each (2 ^ 100))
-low_deploy c i low a = record { runtime = omega (arith, a.runtime); read_count = omega (arith, a.read_count); read_length = omega (arith, a.read_length); write_count = omega (arith, a.write_count); write_length = omega (arith, a.write_length) }
+free_params : (kind : FormKind) → HasFreeParams kind → list_any is_reserved (params_in kind) ≡ false
+free_params (ConstantForm e) h = refl
+free_params (VariableForm t e) h = refl
+free_params (MapForm k v) h = refl
+free_params (FungibleForm supply) h = refl
+free_params (NonFungibleForm t) h = refl
+free_params (FunctionForm access params body) h = h
+free_params (ExpressionForm e) h = refl
 
-module _ (forms : List Form) (names : AreNamed forms) (i : ℕ) (form : Form) (there : slice_get forms i ≡ Some form) (D : Definitions) (s : StandBefore forms i D) (x : List ℕ) (named : form.name ≡ Some x) where
-  never_before : IsBefore forms i x → ⊥
-  never_before b = true≢false (sym (key_same x) ∙ names.new i b.place form b.form x x there b.there named b.named b.low)
+module _ (ds : List Definition) (x : Form) (rest more forms : List Form) (first : rest ≡ x ∷ more) (all : map form_defined ds ++ rest ≡ forms) where
+  parted : map form_defined ds ++ x ∷ more ≡ forms
+  parted = ap (λ (fs : List Form). map form_defined ds ++ fs) (sym first) ∙ all
 
-  no_callee : (o : Option Callee) → callee_in x D.functions ≡ o → o ≡ None
-  no_callee None e = refl
-  no_callee (Some f) e = absurd (never_before (s.functions x f e).before)
+  stands : slice_get forms (length ds) ≡ Some x
+  stands = ap (λ (fs : List Form). slice_get fs (length ds)) (sym parted) ∙ at_place ds x more
 
-  new_name : IsNewName D x form.kind
-  new_name = record {
-    variable = false_from_ne_true (is_among D.variables x) (λ h. never_before (s.variables x h));
-    function = no_callee (callee_in x D.functions) refl;
-    once = names.once i form x there named;
-  }
+  pub turn_all : (d : Definition) → form_defined d ≡ x → map form_defined (ds ++ d ∷ []) ++ more ≡ forms
+  turn_all d h = one_behind ds d x more h ∙ parted
 
-pub is_new : (forms : List Form) → AreNamed forms → (i : ℕ) (form : Form) → i < length forms → form ≡ get_or forms i form → (D : Definitions) → StandBefore forms i D → IsNew D form
-is_new forms names i form low is D s = λ x named. new_name forms names i form (at_place forms i form low is) D s x named
+  pub kind_small : weight_of_kind x.kind + 1 ≤ weight_of_forms forms
+  kind_small = subst (λ (fs : List Form). weight_of_kind x.kind + 1 ≤ weight_of_forms fs) parted (kind_among ds x more)
 
-pub none_before : (forms : List Form) (D : Definitions) → D.variables ≡ [] → D.functions ≡ [] → StandBefore forms 0 D
-none_before forms D v f = record {
-  variables = λ x k. absurd (true≢false (sym k ∙ ap (λ (vs : List (List ℕ)). is_among vs x) v));
-  functions = λ x g k. absurd (no_callee_in x g (ap (callee_in x) (sym f) ∙ k));
-}
-  where
-    no_callee_in : (x : List ℕ) (g : Callee) → callee_in x [] ≡ Some g → ⊥
-    no_callee_in x g h = cc
+  pub turn_before : (d : Definition) (D E : Definitions) → Some E ≡ with_name D x.name x.kind → StandBefore forms (length ds) D → StandBefore forms (length (ds ++ d ∷ [])) E
+  turn_before d D E h s = subst (λ (n : ℕ). StandBefore forms n E) (one_longer ds d) (with_form forms (length ds) x stands D s x.name E refl (sym h))
+
+  module _ (names : AreNamed forms) (D : Definitions) (s : StandBefore forms (length ds) D) (name : List ℕ) (named : x.name ≡ Some name) where
+    never_before : IsBefore forms (length ds) name → ⊥
+    never_before b = true≢false (sym (key_same name) ∙ names.new (length ds) b.place x b.form name name stands b.there named b.named b.low)
+
+    no_callee : (o : Option Callee) → callee_in name D.functions ≡ o → o ≡ None
+    no_callee None e = refl
+    no_callee (Some f) e = absurd (never_before (s.functions name f e).before)
+
+    new_name : IsNewName D name x.kind
+    new_name =
+        let free = free_at forms (length ds) x names.free stands in
+        record {
+          own = subst IsFreeName named free.0;
+          free = free_params x.kind free.1;
+          variable = false_from_ne_true (is_among D.variables name) (λ h. never_before (s.variables name h));
+          function = no_callee (callee_in name D.functions) refl;
+          once = names.once (length ds) x name stands named;
+        }
+
+  pub is_new : AreNamed forms → (D : Definitions) → StandBefore forms (length ds) D → IsNew D x
+  is_new names D s = λ name named. new_name names D s name named
 
 pub named_of : {text : List ℕ} {forms : List Form} {order : List ℕ} → Ordered text forms order → AreNamed forms
 named_of {forms = forms} o = are_named (trees_of o.items) forms o.are_forms

@@ -24,7 +24,7 @@ use Rattle.cl_check.proofs.Named.{AreNamed}
 use Rattle.cl_check.proofs.Calls.{IsWord, IsPure, int_calls}
 use Rattle.cl_check.proofs.Places.{StandBefore, IsPlace}
 
-free_at : (forms : List Form) (n : ℕ) (form : Form) → AllFree forms → slice_get forms n ≡ Some form → IsFreeName form.name × HasFreeParams form.kind
+pub free_at : (forms : List Form) (n : ℕ) (form : Form) → AllFree forms → slice_get forms n ≡ Some form → IsFreeName form.name × HasFreeParams form.kind
 free_at [] n form free h = absurd (nothing_there h)
   where
     nothing_there : slice_get [] n ≡ Some form → ⊥

@@ -1,191 +1,315 @@
 //! Answers: the bodies of public functions.
-ghost use Rattle.std.specs.Prelude.{◌≡◌, ◌<◌, ◌^◌, ◌+◌, IfSome};
+ghost use Rattle.std.specs.Prelude.{◌≡◌, ◌<◌, ◌≤◌, ◌^◌, ◌+◌, codes, true, false, map, IfOk, IfSome};
 ghost use Rattle.std.specs.Option.{option_map};
-ghost use Rattle.cl_sexpr.specs.Tree.{forest, tree_size, forest_size};
+ghost use Rattle.std.specs.List.{list_any};
+ghost use Rattle.cl_sexpr.specs.Tree.{ListAt, forest, tree_size, forest_size};
+ghost use Rattle.cl_forms.specs.Heads.{is_reserved};
+ghost use Rattle.cl_code.specs.Typed.{expression_of};
+ghost use Rattle.cl_code.specs.Expression.{expression, headed, has_own_names};
 ghost use Rattle.cl_check.specs.Taken.{charged, over_given, given, count, wraps, write_list, writes, answers, answer_list, ends};
-ghost use Rattle.cl_check.specs.Room.{definitions_of, AreLight, IsWithin, given_of, returned, sets, writes_all};
+ghost use Rattle.cl_check.specs.Room.{definitions_of, AreCallable, IsWithin, weight_in, row_weight, given_of, ending_of, returned, sets, writes_all};
 
-use crate::int::{is_variable, weigh};
-use crate::parts::{headed, is, last_of};
+use crate::int::{variable_of, weigh};
+use crate::node::{Returns, Row, Weighed, node};
+use crate::parts::{both, headed, is, last_of, only};
 use crate::scope::Scope;
-use crate::weight::{INT_SIZE, NOTHING, Weight, above, beside, charged};
-use cl_sexpr::{Node, Sexpr};
+use crate::weight::{INT_SIZE, Weight, above, beside, charged};
+use cl_code::{Code, Op, Strict};
+use cl_sexpr::{Node, Sexpr, Span};
 use cl_shapes::CostName;
-use cl_types::Name;
+use cl_types::{Name, NoMemory};
 use indexmap::IndexSet;
+use std::alloc::Global;
 
-/// The type that a body gives: an int, or an int that is ok or err.
-#[derive(Clone, Copy)]
-pub(crate) enum Returns {
-    Int,
-    OkInt,
-    ErrInt,
-}
-
-/// What a body gives, and what it weighs.
-#[derive(Clone, Copy)]
+/// A body that is taken: its tree, what it gives, and what it weighs.
+#[derive(Drop)]
 pub(crate) struct Given {
+    pub(crate) code: Code,
     pub(crate) returns: Returns,
     pub(crate) weight: Weight,
 }
 
-/// The one int behind `ok` or `err`.
-fn wraps(scope: &Scope, params: &IndexSet<Name>, parts: &[Sexpr]) -> Option<Weight>
-    requires small { forest_size (forest parts.now) < 2 ^ 30 }
-    requires light { AreLight scope.now.functions.entries }
-    ensures value { result ≡ wraps (definitions_of scope.now) params.now.keys (forest parts.now) }
-    ensures within { IfSome result (IsWithin (forest_size (forest parts.now) + 1)) }
+/// Writes, and an answer behind them: their trees, what the answer gives, and what they weigh beside each other.
+#[derive(Drop)]
+struct Ending {
+    codes: Vec<Code>,
+    returns: Returns,
+    weight: Weight,
+}
+
+/// The one int behind `ok` or `err`, with its weight under that name.
+fn wraps(
+    alloc: Global,
+    scope: &Scope,
+    params: &IndexSet<Name>,
+    parts: &[Sexpr],
+) -> Result<Option<Row>, NoMemory>
+    requires small { forest_size (forest parts.now) < 2 ^ 21 }
+    requires callable { AreCallable scope.now.functions.entries }
+    requires free { list_any is_reserved params.now.keys ≡ false }
+    ensures value { IfOk result (λ r. option_map row_weight r ≡ wraps (definitions_of scope.now) params.now.keys (forest parts.now)) }
+    ensures within { IfOk result (λ r. IfSome r (λ w. IsWithin (forest_size (forest parts.now) + 1) w.weight)) }
+    ensures codes { IfOk result (λ r. IfSome r (λ w. map expression_of w.codes.items ≡ parts.now)) }
 {
-    let [part] = parts else {
-        return None;
+    let Some(part) = only(parts) else {
+        return Ok(None);
     };
-    let weight = weigh(scope, params, part)?;
-    Some(above(charged(CostName::Wrap, INT_SIZE), weight))
+    let Some(weighed) = weigh(alloc, scope, params, part)? else {
+        return Ok(None);
+    };
+    Ok(Some(Row {
+        codes: vec![in alloc; weighed.code]?,
+        weight: above(charged(CostName::Wrap, INT_SIZE), weighed.weight),
+    }))
 }
 
 /// A write with the parts behind `var-set`.
-fn sets(scope: &Scope, params: &IndexSet<Name>, parts: &[Sexpr]) -> Option<Weight>
-    requires small { forest_size (forest parts.now) < 2 ^ 30 }
-    requires light { AreLight scope.now.functions.entries }
-    ensures value { result ≡ sets (definitions_of scope.now) params.now.keys (forest parts.now) }
-    ensures within { IfSome result (IsWithin (forest_size (forest parts.now) + 1)) }
+fn sets(
+    alloc: Global,
+    scope: &Scope,
+    params: &IndexSet<Name>,
+    head: Span,
+    parts: &[Sexpr],
+    span: Span,
+) -> Result<Option<Weighed>, NoMemory>
+    requires small { forest_size (forest parts.now) < 2 ^ 21 }
+    requires callable { AreCallable scope.now.functions.entries }
+    requires free { list_any is_reserved params.now.keys ≡ false }
+    ensures value { IfOk result (λ r. option_map weight_in r ≡ sets (definitions_of scope.now) params.now.keys (forest parts.now)) }
+    ensures within { IfOk result (λ r. IfSome r (λ w. IsWithin (forest_size (forest parts.now) + 1) w.weight)) }
+    ensures code { IfOk result (λ r. IfSome r (λ w. expression_of w.code ≡ headed (codes "var-set") head parts.now span)) }
 {
-    let [variable, part] = parts else {
-        return None;
+    let Some((variable, part)) = both(parts) else {
+        return Ok(None);
     };
-    if !is_variable(scope, variable) {
-        return None;
-    }
-    let weight = weigh(scope, params, part)?;
-    Some(above(charged(CostName::WriteVar, INT_SIZE), weight))
+    let Some(variable) = variable_of(scope, variable) else {
+        return Ok(None);
+    };
+    let Some(weighed) = weigh(alloc, scope, params, part)? else {
+        return Ok(None);
+    };
+    let op = Op::VarSet { head, variable };
+    let value = vec![in alloc; weighed.code]?;
+    let code = node(alloc, op, value, Returns::Bool, span)?;
+    Ok(Some(Weighed {
+        code,
+        weight: above(charged(CostName::WriteVar, INT_SIZE), weighed.weight),
+    }))
 }
 
-fn write_list(scope: &Scope, params: &IndexSet<Name>, items: &[Sexpr]) -> Option<Weight>
-    requires small { forest_size (forest items.now) < 2 ^ 30 }
-    requires light { AreLight scope.now.functions.entries }
-    ensures value { result ≡ write_list (definitions_of scope.now) params.now.keys (forest items.now) }
-    ensures within { IfSome result (IsWithin (forest_size (forest items.now))) }
+fn write_list(
+    alloc: Global,
+    scope: &Scope,
+    params: &IndexSet<Name>,
+    items: &[Sexpr],
+    span: Span,
+) -> Result<Option<Weighed>, NoMemory>
+    requires small { forest_size (forest items.now) < 2 ^ 21 }
+    requires callable { AreCallable scope.now.functions.entries }
+    requires free { list_any is_reserved params.now.keys ≡ false }
+    ensures value { IfOk result (λ r. option_map weight_in r ≡ write_list (definitions_of scope.now) params.now.keys (forest items.now)) }
+    ensures within { IfOk result (λ r. IfSome r (λ w. IsWithin (forest_size (forest items.now)) w.weight)) }
+    ensures code { IfOk result (λ r. IfSome r (λ w. expression_of w.code ≡ ListAt (forest items.now) span)) }
 {
-    let Some((name, parts)) = headed(items) else {
-        return None;
+    let Some((head, parts)) = headed(items) else {
+        return Ok(None);
     };
-    if !is(name, "var-set") {
-        return None;
+    if !is(&head.name, "var-set") {
+        return Ok(None);
     }
-    sets(scope, params, parts)
+    sets(alloc, scope, params, head.span, parts, span)
 }
 
-/// The weight of a write.
-fn writes(scope: &Scope, params: &IndexSet<Name>, e: &Sexpr) -> Option<Weight>
-    requires small { tree_size e.now < 2 ^ 30 }
-    requires light { AreLight scope.now.functions.entries }
-    ensures value { result ≡ writes (definitions_of scope.now) params.now.keys e.now }
-    ensures within { IfSome result (IsWithin (tree_size e.now)) }
+/// The tree and the weight of a write.
+fn writes(
+    alloc: Global,
+    scope: &Scope,
+    params: &IndexSet<Name>,
+    e: &Sexpr,
+) -> Result<Option<Weighed>, NoMemory>
+    requires small { tree_size e.now ≤ 2 ^ 21 }
+    requires callable { AreCallable scope.now.functions.entries }
+    requires free { list_any is_reserved params.now.keys ≡ false }
+    ensures value { IfOk result (λ r. option_map weight_in r ≡ writes (definitions_of scope.now) params.now.keys e.now) }
+    ensures within { IfOk result (λ r. IfSome r (λ w. IsWithin (tree_size e.now) w.weight)) }
+    ensures code { IfOk result (λ r. IfSome r (λ w. expression_of w.code ≡ e.now)) }
 {
     match &e.node {
-        Node::List(items) => write_list(scope, params, items),
-        _ => None,
+        Node::List(items) => write_list(alloc, scope, params, items, e.span),
+        _ => Ok(None),
     }
 }
 
-/// What several writes weigh beside each other.
-fn write_all(scope: &Scope, params: &IndexSet<Name>, parts: &[Sexpr]) -> Option<Weight>
-    requires small { forest_size (forest parts.now) < 2 ^ 30 }
-    requires light { AreLight scope.now.functions.entries }
-    ensures value { result ≡ writes_all (definitions_of scope.now) params.now.keys (forest parts.now) }
-    ensures within { IfSome result (IsWithin (forest_size (forest parts.now))) }
+/// Several writes.
+fn write_all(
+    alloc: Global,
+    scope: &Scope,
+    params: &IndexSet<Name>,
+    parts: &[Sexpr],
+) -> Result<Option<Row>, NoMemory>
+    requires small { forest_size (forest parts.now) < 2 ^ 21 }
+    requires callable { AreCallable scope.now.functions.entries }
+    requires free { list_any is_reserved params.now.keys ≡ false }
+    ensures value { IfOk result (λ r. option_map row_weight r ≡ writes_all (definitions_of scope.now) params.now.keys (forest parts.now)) }
+    ensures within { IfOk result (λ r. IfSome r (λ w. IsWithin (forest_size (forest parts.now)) w.weight)) }
+    ensures codes { IfOk result (λ r. IfSome r (λ w. map expression_of w.codes.items ≡ parts.now)) }
 {
-    let mut total = NOTHING;
+    let mut row = Row::new(alloc);
     for part in parts {
-        let weight = writes(scope, params, part)?;
-        total = beside(total, weight);
+        let Some(weighed) = writes(alloc, scope, params, part)? else {
+            return Ok(None);
+        };
+        row.add(weighed)?;
     }
-    Some(total)
+    Ok(Some(row))
 }
 
 /// An int that is ok or err.
 fn wrapped(
+    alloc: Global,
     scope: &Scope,
     params: &IndexSet<Name>,
+    op: Op,
     returns: Returns,
     parts: &[Sexpr],
-) -> Option<Given>
-    requires small { forest_size (forest parts.now) < 2 ^ 30 }
-    requires light { AreLight scope.now.functions.entries }
-    ensures value { option_map given_of result ≡ given (returned returns) (wraps (definitions_of scope.now) params.now.keys (forest parts.now)) }
-    ensures within { IfSome result (λ g. IsWithin (forest_size (forest parts.now) + 1) g.weight) }
+    span: Span,
+) -> Result<Option<Given>, NoMemory>
+    requires names { has_own_names op ≡ true }
+    requires small { forest_size (forest parts.now) < 2 ^ 21 }
+    requires callable { AreCallable scope.now.functions.entries }
+    requires free { list_any is_reserved params.now.keys ≡ false }
+    ensures value { IfOk result (λ r. option_map given_of r ≡ given (returned returns) (wraps (definitions_of scope.now) params.now.keys (forest parts.now))) }
+    ensures within { IfOk result (λ r. IfSome r (λ g. IsWithin (forest_size (forest parts.now) + 1) g.weight)) }
+    ensures code { IfOk result (λ r. IfSome r (λ g. expression_of g.code ≡ expression op parts.now span)) }
 {
-    match wraps(scope, params, parts) {
-        Some(weight) => Some(Given { returns, weight }),
-        None => None,
-    }
+    let Some(row) = wraps(alloc, scope, params, parts)? else {
+        return Ok(None);
+    };
+    let code = node(alloc, op, row.codes, returns, span)?;
+    Ok(Some(Given {
+        code,
+        returns,
+        weight: row.weight,
+    }))
 }
 
 #[cycle(answers)]
-fn begins(scope: &Scope, params: &IndexSet<Name>, parts: &[Sexpr]) -> Option<Given>
-    requires small { forest_size (forest parts.now) < 2 ^ 30 }
-    requires light { AreLight scope.now.functions.entries }
-    ensures value { option_map given_of result ≡ over_given (charged CostName.Control (count (forest parts.now))) (ends (definitions_of scope.now) params.now.keys (forest parts.now)) }
-    ensures within { IfSome result (λ g. IsWithin (forest_size (forest parts.now) + 1) g.weight) }
+fn begins(
+    alloc: Global,
+    scope: &Scope,
+    params: &IndexSet<Name>,
+    head: Span,
+    parts: &[Sexpr],
+    span: Span,
+) -> Result<Option<Given>, NoMemory>
+    requires small { forest_size (forest parts.now) < 2 ^ 21 }
+    requires callable { AreCallable scope.now.functions.entries }
+    requires free { list_any is_reserved params.now.keys ≡ false }
+    ensures value { IfOk result (λ r. option_map given_of r ≡ over_given (charged CostName.Control (count (forest parts.now))) (ends (definitions_of scope.now) params.now.keys (forest parts.now))) }
+    ensures within { IfOk result (λ r. IfSome r (λ g. IsWithin (forest_size (forest parts.now) + 1) g.weight)) }
+    ensures code { IfOk result (λ r. IfSome r (λ g. expression_of g.code ≡ headed (codes "begin") head parts.now span)) }
 {
-    let given = ends(scope, params, parts)?;
-    Some(Given {
-        returns: given.returns,
-        weight: above(charged(CostName::Control, parts.len() as u64), given.weight),
-    })
+    let Some(ending) = ends(alloc, scope, params, parts)? else {
+        return Ok(None);
+    };
+    let own = charged(CostName::Control, parts.len() as u64);
+    let op = Op::Begin { head };
+    let code = node(alloc, op, ending.codes, ending.returns, span)?;
+    Ok(Some(Given {
+        code,
+        returns: ending.returns,
+        weight: above(own, ending.weight),
+    }))
 }
 
 /// Writes, and an answer behind them.
 #[cycle(answers)]
-fn ends(scope: &Scope, params: &IndexSet<Name>, parts: &[Sexpr]) -> Option<Given>
-    requires small { forest_size (forest parts.now) < 2 ^ 30 }
-    requires light { AreLight scope.now.functions.entries }
-    ensures value { option_map given_of result ≡ ends (definitions_of scope.now) params.now.keys (forest parts.now) }
-    ensures within { IfSome result (λ g. IsWithin (forest_size (forest parts.now)) g.weight) }
+fn ends(
+    alloc: Global,
+    scope: &Scope,
+    params: &IndexSet<Name>,
+    parts: &[Sexpr],
+) -> Result<Option<Ending>, NoMemory>
+    requires small { forest_size (forest parts.now) < 2 ^ 21 }
+    requires callable { AreCallable scope.now.functions.entries }
+    requires free { list_any is_reserved params.now.keys ≡ false }
+    ensures value { IfOk result (λ r. option_map ending_of r ≡ ends (definitions_of scope.now) params.now.keys (forest parts.now)) }
+    ensures within { IfOk result (λ r. IfSome r (λ g. IsWithin (forest_size (forest parts.now)) g.weight)) }
+    ensures codes { IfOk result (λ r. IfSome r (λ g. map expression_of g.codes.items ≡ parts.now)) }
 {
     let Some((last, before)) = last_of(parts) else {
-        return None;
+        return Ok(None);
     };
-    let weight = write_all(scope, params, before)?;
-    let given = answers(scope, params, last)?;
-    Some(Given {
+    let Some(row) = write_all(alloc, scope, params, before)? else {
+        return Ok(None);
+    };
+    let Some(given) = answers(alloc, scope, params, last)? else {
+        return Ok(None);
+    };
+    let mut codes = row.codes;
+    codes.push(given.code)?;
+    Ok(Some(Ending {
+        codes,
         returns: given.returns,
-        weight: beside(weight, given.weight),
-    })
+        weight: beside(row.weight, given.weight),
+    }))
 }
 
 #[cycle(answers)]
-fn answer_list(scope: &Scope, params: &IndexSet<Name>, items: &[Sexpr]) -> Option<Given>
-    requires small { forest_size (forest items.now) < 2 ^ 30 }
-    requires light { AreLight scope.now.functions.entries }
-    ensures value { option_map given_of result ≡ answer_list (definitions_of scope.now) params.now.keys (forest items.now) }
-    ensures within { IfSome result (λ g. IsWithin (forest_size (forest items.now)) g.weight) }
+fn answer_list(
+    alloc: Global,
+    scope: &Scope,
+    params: &IndexSet<Name>,
+    items: &[Sexpr],
+    span: Span,
+) -> Result<Option<Given>, NoMemory>
+    requires small { forest_size (forest items.now) < 2 ^ 21 }
+    requires callable { AreCallable scope.now.functions.entries }
+    requires free { list_any is_reserved params.now.keys ≡ false }
+    ensures value { IfOk result (λ r. option_map given_of r ≡ answer_list (definitions_of scope.now) params.now.keys (forest items.now)) }
+    ensures within { IfOk result (λ r. IfSome r (λ g. IsWithin (forest_size (forest items.now)) g.weight)) }
+    ensures code { IfOk result (λ r. IfSome r (λ g. expression_of g.code ≡ ListAt (forest items.now) span)) }
 {
-    let Some((name, parts)) = headed(items) else {
-        return None;
+    let Some((head, parts)) = headed(items) else {
+        return Ok(None);
     };
-    if is(name, "ok") {
-        return wrapped(scope, params, Returns::OkInt, parts);
+    if is(&head.name, "ok") {
+        let op = Op::OnValues {
+            native: Strict::MakeOk,
+            head: head.span,
+        };
+        return wrapped(alloc, scope, params, op, Returns::OkInt, parts, span);
     }
-    if is(name, "err") {
-        return wrapped(scope, params, Returns::ErrInt, parts);
+    if is(&head.name, "err") {
+        let op = Op::OnValues {
+            native: Strict::MakeErr,
+            head: head.span,
+        };
+        return wrapped(alloc, scope, params, op, Returns::ErrInt, parts, span);
     }
-    if is(name, "begin") {
-        return begins(scope, params, parts);
+    if is(&head.name, "begin") {
+        return begins(alloc, scope, params, head.span, parts, span);
     }
-    None
+    Ok(None)
 }
 
-/// What an answer gives and weighs, where these parameters are ints; none, if the item is no answer.
+/// The tree of an answer, what it gives and what it weighs, where these parameters are ints; none, if the item is no answer.
 #[cycle(answers)]
-pub(crate) fn answers(scope: &Scope, params: &IndexSet<Name>, e: &Sexpr) -> Option<Given>
-    requires small { tree_size e.now < 2 ^ 30 }
-    requires light { AreLight scope.now.functions.entries }
-    ensures value { option_map given_of result ≡ answers (definitions_of scope.now) params.now.keys e.now }
-    ensures within { IfSome result (λ g. IsWithin (tree_size e.now) g.weight) }
+pub(crate) fn answers(
+    alloc: Global,
+    scope: &Scope,
+    params: &IndexSet<Name>,
+    e: &Sexpr,
+) -> Result<Option<Given>, NoMemory>
+    requires small { tree_size e.now ≤ 2 ^ 21 }
+    requires callable { AreCallable scope.now.functions.entries }
+    requires free { list_any is_reserved params.now.keys ≡ false }
+    ensures value { IfOk result (λ r. option_map given_of r ≡ answers (definitions_of scope.now) params.now.keys e.now) }
+    ensures within { IfOk result (λ r. IfSome r (λ g. IsWithin (tree_size e.now) g.weight)) }
+    ensures code { IfOk result (λ r. IfSome r (λ g. expression_of g.code ≡ e.now)) }
 {
     match &e.node {
-        Node::List(items) => answer_list(scope, params, items),
-        _ => None,
+        Node::List(items) => answer_list(alloc, scope, params, items, e.span),
+        _ => Ok(None),
     }
 }

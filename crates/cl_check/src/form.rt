@@ -1,28 +1,33 @@
 //! Forms that are taken.
-ghost use Rattle.std.specs.Prelude.{◌≡◌, ◌<◌, ◌≤◌, ◌^◌, ◌-◌, ◌+◌, ◌++◌, ◌∷◌, [], false, true, Some, None, is_none, IfOk, IfSome, OnOk, length};
+ghost use Rattle.std.specs.Prelude.{◌≡◌, ◌<◌, ◌≤◌, ◌^◌, ◌-◌, [], false, true, Some, None, is_none, is_some, IfOk, IfSome, OnOk, length};
 ghost use Rattle.std.specs.Option.{option_map};
+ghost use Rattle.std.specs.List.{list_any};
 ghost use Rattle.cl_shapes.specs.Costs.{IsAtMost, in_each, first_above};
-ghost use Rattle.cl_types.specs.Types.{ResponseType};
-ghost use Rattle.cl_types.specs.TypeView.{plain_of};
+ghost use Rattle.cl_types.specs.Types.{IntType};
 ghost use Rattle.cl_sexpr.specs.Tree.{tree_size};
-ghost use Rattle.cl_forms.specs.Forms.{FunctionForm};
+ghost use Rattle.cl_forms.specs.Forms.{VariableForm, FunctionForm};
 ghost use Rattle.cl_forms.specs.FormBreaks.{repeats};
 ghost use Rattle.cl_forms.specs.FormView.{plain_kind};
+ghost use Rattle.cl_forms.specs.Heads.{is_reserved};
 ghost use Rattle.cl_forms.specs.Weights.{weight_of_kind};
+ghost use Rattle.cl_code.specs.Definitions.{variable_form, form_defined};
+ghost use Rattle.cl_code.specs.Functions.{form_of};
+ghost use Rattle.cl_code.specs.Typed.{expression_of};
 ghost use Rattle.cl_rules.specs.NativeTypes.{is_int};
-ghost use Rattle.cl_check.specs.Taken.{application, charged_each, is_light, are_ints, names_of, is_literal, is_among, callee_in, if_so, body_of, function_of, add_variable, add_function, with_kind, with_name};
-ghost use Rattle.cl_check.specs.FormNames.{params_in};
-ghost use Rattle.cl_check.specs.Refusal.{IsNew};
-ghost use Rattle.cl_check.specs.Room.{definitions_of, AreLight, IsWithin, given_of, returned};
+ghost use Rattle.cl_check.specs.Taken.{application, charged_each, given, is_light, are_ints, names_of, is_literal, is_among, callee_in, if_so, weigh, body_of, function_of, add_variable, add_function, with_kind, with_name};
+ghost use Rattle.cl_check.specs.Refusal.{IsNew, IsNewName};
+ghost use Rattle.cl_check.specs.Room.{definitions_of, AreCallable, IsWithin, given_of};
 
-use crate::answer::{Given, Returns, answers};
+use crate::answer::{Given, answers};
 use crate::int::weigh;
+use crate::node::{Returns, node, sized};
 use crate::scope::{Callee, Scope};
 use crate::weight::{INT_SIZE, NOTHING, Weight, above, beside, charged, plus};
+use cl_code::{Code, Definition, Function, Op, Variable};
 use cl_forms::{Form, FormKind};
-use cl_sexpr::{Node, Sexpr};
+use cl_sexpr::{Node, Sexpr, Span};
 use cl_shapes::{Cost5, CostName};
-use cl_types::{Access, Fault, Name, NoMemory, SizedTy, Ty, TyKind};
+use cl_types::{Access, Name, NoMemory, SizedTy, TyKind};
 use indexmap::IndexSet;
 use std::alloc::{AllocError, Global};
 
@@ -56,29 +61,62 @@ fn names_of(alloc: Global, params: &[(Name, SizedTy)]) -> Result<IndexSet<Name>,
     Ok(names)
 }
 
-fn is_literal(e: &Sexpr) -> bool
-    ensures { result ≡ is_literal e.now }
+/// The tree of an int that stands in the text.
+fn literal(alloc: Global, e: &Sexpr) -> Result<Option<Code>, NoMemory>
+    ensures value { IfOk result (λ r. is_some r ≡ is_literal e.now) }
+    ensures code { IfOk result (λ r. IfSome r (λ c. expression_of c ≡ e.now)) }
 {
-    matches!(e.node, Node::Int(_))
+    let Node::Int(value) = &e.node else {
+        return Ok(None);
+    };
+    let op = Op::Int(*value);
+    let code = node(alloc, op, Vec::new(alloc), Returns::Int, e.span)?;
+    Ok(Some(code))
 }
 
-/// What the body of a function of this access gives.
-fn body_of(scope: &Scope, access: Access, params: &IndexSet<Name>, body: &Sexpr) -> Option<Given>
-    requires small { tree_size body.now < 2 ^ 30 }
-    requires light { AreLight scope.now.functions.entries }
-    ensures value { option_map given_of result ≡ body_of access (definitions_of scope.now) params.now.keys body.now }
-    ensures within { IfSome result (λ g. IsWithin (tree_size body.now) g.weight) }
+/// The body of a read-only function.
+fn int_body(
+    alloc: Global,
+    scope: &Scope,
+    params: &IndexSet<Name>,
+    body: &Sexpr,
+) -> Result<Option<Given>, NoMemory>
+    requires small { tree_size body.now ≤ 2 ^ 21 }
+    requires callable { AreCallable scope.now.functions.entries }
+    requires free { list_any is_reserved params.now.keys ≡ false }
+    ensures value { IfOk result (λ r. option_map given_of r ≡ given IntType (weigh (definitions_of scope.now) params.now.keys body.now)) }
+    ensures within { IfOk result (λ r. IfSome r (λ g. IsWithin (tree_size body.now) g.weight)) }
+    ensures code { IfOk result (λ r. IfSome r (λ g. expression_of g.code ≡ body.now)) }
+{
+    let Some(weighed) = weigh(alloc, scope, params, body)? else {
+        return Ok(None);
+    };
+    Ok(Some(Given {
+        code: weighed.code,
+        returns: Returns::Int,
+        weight: weighed.weight,
+    }))
+}
+
+/// The body of a function of this access.
+fn body_of(
+    alloc: Global,
+    scope: &Scope,
+    access: Access,
+    params: &IndexSet<Name>,
+    body: &Sexpr,
+) -> Result<Option<Given>, NoMemory>
+    requires small { tree_size body.now ≤ 2 ^ 21 }
+    requires callable { AreCallable scope.now.functions.entries }
+    requires free { list_any is_reserved params.now.keys ≡ false }
+    ensures value { IfOk result (λ r. option_map given_of r ≡ body_of access (definitions_of scope.now) params.now.keys body.now) }
+    ensures within { IfOk result (λ r. IfSome r (λ g. IsWithin (tree_size body.now) g.weight)) }
+    ensures code { IfOk result (λ r. IfSome r (λ g. expression_of g.code ≡ body.now)) }
 {
     match access {
-        Access::ReadOnly => match weigh(scope, params, body) {
-            Some(weight) => Some(Given {
-                returns: Returns::Int,
-                weight,
-            }),
-            None => None,
-        },
-        Access::Public => answers(scope, params, body),
-        Access::Private => None,
+        Access::ReadOnly => int_body(alloc, scope, params, body),
+        Access::Public => answers(alloc, scope, params, body),
+        Access::Private => Ok(None),
     }
 }
 
@@ -138,48 +176,16 @@ fn is_light(weight: Weight) -> bool
     weight.height <= 256 && is_below(&weight.bound)
 }
 
-/// A response with these parts.
-fn response(alloc: Global, good: TyKind, bad: TyKind) -> Result<Ty, AllocError>
-    ensures { IfOk result (λ t. t ≡ ResponseType (plain_of good) (plain_of bad)) }
-{
-    let good = Box::new(alloc, Ty { kind: good })?;
-    let bad = Box::new(alloc, Ty { kind: bad })?;
-    Ok(Ty {
-        kind: TyKind::Response(good, bad),
-    })
-}
-
-fn type_of(alloc: Global, returns: Returns) -> Result<Ty, AllocError>
-    ensures { IfOk result (λ t. t ≡ returned returns) }
-{
-    match returns {
-        Returns::Int => Ok(Ty { kind: TyKind::Int }),
-        Returns::OkInt => response(alloc, TyKind::Int, TyKind::NoType),
-        Returns::ErrInt => response(alloc, TyKind::NoType, TyKind::Int),
-    }
-}
-
-fn sized(alloc: Global, returns: Returns) -> Result<SizedTy, NoMemory>
-    ensures { IfOk result (λ t. t ≡ returned returns) }
-{
-    let ty = type_of(alloc, returns)?;
-    match SizedTy::make(alloc, ty) {
-        Ok(t) => Ok(t),
-        Err(Fault::Refused(_)) => unreachable!(),
-        Err(Fault::NoMemory) => Err(NoMemory),
-    }
-}
-
 /// The function with this body, where it isn't too heavy.
 fn function_of(
     alloc: Global,
     access: Access,
     arity: usize,
-    body: Given,
+    body: &Given,
 ) -> Result<Option<Callee>, NoMemory>
     requires few { arity < 2 ^ 30 }
-    requires within { IsWithin (2 ^ 30) body.weight }
-    ensures value { IfOk result (λ f. f ≡ function_of access arity (Some (given_of body))) }
+    requires within { IsWithin (2 ^ 30) body.now.weight }
+    ensures value { IfOk result (λ f. f ≡ function_of access arity (Some (given_of body.now))) }
     ensures light { IfOk result (λ f. IfSome f (λ c. is_light c.weight ≡ true)) }
 {
     let weight = application(arity, body.weight);
@@ -217,80 +223,132 @@ fn add_function(scope: &mut Scope, name: Name, function: Callee) -> Result<(), N
     Ok(())
 }
 
+/// Adds a variable of ints whose first value is a literal.
+fn add_int(
+    alloc: Global,
+    scope: &mut Scope,
+    name: Name,
+    ty: SizedTy,
+    e: &Sexpr,
+    span: Span,
+) -> Result<Option<Variable>, NoMemory>
+    requires new { is_among scope.old.variables.keys name ≡ false }
+    requires deploy { IsAtMost scope.old.deploy (in_each (2 ^ 100)) }
+    requires callable { AreCallable scope.old.functions.entries }
+    ensures value { IfOk result (λ r. if_so (is_some r) (Some (definitions_of scope.new)) ≡ with_kind (definitions_of scope.old) name (VariableForm ty e.now)) }
+    ensures defined { IfOk result (λ r. IfSome r (λ v. variable_form v ≡ record { name = Some name; kind = VariableForm ty e.now; span = span })) }
+    ensures callable { IfOk result (λ _. AreCallable scope.new.functions.entries) }
+{
+    if !is_int(&ty) {
+        return Ok(None);
+    }
+    let Some(value) = literal(alloc, e)? else {
+        return Ok(None);
+    };
+    add_variable(scope, name)?;
+    Ok(Some(Variable {
+        name,
+        ty,
+        value,
+        span,
+    }))
+}
+
 /// Adds a function of ints, where it is taken.
 fn add_given(
     alloc: Global,
     scope: &mut Scope,
     name: Name,
     access: Access,
-    params: &[(Name, SizedTy)],
+    params: Vec<(Name, SizedTy)>,
     body: &Sexpr,
-) -> Result<bool, NoMemory>
+    span: Span,
+) -> Result<Option<Function>, NoMemory>
     requires new { callee_in name scope.old.functions.entries ≡ None }
-    requires once { repeats [] (names_of params.now) ≡ false }
-    requires few { length params.now < 2 ^ 30 }
-    requires small { tree_size body.now < 2 ^ 30 }
-    requires light { AreLight scope.old.functions.entries }
+    requires own { is_reserved name ≡ false }
+    requires once { repeats [] (names_of params.items) ≡ false }
+    requires free { list_any is_reserved (names_of params.items) ≡ false }
+    requires few { length params.items ≤ 2 ^ 21 }
+    requires small { tree_size body.now ≤ 2 ^ 21 }
+    requires callable { AreCallable scope.old.functions.entries }
     requires deploy { IsAtMost scope.old.deploy (in_each (2 ^ 100)) }
-    ensures value { IfOk result (λ taken. if_so taken (Some (definitions_of scope.new)) ≡ with_kind (definitions_of scope.old) name (FunctionForm access params.now body.now)) }
-    ensures light { IfOk result (λ _. AreLight scope.new.functions.entries) }
+    ensures value { IfOk result (λ r. if_so (is_some r) (Some (definitions_of scope.new)) ≡ with_kind (definitions_of scope.old) name (FunctionForm access params.items body.now)) }
+    ensures defined { IfOk result (λ r. IfSome r (λ f. form_of f ≡ record { name = Some name; kind = FunctionForm access params.items body.now; span = span })) }
+    ensures callable { IfOk result (λ _. AreCallable scope.new.functions.entries) }
 {
-    if !are_ints(params) {
-        return Ok(false);
+    if !are_ints(&params) {
+        return Ok(None);
     }
-    let names = names_of(alloc, params)?;
-    let Some(given) = body_of(scope, access, &names, body) else {
-        return Ok(false);
+    let names = names_of(alloc, &params)?;
+    let Some(given) = body_of(alloc, scope, access, &names, body)? else {
+        return Ok(None);
     };
-    let Some(function) = function_of(alloc, access, params.len(), given)? else {
-        return Ok(false);
+    let Some(callee) = function_of(alloc, access, params.len(), &given)? else {
+        return Ok(None);
     };
-    add_function(scope, name, function)?;
-    Ok(true)
+    let returns = callee.returns.copy(alloc)?;
+    let height = callee.weight.height;
+    add_function(scope, name, callee)?;
+    Ok(Some(Function {
+        name,
+        access,
+        params,
+        returns,
+        height,
+        body: given.code,
+        span,
+    }))
 }
 
 /// Adds what a form of this name is, where it is taken.
-fn add(alloc: Global, scope: &mut Scope, name: Name, kind: &FormKind) -> Result<bool, NoMemory>
-    requires variable { is_among scope.old.variables.keys name ≡ false }
-    requires function { callee_in name scope.old.functions.entries ≡ None }
-    requires once { repeats [] (params_in (plain_kind kind.now)) ≡ false }
-    requires small { weight_of_kind (plain_kind kind.now) < 2 ^ 30 }
-    requires light { AreLight scope.old.functions.entries }
+fn add(
+    alloc: Global,
+    scope: &mut Scope,
+    name: Name,
+    kind: FormKind,
+    span: Span,
+) -> Result<Option<Definition>, NoMemory>
+    requires new { IsNewName (definitions_of scope.old) name (plain_kind kind) }
+    requires small { weight_of_kind (plain_kind kind) ≤ 2 ^ 21 }
+    requires callable { AreCallable scope.old.functions.entries }
     requires deploy { IsAtMost scope.old.deploy (in_each (2 ^ 100)) }
-    ensures value { IfOk result (λ taken. if_so taken (Some (definitions_of scope.new)) ≡ with_kind (definitions_of scope.old) name (plain_kind kind.now)) }
-    ensures light { IfOk result (λ _. AreLight scope.new.functions.entries) }
+    ensures value { IfOk result (λ r. if_so (is_some r) (Some (definitions_of scope.new)) ≡ with_kind (definitions_of scope.old) name (plain_kind kind)) }
+    ensures defined { IfOk result (λ r. IfSome r (λ d. form_defined d ≡ record { name = Some name; kind = plain_kind kind; span = span })) }
+    ensures callable { IfOk result (λ _. AreCallable scope.new.functions.entries) }
 {
     match kind {
-        FormKind::Variable(t, e) => {
-            if !is_int(t) {
-                return Ok(false);
-            }
-            if !is_literal(e) {
-                return Ok(false);
-            }
-            add_variable(scope, name)?;
-            Ok(true)
+        FormKind::Variable(ty, e) => {
+            let variable = add_int(alloc, scope, name, ty, &e, span)?;
+            Ok(variable.map(Definition::Variable))
         }
         FormKind::Function {
             access,
             params,
             body,
-        } => add_given(alloc, scope, name, *access, params, body),
-        _ => Ok(false),
+        } => {
+            let function = add_given(alloc, scope, name, access, params, &body, span)?;
+            Ok(function.map(Definition::Function))
+        }
+        _ => Ok(None),
     }
 }
 
-/// Adds what a form defines, where it is taken.
-pub(crate) fn add_form(alloc: Global, scope: &mut Scope, form: &Form) -> Result<bool, NoMemory>
-    requires new { IsNew (definitions_of scope.old) form.now }
-    requires small { weight_of_kind form.now.kind < 2 ^ 30 }
-    requires light { AreLight scope.old.functions.entries }
+/// Adds what a form defines, where it is taken: its definition with typed trees.
+pub(crate) fn add_form(
+    alloc: Global,
+    scope: &mut Scope,
+    form: Form,
+) -> Result<Option<Definition>, NoMemory>
+    requires new { IsNew (definitions_of scope.old) form }
+    requires small { weight_of_kind form.kind ≤ 2 ^ 21 }
+    requires callable { AreCallable scope.old.functions.entries }
     requires deploy { IsAtMost scope.old.deploy (in_each (2 ^ 100)) }
-    ensures value { IfOk result (λ taken. if_so taken (Some (definitions_of scope.new)) ≡ with_name (definitions_of scope.old) form.now.name form.now.kind) }
-    ensures light { IfOk result (λ _. AreLight scope.new.functions.entries) }
+    ensures value { IfOk result (λ r. if_so (is_some r) (Some (definitions_of scope.new)) ≡ with_name (definitions_of scope.old) form.name form.kind) }
+    ensures defined { IfOk result (λ r. IfSome r (λ d. form_defined d ≡ form)) }
+    ensures callable { IfOk result (λ _. AreCallable scope.new.functions.entries) }
 {
-    match &form.name {
-        Some(name) => add(alloc, scope, *name, &form.kind),
-        None => Ok(false),
+    match form.name {
+        Some(name) => add(alloc, scope, name, form.kind, form.span),
+        None => Ok(None),
     }
 }

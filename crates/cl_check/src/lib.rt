@@ -6,6 +6,7 @@ mod checker;
 mod form;
 mod int;
 mod laws;
+mod node;
 mod parts;
 mod scope;
 #[cfg(test)]

@@ -1,11 +1,12 @@
 //! Items taken apart.
-ghost use Rattle.std.specs.Prelude.{◌≡◌, ◌+◌, ◌≤◌, ◌++◌, ◌∷◌, [], nat_eq, length, false, MatchOption, IfSome};
-ghost use Rattle.cl_sexpr.specs.declared.sexpr.Span.{Span};
-ghost use Rattle.cl_sexpr.specs.Tree.{forest, forest_size, tree_size, ListAt, Then, LeafAt, Named};
+ghost use Rattle.std.specs.Prelude.{◌≡◌, ◌≢◌, ◌+◌, ◌++◌, ◌∷◌, [], nat_eq, length, false, MatchOption, IfSome};
+ghost use Rattle.cl_sexpr.specs.Tree.{forest, forest_size, tree_size, Then};
 ghost use Rattle.cl_forms.specs.Names.{same};
+ghost use Rattle.cl_code.specs.Expression.{word};
 ghost use Rattle.cl_check.specs.Taken.{count, is_empty};
-ghost use Rattle.cl_check.specs.Room.{is_headed};
+ghost use Rattle.cl_check.specs.Room.{is_headed, is_name};
 
+use cl_code::Word;
 use cl_sexpr::{Node, Sexpr};
 use cl_types::Name;
 
@@ -16,16 +17,27 @@ pub(crate) fn is(name: &Name, word: &str) -> bool
     name.bytes() == word.as_bytes()
 }
 
+/// The name that an item is.
+pub(crate) fn named(e: &Sexpr) -> Option<Word>
+    ensures { MatchOption result (is_name e.now ≡ false) (λ w. e.now ≡ word w) }
+{
+    match &e.node {
+        Node::Atom(name) => Some(Word {
+            name: *name,
+            span: e.span,
+        }),
+        _ => None,
+    }
+}
+
 /// The name that a row of items begins with, and the items behind it.
-pub(crate) fn headed(items: &[Sexpr]) -> Option<(&Name, &[Sexpr])>
-    ensures value { MatchOption result (is_headed (forest items.now) ≡ false) (λ r. (at : Span) × (forest items.now ≡ Then (LeafAt (Named r.0.now) at) (forest r.1.now))) }
+pub(crate) fn headed(items: &[Sexpr]) -> Option<(Word, &[Sexpr])>
+    ensures value { MatchOption result (is_headed (forest items.now) ≡ false) (λ r. forest items.now ≡ Then (word r.0) (forest r.1.now)) }
     ensures smaller { IfSome result (λ r. forest_size (forest r.1.now) + 2 ≡ forest_size (forest items.now)) }
 {
     let (head, parts) = items.split_first()?;
-    match &head.node {
-        Node::Atom(name) => Some((name, parts)),
-        _ => None,
-    }
+    let head = named(head)?;
+    Some((head, parts))
 }
 
 /// Whether there are so many items.
@@ -41,6 +53,26 @@ pub(crate) fn is_empty(parts: &[Sexpr]) -> bool
     ensures { result ≡ is_empty (forest parts.now) }
 {
     parts.is_empty()
+}
+
+/// The item of a row of one.
+pub(crate) fn only(parts: &[Sexpr]) -> Option<&Sexpr>
+    ensures { MatchOption result (length parts.now ≢ 1) (λ e. parts.now ≡ e.now ∷ []) }
+{
+    match parts {
+        [part] => Some(part),
+        _ => None,
+    }
+}
+
+/// The items of a row of two.
+pub(crate) fn both(parts: &[Sexpr]) -> Option<(&Sexpr, &Sexpr)>
+    ensures { MatchOption result (length parts.now ≢ 2) (λ r. parts.now ≡ r.0.now ∷ r.1.now ∷ []) }
+{
+    match parts {
+        [first, second] => Some((first, second)),
+        _ => None,
+    }
 }
 
 /// The last item, and those before it.

@@ -1,6 +1,7 @@
 // Bounds were worked out by hand from the unit table: one unit of runtime for each charge, a count and a length of 17 for each
 // int that is read or written, and for a deployment the length of the text and 17 for each variable.
 use crate::checker::{Checked, check};
+use cl_code::{Definition, Function, Op, Strict};
 use cl_sexpr::{Refusal, Rule};
 use cl_shapes::Cost5;
 use cl_types::{Fault, Name, TyKind};
@@ -94,11 +95,53 @@ fn deployments(rt: HostRuntime) -> Result<(), Fail> {
             [5, 0, 0, 3, 84],
         ),
     ];
-    for (text, forms, deploy) in table {
+    for (text, definitions, deploy) in table {
         let found = checked(alloc, text).ok_or("taken")?;
-        assert!(rt; found.forms.len() == forms);
+        assert!(rt; found.definitions.len() == definitions);
         assert!(rt; found.scope.deploy == cost(deploy));
     }
+    Ok(())
+}
+
+fn function_at(checked: &Checked, place: usize) -> Option<&Function> {
+    match checked.definitions.get(place)? {
+        Definition::Function(function) => Some(function),
+        Definition::Variable(_) => None,
+    }
+}
+
+fn is_name(name: &Name, word: &str) -> bool {
+    name.bytes() == word.as_bytes()
+}
+
+#[test]
+fn trees(rt: HostRuntime) -> Result<(), Fail> {
+    let alloc = rt.alloc();
+    let text: &[u8] =
+        b"(define-data-var n int -3)(define-public (p (x int)) (begin (var-set n x) (ok (- x 1))))";
+    let found = checked(alloc, text).ok_or("taken")?;
+    let function = function_at(&found, 1).ok_or("a function")?;
+    assert!(rt; is_name(&function.name, "p"));
+    assert!(rt; function.height == 5);
+    assert!(rt; is_of(&function.returns.ty().kind, "ok"));
+    assert!(rt; is_of(&function.body.ty.ty().kind, "ok"));
+    let set = function.body.parts.get(0).ok_or("a write")?;
+    assert!(rt; matches!(&set.op, Op::VarSet { variable, .. } if is_name(&variable.name, "n")));
+    assert!(rt; matches!(&set.ty.ty().kind, TyKind::Bool));
+    let answer = function.body.parts.get(1).ok_or("an answer")?;
+    let difference = answer.parts.get(0).ok_or("a difference")?;
+    assert!(rt;
+        matches!(
+            &difference.op,
+            Op::OnValues {
+                native: Strict::Subtract,
+                ..
+            }
+        )
+    );
+    assert!(rt; difference.span.start == 78 && difference.span.end == 85);
+    let first = difference.parts.get(0).ok_or("a parameter")?;
+    assert!(rt; matches!(&first.op, Op::Bound(name) if is_name(name, "x")));
     Ok(())
 }
 

@@ -16,7 +16,7 @@ use Rattle.cl_tx.specs.declared.entry.Entry.{Entry}
 use Rattle.cl_tx.specs.declared.entry.Entry.TheVariants.{Deploy, Call}
 use Rattle.cl_tx.specs.declared.outcome.Outcome.{Outcome}
 use Rattle.cl_tx.specs.declared.outcome.Outcome.TheVariants.{Done}
-use Rattle.cl_tx.specs.Nodes.{NodeSeen, Stepped, Told, nothing_told, contract_of, stays, goes_on, with_contract, answered, call_ended, deployment_ended}
+use Rattle.cl_tx.specs.Nodes.{NodeSeen, Stepped, Told, nothing_told, contract_of, stays, moves_on, with_contract, answered, call_ended, deployment_ended}
 use Rattle.cl_tx.specs.Step.{first_misfit, run_call, if_fitting, if_as_many, if_open, if_function, if_deployed, call_step, run_deployment, DeploySteps, name_taken, source_refused, evaluated, Steps}
 use Rattle.cl_tx.specs.Laws.{IsKept}
 use Rattle.cl_tx.proofs.Principals.{principal_kept}
@@ -39,7 +39,7 @@ module _ (P : Stepped → Type 0) where
   nothing t e = absurd (none_some t None refl e)
 
   module _ (node : NodeSeen) (stay : (outcome : Outcome) (cost : Option Cost5) → P (stays node nothing_told outcome cost))
-      (go : (outcome : Outcome) → IsKept outcome → (cost : Cost5) (s : State) → P (goes_on node nothing_told outcome cost s)) where
+      (go : (outcome : Outcome) → IsKept outcome → (cost : Cost5) (s : State) → P (moves_on node nothing_told outcome cost s)) where
     answer_holds : (access : Access) (v : Tree) (cost : Cost5) (s : State) → HoldsIf (answered access v node cost s)
     answer_holds Public (ResponseV true v) cost s = holds _ (go _ tt cost s)
     answer_holds Public (ResponseV false v) cost s = holds _ (stay _ _)
@@ -85,14 +85,14 @@ module _ (P : Stepped → Type 0) where
       call_holds function = deployed_holds function (contract_at contract node.contracts)
 
   module _ (node : NodeSeen) (stay : (told : Told) (outcome : Outcome) (cost : Option Cost5) → P (stays node told outcome cost)) where
-    deployment_holds : (told : Told) (known : Known) (l : Limited Contract) → ((c : Contract) (s : State) (purse : Purse) → l ≡ Gave c s purse → P (goes_on (with_contract node c known) told Done purse.spent s)) → HoldsIf (deployment_ended node told known l)
+    deployment_holds : (told : Told) (known : Known) (l : Limited Contract) → ((c : Contract) (s : State) (purse : Purse) → l ≡ Gave c s purse → P (moves_on (with_contract node c known) told Done purse.spent s)) → HoldsIf (deployment_ended node told known l)
     deployment_holds told known (Gave c s purse) done = holds _ (done c s purse refl)
     deployment_holds told known (Threw v s purse) done = holds _ (stay _ _ _)
     deployment_holds told known (AbortedBy why purse) done = holds _ (stay _ _ _)
     deployment_holds told known (Passed over purse) done = holds _ (stay _ _ _)
     deployment_holds told known (Lost purse) done = nothing
 
-    module _ (costs : Costs) (done : (principal : Principal) (source : List ℕ) (accepted : Accepted node.known principal costs source) → known_at principal node.known ≡ None → (told : Told) (c : Contract) → c.principal ≡ principal → (cost : Cost5) (s : State) → P (goes_on (with_contract node c (known_of principal (length source) accepted.defined)) told Done cost s)) where
+    module _ (costs : Costs) (done : (principal : Principal) (source : List ℕ) (accepted : Accepted node.known principal costs source) → known_at principal node.known ≡ None → (told : Told) (c : Contract) → c.principal ≡ principal → (cost : Cost5) (s : State) → P (moves_on (with_contract node c (known_of principal (length source) accepted.defined)) told Done cost s)) where
       deploy_holds : (common : Common) (principal : Principal) (source : List ℕ) (s : Stepped) → DeploySteps costs node common principal source s → P s
       unfolding run_deployment
       deploy_holds common principal source s (name_taken known e p) = subst P (sym p) (stay _ _ _)
@@ -100,6 +100,6 @@ module _ (P : Stepped → Type 0) where
       deploy_holds common principal source s (evaluated e a p) =
           deployment_holds _ _ _ (λ c t purse is. done principal source a e _ c (principal_kept _ _ _ _ _ _ c t purse is) purse.spent t) s p
 
-      pub step_holds : ((outcome : Outcome) → IsKept outcome → (cost : Cost5) (s : State) → P (goes_on node nothing_told outcome cost s)) → (entry : Entry) (s : Stepped) → Steps costs node entry s → P s
+      pub step_holds : ((outcome : Outcome) → IsKept outcome → (cost : Cost5) (s : State) → P (moves_on node nothing_told outcome cost s)) → (entry : Entry) (s : Stepped) → Steps costs node entry s → P s
       step_holds go (Deploy common name source) s x = deploy_holds common (contract_of common.sender name) source s x
       step_holds go (Call common contract function args) s x = call_holds node (λ outcome cost. stay nothing_told outcome cost) go costs common contract args function s x

@@ -86,21 +86,21 @@ refused node refusal = stays node nothing_told (Refused refusal) None
 abbrev pub aborted : NodeSeen → Told → Stop → Cost5 → Stepped
 aborted node told why cost = stays node told (Aborted why) (Some cost)
 
--- the node goes on with a state, whose events are handed out
-abbrev pub goes_on : NodeSeen → Told → Outcome → Cost5 → State → Stepped
-goes_on node told outcome cost s = record {
+-- the node moves on to a state, whose events are handed out
+abbrev pub moves_on : NodeSeen → Told → Outcome → Cost5 → State → Stepped
+moves_on node told outcome cost s = record {
   node = record node { state = at_rest s };
   result = result_of told outcome (Some cost) s.events;
 }
 
--- ---- what comes of a run under a limit; a run that is wrong or needs more depth comes to nothing
+-- ---- what comes of a run under a limit; a run that is wrong or needs more depth comes to nothing, and an application throws nothing
 
 -- a public function answers a response, whose err undoes all; another function gives a plain value
 abbrev pub answered : Access → Tree → NodeSeen → Cost5 → State → Option Stepped
-answered Public (ResponseV true v) node cost s = Some (goes_on node nothing_told (Good v) cost s)
+answered Public (ResponseV true v) node cost s = Some (moves_on node nothing_told (Good v) cost s)
 answered Public (ResponseV false v) node cost s = Some (stays node nothing_told (Bad v) (Some cost))
 answered Public v node cost s = None
-answered access v node cost s = Some (goes_on node nothing_told (Plain v) cost s)
+answered access v node cost s = Some (moves_on node nothing_told (Plain v) cost s)
 
 abbrev pub call_ended : Access → NodeSeen → Limited Tree → Option Stepped
 call_ended access node (Gave v s purse) = answered access v node purse.spent s
@@ -113,7 +113,7 @@ abbrev pub with_contract : NodeSeen → Contract → Known → NodeSeen
 with_contract node contract known = record node { contracts = node.contracts ++ contract ∷ []; known = node.known ++ known ∷ [] }
 
 abbrev pub deployment_ended : NodeSeen → Told → Known → Limited Contract → Option Stepped
-deployment_ended node told known (Gave contract s purse) = Some (goes_on (with_contract node contract known) told Done purse.spent s)
+deployment_ended node told known (Gave contract s purse) = Some (moves_on (with_contract node contract known) told Done purse.spent s)
 deployment_ended node told known (Threw v s purse) = Some (aborted node told stop.EarlyTop purse.spent)
 deployment_ended node told known (AbortedBy why purse) = Some (aborted node told (stop_of why) purse.spent)
 deployment_ended node told known (Passed over purse) = Some (aborted node told (stop.CostLimit over) over.attempted)

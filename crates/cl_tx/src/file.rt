@@ -6,8 +6,8 @@ ghost use Rattle.cl_tx.specs.Readings.{EachReads};
 ghost use Rattle.cl_tx.specs.Files.{DeployReads, CallReads, EntryReads, FileIn, FileReads};
 
 use crate::member::values;
-use crate::object::{EntryKind, Object, Read, array, kind_of, member, only, sole};
-use crate::{Common, Entry, Row, TxFile, TxRefusal};
+use crate::object::{EntryKind, Object, Read, array, kind_of, member, only, sole, text};
+use crate::{Common, Entry, TxFile, TxRefusal};
 use cl_c32::{Address, ContractName, Principal};
 use cl_json::parse;
 use cl_types::Fault;
@@ -19,9 +19,9 @@ fn deployment(alloc: Global, object: &Value) -> Read<Entry>
     ensures broken { IfRefused result (λ r. DeployReads (view object.now) (Err r)) }
 {
     only(Object::Deploy, object)?;
-    let sender: Address = member(alloc, object, "sender")?;
-    let name: ContractName = member(alloc, object, "name")?;
-    let source: Row<u8> = member(alloc, object, "source")?;
+    let sender: Address = member(object, "sender")?;
+    let name: ContractName = member(object, "name")?;
+    let source = text(alloc, object, "source")?;
     Ok(Entry::Deploy {
         common: Common { sender },
         name,
@@ -34,9 +34,9 @@ fn call(alloc: Global, object: &Value) -> Read<Entry>
     ensures broken { IfRefused result (λ r. CallReads (view object.now) (Err r)) }
 {
     only(Object::Call, object)?;
-    let sender: Address = member(alloc, object, "sender")?;
-    let contract: Principal = member(alloc, object, "contract")?;
-    let function: Row<u8> = member(alloc, object, "function")?;
+    let sender: Address = member(object, "sender")?;
+    let contract: Principal = member(object, "contract")?;
+    let function = text(alloc, object, "function")?;
     let texts = array(object, "args")?;
     let args = values(alloc, texts)?;
     Ok(Entry::Call {
@@ -80,7 +80,7 @@ fn file_in(alloc: Global, value: &Value) -> Read<TxFile>
     ensures found { IfOk result (λ f. FileIn (view value.now) (Ok f)) }
     ensures broken { IfRefused result (λ r. FileIn (view value.now) (Err r)) }
 {
-    let version: u64 = member(alloc, value, "version")?;
+    let version: u64 = member(value, "version")?;
     if version != 1 {
         return Err(Fault::Refused(TxRefusal::NotYet));
     }

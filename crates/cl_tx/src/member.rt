@@ -1,7 +1,6 @@
 //! What the values of members say.
 ghost use Rattle.std.specs.Prelude.{◌≡◌, ◌<◌, ◌==◌, length, List, IfOk, IfSome, Ok, Err, Some, None, position, option_map};
 ghost use Rattle.serde_json.specs.View.{view, items_view};
-ghost use Rattle.serde_json.specs.Find.{as_str};
 ghost use Rattle.cl_types.specs.Fault.{IfRefused};
 ghost use Rattle.cl_sexpr.specs.Leaf.{contract_name, contract_principal};
 ghost use Rattle.cl_c32.specs.Codec.{decoded};
@@ -13,7 +12,7 @@ use crate::object::{Read, Said};
 use crate::{Row, TxRefusal};
 use cl_c32::{Address, ContractName, Principal, decode};
 use cl_text::parse;
-use cl_types::{Fault, NoMemory};
+use cl_types::Fault;
 use cl_values::Val;
 use serde_json::Value;
 use std::alloc::Global;
@@ -98,43 +97,32 @@ fn deployed_name(value: &Value) -> Option<ContractName>
 impl Said for u64 {
     ghost says = { whole };
 
-    fn said(_alloc: Global, value: &Value) -> Result<Option<Self>, NoMemory> {
-        Ok(value.as_u64())
+    fn said(value: &Value) -> Option<Self> {
+        value.as_u64()
     }
 }
 
 impl Said for Address {
     ghost says = { address };
 
-    fn said(_alloc: Global, value: &Value) -> Result<Option<Self>, NoMemory> {
-        Ok(address(value))
+    fn said(value: &Value) -> Option<Self> {
+        address(value)
     }
 }
 
 impl Said for Principal {
     ghost says = { contract };
 
-    fn said(_alloc: Global, value: &Value) -> Result<Option<Self>, NoMemory> {
-        Ok(contract(value))
+    fn said(value: &Value) -> Option<Self> {
+        contract(value)
     }
 }
 
 impl Said for ContractName {
     ghost says = { deployed_name };
 
-    fn said(_alloc: Global, value: &Value) -> Result<Option<Self>, NoMemory> {
-        Ok(deployed_name(value))
-    }
-}
-
-impl Said for Row<u8> {
-    ghost says = { as_str };
-
-    fn said(alloc: Global, value: &Value) -> Result<Option<Self>, NoMemory> {
-        match value.as_str() {
-            Some(text) => Ok(Some(Row::new(text.as_bytes().to_vec(alloc)?))),
-            None => Ok(None),
-        }
+    fn said(value: &Value) -> Option<Self> {
+        deployed_name(value)
     }
 }
 

@@ -2,15 +2,15 @@
 ghost use Rattle.std.specs.Prelude.{◌≡◌, Option, IfOk, Ok, Err, option_map};
 ghost use Rattle.serde_json.specs.Data.{Data};
 ghost use Rattle.serde_json.specs.View.{view, members_view, items_view};
-ghost use Rattle.serde_json.specs.Find.{as_array};
+ghost use Rattle.serde_json.specs.Find.{as_str, as_array};
 ghost use Rattle.cl_types.specs.Fault.{IfRefused};
 ghost use Rattle.cl_json.specs.Json.{unknown_member};
 ghost use Rattle.cl_tx.specs.Members.{only, member};
 ghost use Rattle.cl_tx.specs.Files.{names_of, kind_of, sole, sole_in};
 
-use crate::TxRefusal;
+use crate::{Row, TxRefusal};
 use cl_json::unknown_member;
-use cl_types::{Fault, NoMemory};
+use cl_types::Fault;
 use serde_json::{Map, Value};
 use std::alloc::Global;
 
@@ -85,24 +85,39 @@ pub(crate) fn array<'v>(object: &'v Value, name: &str) -> Read<&'v [Value]>
     }
 }
 
-/// What the value of a member can say.
+/// The text of a member, in UTF-8.
+#[tactic(auto, unfolding(crate::specs::Readings::said))]
+pub(crate) fn text(alloc: Global, object: &Value, name: &str) -> Read<Row<u8>>
+    ensures found { IfOk result (λ t. member as_str name.now (view object.now) ≡ Ok t) }
+    ensures broken { IfRefused result (λ r. member as_str name.now (view object.now) ≡ Err r) }
+{
+    let Some(value) = object.get(name) else {
+        return Err(Fault::Refused(TxRefusal::NotYet));
+    };
+    match value.as_str() {
+        Some(text) => Ok(Row::new(text.as_bytes().to_vec(alloc)?)),
+        None => Err(Fault::Refused(TxRefusal::NotYet)),
+    }
+}
+
+/// What the value of a member can say without memory.
 pub(crate) trait Said: Sized + Drop {
     ghost says: { Data → Option Self };
 
-    fn said(alloc: Global, value: &Value) -> Result<Option<Self>, NoMemory>
-        ensures { IfOk result (λ o. o ≡ says (view value.now)) };
+    fn said(value: &Value) -> Option<Self>
+        ensures { result ≡ says (view value.now) };
 }
 
 /// What a member says.
 #[tactic(auto, unfolding(crate::specs::Readings::said))]
-pub(crate) fn member<T: Said>(alloc: Global, object: &Value, name: &str) -> Read<T>
+pub(crate) fn member<T: Said>(object: &Value, name: &str) -> Read<T>
     ensures found { IfOk result (λ t. member T.says name.now (view object.now) ≡ Ok t) }
     ensures broken { IfRefused result (λ r. member T.says name.now (view object.now) ≡ Err r) }
 {
     let Some(value) = object.get(name) else {
         return Err(Fault::Refused(TxRefusal::NotYet));
     };
-    match T::said(alloc, value)? {
+    match T::said(value) {
         Some(said) => Ok(said),
         None => Err(Fault::Refused(TxRefusal::NotYet)),
     }

@@ -1,6 +1,4 @@
-use Rattle.std.proofs.Common.{sym, subst}
 use Rattle.cl_types.proofs.Faults.{passes}
-use Rattle.cl_check.specs.FormNames.{AreNamed}
 use Rattle.cl_check.specs.Refusal.{broken}
 use Rattle.cl_check.proofs.Adding.{named_of}
 use Rattle.cl_check.proofs.checker.check.Goals as goal
@@ -9,5 +7,5 @@ pub returns-in_err-forms-clause-broken : goal.returns-in_err-forms-clause-broken
 returns-in_err-forms-clause-broken c =
     passes c.from_residual.result c.in_err-forms.field-0.0 (λ r h. broken h) c.from_residual.ensures.1 c.in_err-forms.ensures.broken
 
-pub scope_of-requires-clause-named : goal.scope_of-requires-clause-named
-scope_of-requires-clause-named c = subst AreNamed (sym c.deref.ensures.value) (named_of c.in_ok-forms.ensures.found.1)
+pub taken_all-requires-clause-named : goal.taken_all-requires-clause-named
+taken_all-requires-clause-named c = named_of c.in_ok-forms.ensures.found.1

@@ -4,7 +4,7 @@ use Rattle.cl_types.specs.declared.sized.TyRefusal.{TyRefusal}
 use Rattle.cl_types.specs.declared.fault.Fault.{Fault}
 use Rattle.cl_types.specs.Fault.{IsRefusal}
 use Rattle.cl_check.proofs.Applied.{made_same, made_never}
-use Rattle.cl_check.proofs.form.sized.Goals as goal
+use Rattle.cl_check.proofs.node.sized.Goals as goal
 
 pub returns-in-Ok : goal.returns-in-Ok
 returns-in-Ok c = made_same c.args.returns c.in-Ok.t c.in_ok-ty.ty c.in_ok-ty.ensures c.in-Ok.ensures.found
