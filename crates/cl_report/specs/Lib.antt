@@ -1,0 +1,6 @@
+pub mod Costs
+pub mod Refusals
+pub mod Events
+pub mod Lines
+pub mod StateLines
+pub mod LineSets

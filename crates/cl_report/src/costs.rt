@@ -1,0 +1,107 @@
+//! How costs and bounds print.
+ghost use Rattle.std.specs.Prelude.{◌≡◌, ◌++◌, IfOk, string_bytes};
+ghost use Rattle.cl_report.specs.Costs.{cost_text, cost_line, deployment_line, bound_line, bound_lines, bounds_lines};
+
+use cl_shapes::Cost5;
+use cl_text::print_type;
+use cl_tx::Bounds;
+use cl_types::{Name, NoMemory, SizedTy};
+use std::alloc::{AllocError, Global};
+
+#[tactic(auto, unfolding(crate::specs::Costs::cost_text))]
+fn cost_text(alloc: Global, cost: &Cost5) -> Result<String, AllocError>
+    ensures { IfOk result (λ text. string_bytes text ≡ cost_text cost.now) }
+{
+    let Cost5 {
+        runtime,
+        read_count,
+        read_length,
+        write_count,
+        write_length,
+    } = *cost;
+    format!(in alloc; "{runtime} {read_count} {read_length} {write_count} {write_length}")
+}
+
+/// Writes what an entry was charged, where it has a cost.
+pub(crate) fn write_cost(
+    out: &mut Vec<u8>,
+    alloc: Global,
+    cost: &Option<Cost5>,
+) -> Result<(), NoMemory>
+    ensures { IfOk result (λ _. out.new.items ≡ out.old.items ++ cost_line cost.now) }
+{
+    if let Some(cost) = cost {
+        let text = cost_text(alloc, cost)?;
+        out.extend_from_slice(b"  cost ")?;
+        out.extend_from_slice(text.as_bytes())?;
+        out.extend_from_slice(b"\n")?;
+    }
+    Ok(())
+}
+
+fn write_deployment(out: &mut Vec<u8>, alloc: Global, bound: &Cost5) -> Result<(), NoMemory>
+    ensures { IfOk result (λ _. out.new.items ≡ out.old.items ++ deployment_line bound.now) }
+{
+    let text = cost_text(alloc, bound)?;
+    out.extend_from_slice(b"  deploy-bound ")?;
+    out.extend_from_slice(text.as_bytes())?;
+    out.extend_from_slice(b"\n")?;
+    Ok(())
+}
+
+#[tactic(auto, unfolding(crate::specs::Costs::bound_line))]
+fn write_bound(
+    out: &mut Vec<u8>,
+    alloc: Global,
+    name: &Name,
+    bound: &Cost5,
+    returns: &SizedTy,
+) -> Result<(), NoMemory>
+    ensures { IfOk result (λ _. out.new.items ≡ out.old.items ++ bound_line name.now bound.now returns.now) }
+{
+    let text = cost_text(alloc, bound)?;
+    let type_text = print_type(alloc, returns)?;
+    out.extend_from_slice(b"  bound ")?;
+    out.extend_from_slice(name.bytes())?;
+    out.extend_from_slice(b" ")?;
+    out.extend_from_slice(text.as_bytes())?;
+    out.extend_from_slice(b" ")?;
+    out.extend_from_slice(&type_text)?;
+    out.extend_from_slice(b"\n")?;
+    Ok(())
+}
+
+fn write_functions(
+    out: &mut Vec<u8>,
+    alloc: Global,
+    functions: &[(Name, Cost5)],
+    types: &[SizedTy],
+) -> Result<(), NoMemory>
+    ensures { IfOk result (λ _. out.new.items ≡ out.old.items ++ bound_lines functions.now types.now) }
+{
+    for (i, (name, bound)) in functions.iter().enumerate() {
+        match types.get(i) {
+            Some(returns) => write_bound(out, alloc, name, bound, returns)?,
+            None => return Ok(()),
+        }
+    }
+    Ok(())
+}
+
+/// Writes the bounds of an accepted contract, with the types that its functions return.
+pub(crate) fn write_bounds(
+    out: &mut Vec<u8>,
+    alloc: Global,
+    bounds: &Option<Bounds>,
+    types: &[SizedTy],
+) -> Result<(), NoMemory>
+    ensures { IfOk result (λ _. out.new.items ≡ out.old.items ++ bounds_lines bounds.now types.now) }
+{
+    match bounds {
+        Some(bounds) => {
+            write_deployment(out, alloc, &bounds.deploy)?;
+            write_functions(out, alloc, bounds.functions.as_slice(), types)
+        }
+        None => Ok(()),
+    }
+}

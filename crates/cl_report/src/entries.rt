@@ -1,0 +1,141 @@
+//! The lines of an entry.
+ghost use Rattle.std.specs.Prelude.{◌≡◌, ◌++◌, IfOk, string_bytes, decimal};
+ghost use Rattle.std.specs.List.{flat_map};
+ghost use Rattle.cl_text.specs.Printed.{printed};
+ghost use Rattle.cl_report.specs.Events.{event_line};
+ghost use Rattle.cl_report.specs.Lines.{outcome_text, entry_text, entry_line, event_lines, lines_of};
+
+use crate::costs::{write_bounds, write_cost};
+use crate::events::write_event;
+use crate::refusals::{stop_text, write_entry_refusal};
+use cl_c32::Principal;
+use cl_events::Event;
+use cl_text::{print_principal, print_value};
+use cl_tx::{Entry, Outcome, TxResult};
+use cl_types::NoMemory;
+use cl_values::Val;
+use std::alloc::Global;
+
+// A word and a value behind it.
+fn write_value(out: &mut Vec<u8>, alloc: Global, word: &str, value: &Val) -> Result<(), NoMemory>
+    ensures { IfOk result (λ _. out.new.items ≡ out.old.items ++ (word.now ++ printed value.now)) }
+{
+    let text = print_value(alloc, value)?;
+    out.extend_from_slice(word.as_bytes())?;
+    out.extend_from_slice(&text)?;
+    Ok(())
+}
+
+#[tactic(auto, unfolding(crate::specs::Lines::outcome_text))]
+fn write_outcome(out: &mut Vec<u8>, alloc: Global, outcome: &Outcome) -> Result<(), NoMemory>
+    ensures { IfOk result (λ _. out.new.items ≡ out.old.items ++ outcome_text outcome.now) }
+{
+    match outcome {
+        Outcome::Done => out.extend_from_slice(b"done")?,
+        Outcome::Good(value) => write_value(out, alloc, "ok ", value)?,
+        Outcome::Bad(value) => write_value(out, alloc, "err ", value)?,
+        Outcome::Plain(value) => write_value(out, alloc, "value ", value)?,
+        Outcome::Aborted(stop) => {
+            let text = stop_text(alloc, *stop)?;
+            out.extend_from_slice(b"aborted ")?;
+            out.extend_from_slice(text.as_bytes())?;
+        }
+        Outcome::Refused(refusal) => {
+            out.extend_from_slice(b"refused ")?;
+            write_entry_refusal(out, alloc, refusal)?;
+        }
+    }
+    Ok(())
+}
+
+#[tactic(auto, unfolding(crate::specs::Lines::entry_text))]
+fn write_entry(out: &mut Vec<u8>, alloc: Global, entry: &Entry) -> Result<(), NoMemory>
+    ensures { IfOk result (λ _. out.new.items ≡ out.old.items ++ entry_text entry.now) }
+{
+    match entry {
+        Entry::Deploy { common, name, .. } => {
+            let contract = Principal {
+                address: common.sender,
+                contract: Some(*name),
+            };
+            let text = print_principal(alloc, &contract)?;
+            out.extend_from_slice(b" deploy ")?;
+            out.extend_from_slice(&text)?;
+            out.extend_from_slice(b" ")?;
+        }
+        Entry::Call {
+            contract,
+            function,
+            ..
+        } => {
+            let text = print_principal(alloc, contract)?;
+            out.extend_from_slice(b" call ")?;
+            out.extend_from_slice(&text)?;
+            out.extend_from_slice(b" ")?;
+            out.extend_from_slice(function.as_slice())?;
+            out.extend_from_slice(b" ")?;
+        }
+    }
+    Ok(())
+}
+
+#[tactic(auto, unfolding(crate::specs::Lines::entry_line))]
+fn write_first(
+    out: &mut Vec<u8>,
+    alloc: Global,
+    number: u32,
+    entry: &Entry,
+    outcome: &Outcome,
+) -> Result<(), NoMemory>
+    ensures { IfOk result (λ _. out.new.items ≡ out.old.items ++ entry_line number entry.now outcome.now) }
+{
+    let text = format!(in alloc; "{number}")?;
+    out.extend_from_slice(text.as_bytes())?;
+    write_entry(out, alloc, entry)?;
+    write_outcome(out, alloc, outcome)?;
+    out.extend_from_slice(b"\n")?;
+    Ok(())
+}
+
+fn write_each(out: &mut Vec<u8>, alloc: Global, events: &[Event]) -> Result<(), NoMemory>
+    ensures { IfOk result (λ _. out.new.items ≡ out.old.items ++ flat_map event_line events.now) }
+{
+    for event in events {
+        write_event(out, alloc, event)?;
+    }
+    Ok(())
+}
+
+// The events of an entry that was committed.
+fn write_events(
+    out: &mut Vec<u8>,
+    alloc: Global,
+    outcome: &Outcome,
+    events: &[Event],
+) -> Result<(), NoMemory>
+    ensures { IfOk result (λ _. out.new.items ≡ out.old.items ++ event_lines outcome.now events.now) }
+{
+    match outcome {
+        Outcome::Done | Outcome::Good(_) | Outcome::Plain(_) => write_each(out, alloc, events),
+        Outcome::Bad(_) | Outcome::Aborted(_) | Outcome::Refused(_) => Ok(()),
+    }
+}
+
+/// The lines of an entry with its number, counted from 0, and its result: what became of it, what it cost, the bounds of a
+/// contract that was accepted, and the events of what was committed. Each line ends with LF.
+#[tactic(auto, unfolding(crate::specs::Lines::lines_of))]
+pub fn lines(
+    alloc: Global,
+    number: u32,
+    entry: &Entry,
+    given: &TxResult,
+) -> Result<Vec<u8>, NoMemory>
+    ensures { IfOk result (λ text. text.items ≡ lines_of number entry.now given.now) }
+{
+    let mut out = Vec::new(alloc);
+    write_first(&mut out, alloc, number, entry, &given.outcome)?;
+    write_cost(&mut out, alloc, &given.cost)?;
+    write_bounds(&mut out, alloc, &given.bounds, given.types.as_slice())?;
+    write_events(&mut out, alloc, &given.outcome, given.events.as_slice())?;
+    Ok(out)
+}

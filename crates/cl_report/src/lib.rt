@@ -1,0 +1,16 @@
+//! The text of the report.
+#![tactic(auto)]
+
+mod costs;
+mod entries;
+mod events;
+mod laws;
+mod refusals;
+mod state;
+#[cfg(test)]
+mod tests;
+
+pub use entries::lines;
+pub use events::event_line;
+pub use laws::a_state_has_one_text;
+pub use state::state_lines;
