@@ -1,0 +1,17 @@
+pub mod OneResult
+pub mod Taking
+pub mod Called
+pub mod Staying
+pub mod Telling
+pub mod Charges
+pub mod Within
+pub mod Found
+pub mod Ready
+pub mod Ends
+pub mod Steps
+pub mod Units
+pub mod Stays
+pub mod Rows
+pub mod Principals
+pub mod Evaluated
+pub mod Deployments

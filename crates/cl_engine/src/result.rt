@@ -1,0 +1,61 @@
+//! Results of entries.
+ghost use Rattle.std.specs.Prelude.{◌≡◌, [], Option, Some, None};
+ghost use Rattle.cl_tx.specs.Nodes.{nothing_told, no_limit, result_of};
+ghost use Rattle.cl_engine.specs.Calls.{stop_by, cost_by, IsStuck};
+
+use cl_eval::Abort;
+use cl_shapes::{Cost5, Meter};
+use cl_tx::{EntryRefusal, Outcome, Row, Stop, TxResult};
+use std::alloc::Global;
+
+/// Nothing is spent of the limit that stands where none is stated.
+pub(crate) fn unlimited() -> Meter
+    ensures { result ≡ no_limit }
+{
+    Meter::new([u64::MAX; 5])
+}
+
+/// A result without bounds and events.
+pub(crate) fn result_with(alloc: Global, outcome: Outcome, cost: Option<Cost5>) -> TxResult
+    ensures { result ≡ result_of nothing_told outcome cost [] }
+{
+    TxResult {
+        outcome,
+        cost,
+        bounds: None,
+        types: Row::new(Vec::new(alloc)),
+        events: Row::new(Vec::new(alloc)),
+    }
+}
+
+/// The result of an entry that isn't run.
+pub(crate) fn refused(alloc: Global, refusal: EntryRefusal) -> TxResult
+    ensures { result ≡ result_of nothing_told (Outcome.Refused refusal) None [] }
+{
+    result_with(alloc, Outcome::Refused(refusal), None)
+}
+
+/// The abort that the result of an entry has.
+pub(crate) fn stop_of(abort: Abort) -> Stop
+    requires { IsStuck abort → ⊥ }
+    ensures { stop_by abort ≡ Some result }
+{
+    match abort {
+        Abort::Overflow => Stop::Overflow,
+        Abort::Underflow => Stop::Underflow,
+        Abort::DivideByZero => Stop::DivideByZero,
+        Abort::NegativeArgument => Stop::NegativeArgument,
+        Abort::CostLimit(over) => Stop::CostLimit(over),
+        Abort::Stuck => unreachable!(),
+    }
+}
+
+/// What an abort costs where so much is spent.
+pub(crate) fn cost_of(abort: Abort, spent: Cost5) -> Cost5
+    ensures { result ≡ cost_by abort spent }
+{
+    match abort {
+        Abort::CostLimit(over) => over.attempted,
+        _ => spent,
+    }
+}
