@@ -7,9 +7,9 @@ import tempfile
 PROGRAM = "../crates/clarity/out/clarity"
 
 
-def run(path, words, status, answer):
-    """Processor seconds and peak MiB of one call, which has to end with the status and an answer that holds the text."""
-    child = subprocess.Popen([PROGRAM, "call", path, *words], stdout=subprocess.PIPE)
+def run(words, status, answer):
+    """Processor seconds and peak MiB of one run with these words, which has to end with the status and an answer that holds the text."""
+    child = subprocess.Popen([PROGRAM, *words], stdout=subprocess.PIPE)
     written = child.stdout.read().decode()
     _, ended, usage = os.wait4(child.pid, 0)
     assert os.waitstatus_to_exitcode(ended) == status and answer in written, written[:200]
@@ -25,7 +25,7 @@ def table(rows, words, status, sizes=tuple(2**power for power in range(16, 21)))
             for wanted in sizes:
                 with open(path, "w") as file:
                     size = file.write(text(wanted))
-                runs = [run(path, words, status, answer) for _ in range(5)]
+                runs = [run(["call", path, *words], status, answer) for _ in range(5)]
                 seconds = min(one[0] for one in runs)
                 memory = max(one[1] for one in runs)
                 print(f"{name:9} {size:9} {seconds:9.4f} {memory:7.1f} {seconds / size * 1e9:8.0f}", flush=True)

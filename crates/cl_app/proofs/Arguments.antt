@@ -1,15 +1,14 @@
 -- What the words of a call spell, from the left.
-use Rattle.std.proofs.Common.{◌≡◌, ℕ, ℤ, ◌+◌, ◌<◌, ◌≤◌, List, [], ◌∷◌, ◌++◌, length, drop, get_or, string_bytes, Ok, Err, refl, sym, ap, subst, ◌∙◌, append_assoc, append-nil, arith, length-append}
-use Rattle.std.specs.Prelude.{Option, Some, None, Result}
+use Rattle.std.proofs.Common.{◌≡◌, ℕ, ◌+◌, ◌<◌, ◌≤◌, List, [], ◌∷◌, ◌++◌, length, drop, get_or, string_bytes, Ok, Err, refl, sym, ap, subst, ◌∙◌, append_assoc, append-nil}
 use Rattle.std.proofs.lemmas.List.{drop_more, drop_all}
 use Rattle.std.specs.declared.alloc.Global.{Global}
 use Rattle.std.specs.declared.string.String.{String}
 use Rattle.cl_values.specs.Tree.{Tree}
-use Rattle.cl_text.specs.Parsed.{Stands, NotALiteral, TooDeep, TooLarge, Parses, outcome_of}
+use Rattle.cl_text.specs.Parsed.{Stands, Parses, outcome_of}
 use Rattle.cl_text.specs.declared.refusal.TextRefusal.{TextRefusal}
 use Rattle.cl_text.specs.declared.refusal.TextRefusal.TheVariants as refused
 use Rattle.cl_app.specs.Words.{texts}
-use Rattle.cl_app.specs.Argument.{Arguments, before, from_word, Spell, int_of, next_int, ints_from}
+use Rattle.cl_app.specs.Argument.{Arguments, before, from_word, Spell}
 
 -- arguments behind values
 abbrev pub behind : List Tree → Arguments → Arguments
@@ -56,12 +55,3 @@ word_in_front words i word text h e t =
 
 pub no_word_left : (words : List (String Global)) (i : ℕ) → length words ≤ i → texts (drop i words) ≡ []
 no_word_left words i h = ap texts (drop_all i words h)
-
-length-next : (zs : List ℤ) (o : Option ℤ) (go_on : List ℤ → Result (List ℤ) ℕ) (n : ℕ) (ints : List ℤ) → ((more : List ℤ) → go_on more ≡ Ok ints → length ints ≡ length more + n) → next_int zs o go_on ≡ Ok ints → length ints ≡ length zs + (n + 1)
-length-next zs (Some z) go_on n ints step h = omega (arith, step (zs ++ z ∷ []) h, length-append zs (z ∷ []))
-length-next zs None go_on n ints step h = absurd cc
-
--- each value is one int
-pub length-ints : (zs : List ℤ) (vs : List Tree) (ints : List ℤ) → ints_from zs vs ≡ Ok ints → length ints ≡ length zs + length vs
-length-ints zs [] ints h = let same : zs ≡ ints = cc in omega (arith, ap length same)
-length-ints zs (v ∷ vs) ints h = omega (arith, length-next zs (int_of v) (λ more. ints_from more vs) (length vs) ints (λ more e. length-ints more vs ints e) h)

@@ -1,14 +1,5 @@
-pub mod Rows
-pub mod Sources
-pub mod Limits
-pub mod Sums
-pub mod Leaves
-pub mod Calls
-pub mod Bounds
-pub mod Callable
-pub mod Verdicts
+pub mod Reached
+pub mod Called
 pub mod Once
-pub mod Totals
-pub mod Spent
 pub mod Arguments
 pub mod Spellings

@@ -1,25 +1,83 @@
 -- Words and files have one answer.
-use Rattle.std.proofs.Common.{◌≡◌, ℕ, List, [], ◌∷◌, length, Ok, Err, Bool, true, false, sym, ap, ◌∙◌, subst}
+use Rattle.std.proofs.Common.{◌≡◌, ℕ, List, [], ◌∷◌, ◌++◌, length, Ok, Err, Bool, true, false, sym, ap, ◌∙◌, subst}
 use Rattle.std.specs.Prelude.{Option, Some, None, nat_lt}
 use Rattle.cl_ports.specs.Files.{Held, content_of}
 use Rattle.cl_ports.specs.Growth.{GrowsPart}
 use Rattle.cl_ports.specs.declared.TheConstants.{MAX_FILE_BYTES}
 use Rattle.cl_values.specs.Tree.{Tree}
-use Rattle.cl_text.specs.Parsed.{Outcome, Stands, Broken, NotALiteral, TooDeep, TooLarge}
-use Rattle.cl_app.specs.Words.{Command, Call, Value, Wire}
+use Rattle.cl_text.specs.Parsed.{Outcome, Stands, Broken, NotALiteral, TooDeep, TooLarge, Parses}
+use Rattle.cl_events.specs.State.{State}
+use Rattle.cl_tx.specs.declared.outcome.TxResult.{TxResult}
+use Rattle.cl_tx.specs.declared.refusal.TxRefusal.TheVariants.{NotYet}
+use Rattle.cl_tx.specs.Seen.{TxFileSeen}
+use Rattle.cl_tx.specs.Readings.{Read}
+use Rattle.cl_tx.specs.Laws.{OneFile}
+use Rattle.cl_tx.specs.Nodes.{NodeSeen}
+use Rattle.cl_engine.specs.Laws.{OneRun}
+use Rattle.cl_report.specs.Lines.{report_from}
+use Rattle.cl_report.specs.StateLines.{IsStateText}
+use Rattle.cl_app.specs.Words.{Command, Call, Run, Value, Wire}
 use Rattle.cl_app.specs.Argument.{Arguments, before, from_word, Spell}
 use Rattle.cl_app.specs.Spelling.{Answer, wire_answer}
+use Rattle.cl_app.specs.Called.{deployment, call, called_answer, IsCalled}
+use Rattle.cl_app.specs.Ran.{IsStatePart, IsRun, IsRunOf, IsRan}
 use Rattle.cl_app.specs.Answer.{IsAnswerByLength, IsFileAnswer, IsArgumentsAnswer, IsCallAnswer, IsAnswerTo, arguments_named}
 use Rattle.cl_app.specs.Top.{IsAnswer, AnswersPart, AsksPart}
-use Rattle.cl_app.proofs.Verdicts.{ReadingLaws, report_same}
 
-by_length_same : ReadingLaws → (b : Bool) (file source name : List ℕ) (args : List Tree) (x y : Answer) → IsAnswerByLength b file source name args x → IsAnswerByLength b file source name args y → x ≡ y
-by_length_same laws true file source name args x y p q = p ∙ sym q
-by_length_same laws false file source name args x y p q = report_same laws source name args x y p q
+abbrev pub OneOutcome : Type 0
+OneOutcome = (text : List ℕ) (a b : Outcome) → Parses text a → Parses text b → a ≡ b
 
-file_same : ReadingLaws → (file name : List ℕ) (args : List Tree) (content : Option (List ℕ)) (x y : Answer) → IsFileAnswer file name args content x → IsFileAnswer file name args content y → x ≡ y
-file_same laws file name args None x y p q = absurd p
-file_same laws file name args (Some source) x y p q = by_length_same laws (nat_lt MAX_FILE_BYTES (length source)) file source name args x y p q
+abbrev pub OneStateText : Type 0
+OneStateText = (s : State) (a b : List ℕ) → IsStateText s a → IsStateText s b → a ≡ b
+
+-- what comes of a text, of a transaction file, of entries and of a state is one
+pub record OneOfEach : Type 0 where
+  pub outcome : OneOutcome
+  pub file : OneFile
+  pub run : OneRun
+  pub state : OneStateText
+
+-- at most one answer
+abbrev OneAnswer : (Answer → Type 0) → Type 0
+OneAnswer Is = (x y : Answer) → Is x → Is y → x ≡ y
+
+by_length_same : (b : Bool) (file : List ℕ) (Is : Answer → Type 0) → OneAnswer Is → OneAnswer (IsAnswerByLength b file Is)
+by_length_same true file Is once x y p q = p ∙ sym q
+by_length_same false file Is once x y p q = once x y p q
+
+file_same : (file : List ℕ) (Is : List ℕ → Answer → Type 0) → ((bytes : List ℕ) → OneAnswer (Is bytes)) → (content : Option (List ℕ)) → OneAnswer (IsFileAnswer file Is content)
+file_same file Is once None x y p q = absurd p
+file_same file Is once (Some bytes) x y p q = by_length_same (nat_lt MAX_FILE_BYTES (length bytes)) file (Is bytes) (once bytes) x y p q
+
+called_same : OneRun → (function : List ℕ) (args : List Tree) (source : List ℕ) → OneAnswer (IsCalled source function args)
+called_same once function args source x y p q =
+    let first = deployment source in
+    let second = call function args in
+    let same : p.deployed ∷ p.called ∷ [] ≡ q.deployed ∷ q.called ∷ [] = (once (first ∷ second ∷ []) (p.deployed ∷ p.called ∷ []) (q.deployed ∷ q.called ∷ []) p.after q.after p.runs q.runs).0 in
+    let deployed : p.deployed ≡ q.deployed = cc in
+    let called : p.called ≡ q.called = cc in
+    p.is ∙ ap (λ (r : TxResult). called_answer first second r p.called) deployed ∙ ap (called_answer first second q.deployed) called ∙ sym q.is
+
+state_same : OneStateText → (state : Bool) (s : State) (a b : List ℕ) → IsStatePart state s a → IsStatePart state s b → a ≡ b
+state_same once true s a b p q = once s a b p q
+state_same once false s a b p q = p ∙ sym q
+
+run_same : OneOfEach → (file : TxFileSeen) (state : Bool) → OneAnswer (IsRun file state)
+run_same laws file state x y p q =
+    let both = laws.run file.entries p.results q.results p.after q.after p.runs q.runs in
+    let text : p.state_text ≡ q.state_text = state_same laws.state state q.after.state p.state_text q.state_text (subst (λ (n : NodeSeen). IsStatePart state n.state p.state_text) both.1 p.is_state) q.is_state in
+    p.is
+    ∙ ap (λ (rs : List TxResult). record { bytes = report_from 0 file.entries rs ++ p.state_text; status = 0 }) both.0
+    ∙ ap (λ (t : List ℕ). record { bytes = report_from 0 file.entries q.results ++ t; status = 0 }) text
+    ∙ sym q.is
+
+run_of_same : OneOfEach → (name : List ℕ) (state : Bool) (read : Read TxFileSeen) → OneAnswer (IsRunOf name state read)
+run_of_same laws name state (Ok file) x y p q = run_same laws file state x y p q
+run_of_same laws name state (Err NotYet) x y p q = p ∙ sym q
+
+ran_same : OneOfEach → (name : List ℕ) (state : Bool) (bytes : List ℕ) → OneAnswer (IsRan name state bytes)
+ran_same laws name state bytes x y p q =
+    run_of_same laws name state q.0 x y (subst (λ (read : Read TxFileSeen). IsRunOf name state read x) (laws.file bytes p.0 q.0 p.1 q.1) p.2) q.2
 
 from_same : (o : Outcome) (Behind : Arguments → Type 0) → ((a b : Arguments) → Behind a → Behind b → a ≡ b) → (a b : Arguments) → from_word o Behind a → from_word o Behind b → a ≡ b
 from_same (Stands v) Behind once a b p q = p.2 ∙ ap (before v) (once p.0 q.0 p.1 q.1) ∙ sym q.2
@@ -29,32 +87,35 @@ from_same (TooDeep span) Behind once a b p q = p ∙ sym q
 from_same (TooLarge span) Behind once a b p q = p ∙ sym q
 
 -- words spell one list of arguments
-pub spell_same : ReadingLaws → (words : List (List ℕ)) (a b : Arguments) → Spell words a → Spell words b → a ≡ b
-spell_same laws [] a b p q = p ∙ sym q
-spell_same laws (word ∷ words) a b p q =
-    let outcome : p.0 ≡ q.0 = laws.outcome word p.0 q.0 p.1 q.1 in
-    from_same q.0 (Spell words) (spell_same laws words) a b (subst (λ (o : Outcome). from_word o (Spell words) a) outcome p.2) q.2
+pub spell_same : OneOutcome → (words : List (List ℕ)) (a b : Arguments) → Spell words a → Spell words b → a ≡ b
+spell_same once [] a b p q = p ∙ sym q
+spell_same once (word ∷ words) a b p q =
+    let outcome : p.0 ≡ q.0 = once word p.0 q.0 p.1 q.1 in
+    from_same q.0 (Spell words) (spell_same once words) a b (subst (λ (o : Outcome). from_word o (Spell words) a) outcome p.2) q.2
 
-arguments_same : ReadingLaws → (file name : List ℕ) (args : Arguments) (files : Held) (x y : Answer) → IsArgumentsAnswer file name args files x → IsArgumentsAnswer file name args files y → x ≡ y
-arguments_same laws file name (Err outcome) files x y p q = p ∙ sym q
-arguments_same laws file name (Ok args) files x y p q = file_same laws file name args (content_of files file) x y p q
+arguments_same : OneRun → (file function : List ℕ) (args : Arguments) (files : Held) → OneAnswer (IsArgumentsAnswer file function args files)
+arguments_same once file function (Err outcome) files x y p q = p ∙ sym q
+arguments_same once file function (Ok args) files x y p q =
+    file_same file (λ source. IsCalled source function args) (called_same once function args) (content_of files file) x y p q
 
-call_same : ReadingLaws → (file name : List ℕ) (words : List (List ℕ)) (files : Held) (x y : Answer) → IsCallAnswer file name words files x → IsCallAnswer file name words files y → x ≡ y
-call_same laws file name words files x y p q =
-    arguments_same laws file name q.0 files x y (subst (λ (args : Arguments). IsArgumentsAnswer file name args files x) (spell_same laws words p.0 q.0 p.1 q.1) p.2) q.2
+call_same : OneOfEach → (file function : List ℕ) (words : List (List ℕ)) (files : Held) → OneAnswer (IsCallAnswer file function words files)
+call_same laws file function words files x y p q =
+    arguments_same laws.run file function q.0 files x y
+    (subst (λ (args : Arguments). IsArgumentsAnswer file function args files x) (spell_same laws.outcome words p.0 q.0 p.1 q.1) p.2) q.2
 
-answer_same : ReadingLaws → (command : Option Command) (files : Held) (x y : Answer) → IsAnswerTo command files x → IsAnswerTo command files y → x ≡ y
+answer_same : OneOfEach → (command : Option Command) (files : Held) → OneAnswer (IsAnswerTo command files)
 answer_same laws None files x y p q = p ∙ sym q
-answer_same laws (Some (Call file name words)) files x y p q = call_same laws file name words files x y p q
+answer_same laws (Some (Call file function words)) files x y p q = call_same laws file function words files x y p q
+answer_same laws (Some (Run file state)) files x y p q = file_same file (IsRan file state) (ran_same laws file state) (content_of files file) x y p q
 answer_same laws (Some (Value word)) files x y p q = p ∙ sym q
 answer_same laws (Some (Wire word)) files x y p q = p.2 ∙ ap wire_answer (laws.outcome word p.0 q.0 p.1 q.1) ∙ sym q.2
 
 -- a first part of an answer's bytes is one of every answer's
-pub part_of_answer : ReadingLaws → (command : Option Command) (held : Option Held) (before now : Option (List ℕ)) (reply : Answer) → IsAnswer command held reply → GrowsPart before now reply.bytes → AnswersPart command held before now
+pub part_of_answer : OneOfEach → (command : Option Command) (held : Option Held) (before now : Option (List ℕ)) (reply : Answer) → IsAnswer command held reply → GrowsPart before now reply.bytes → AnswersPart command held before now
 part_of_answer laws command held before now reply is part =
     record { told = λ files answer h is_answer. subst (λ (a : Answer). GrowsPart before now a.bytes) (answer_same laws command files reply answer (is.told files h) is_answer) part }
 
 -- the file alone is asked for where the words are values
-pub asks_file : ReadingLaws → (file name : List ℕ) (words : List (List ℕ)) (values : List Tree) (held : Option Held) (before now : Option (List (List ℕ))) → Spell words (Ok values) → GrowsPart before now (file ∷ []) → AsksPart (Some (Call file name words)) held before now
-asks_file laws file name words values held before now spelled grown =
-    record { told = λ files names h named. subst (GrowsPart before now) (sym (named.2 ∙ ap (arguments_named file) (spell_same laws words named.0 (Ok values) named.1 spelled))) grown }
+pub asks_file : OneOutcome → (file function : List ℕ) (words : List (List ℕ)) (values : List Tree) (held : Option Held) (before now : Option (List (List ℕ))) → Spell words (Ok values) → GrowsPart before now (file ∷ []) → AsksPart (Some (Call file function words)) held before now
+asks_file once file function words values held before now spelled grown =
+    record { told = λ files names h named. subst (GrowsPart before now) (sym (named.2 ∙ ap (arguments_named file) (spell_same once words named.0 (Ok values) named.1 spelled))) grown }

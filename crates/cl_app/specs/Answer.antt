@@ -2,18 +2,12 @@
 use Rattle.std.specs.Prelude.{◌≡◌, ℕ, Bool, true, false, List, [], ◌∷◌, ◌++◌, length, Option, Some, None, Ok, Err, codes, nat_lt}
 use Rattle.cl_ports.specs.Files.{Held, content_of}
 use Rattle.cl_ports.specs.declared.TheConstants.{MAX_FILE_BYTES}
-use Rattle.cl_app.specs.Refusals.{SourceRefusal, IsRefused}
-use Rattle.cl_values.specs.Tree.{Tree}
 use Rattle.cl_text.specs.Parsed.{Outcome, Parses}
-use Rattle.cl_app.specs.Words.{Command, Call, Value, Wire}
+use Rattle.cl_app.specs.Words.{Command, Call, Run, Value, Wire}
 use Rattle.cl_app.specs.Argument.{Arguments, Spell}
 use Rattle.cl_app.specs.Spelling.{Answer, no_value_answer, value_answer, wire_answer}
-use Rattle.cl_app.specs.Contract.{Function, IsContract, IsNotYet}
-use Rattle.cl_app.specs.Result.{call_result}
-use Rattle.cl_app.specs.Report.{deployment_text, refused_text, not_yet_text, call_text}
-use Rattle.cl_app.specs.declared.call.Outcome.{Outcome as Ended}
-use Rattle.cl_app.specs.declared.call.Outcome.TheVariants.{Plain, Aborted, Refused}
-use Rattle.cl_app.specs.declared.call.CallResult.{CallResult}
+use Rattle.cl_app.specs.Called.{IsCalled}
+use Rattle.cl_app.specs.Ran.{IsRan}
 
 -- words that are not of the table
 abbrev pub usage_answer : Answer
@@ -23,69 +17,23 @@ usage_answer = record { bytes = codes "usage: clarity COMMAND WORDS\n"; status =
 abbrev pub long_file_answer : List ℕ → Answer
 long_file_answer name = record { bytes = codes "bad file " ++ (name ++ codes " TooLong\n"); status = 5 }
 
--- a source that is refused
-abbrev pub refused_source_answer : SourceRefusal → Answer
-refused_source_answer r = record { bytes = refused_text r; status = 6 }
+abbrev pub IsAnswerByLength : Bool → List ℕ → (Answer → Type 0) → Answer → Type 0
+IsAnswerByLength true file Is answer = answer ≡ long_file_answer file
+IsAnswerByLength false file Is answer = Is answer
 
--- a source with forms in an order, which isn't accepted yet
-abbrev pub not_yet_answer : Answer
-not_yet_answer = record { bytes = not_yet_text; status = 6 }
-
--- a value is good; an abort and a refusal aren't
-abbrev pub status_of : Ended → ℕ
-status_of (Plain v) = 0
-status_of (Aborted abort) = 7
-status_of (Refused refusal) = 7
-
--- the lines of the deployment and those of the call
-abbrev pub called_answer : ℕ → Function → List ℕ → CallResult → Answer
-called_answer count f name result = record { bytes = deployment_text count f ++ call_text name result; status = status_of result.outcome }
-
--- what is said of a source: it is accepted, with its function; it has forms in an order, and isn't accepted yet; or it is refused
-pub data Verdict : Type 0 where
-  Accepted : Function → Verdict
-  NotYet : Verdict
-  NotAccepted : SourceRefusal → Verdict
-
-abbrev pub IsVerdict : List ℕ → Verdict → Type 0
-IsVerdict source (Accepted f) = IsContract source f
-IsVerdict source NotYet = IsNotYet source
-IsVerdict source (NotAccepted r) = IsRefused source r
-
--- what is said of a source with forms in an order, by their one function
-abbrev pub verdict_of : Option Function → Verdict
-verdict_of None = NotYet
-verdict_of (Some f) = Accepted f
-
--- the report on a verdict
-abbrev pub IsReportOf : Verdict → ℕ → List ℕ → List Tree → Answer → Type 0
-IsReportOf (Accepted f) count name args answer = (result : CallResult) × (call_result f name args ≡ Some result) × (answer ≡ called_answer count f name result)
-IsReportOf NotYet count name args answer = answer ≡ not_yet_answer
-IsReportOf (NotAccepted r) count name args answer = answer ≡ refused_source_answer r
-
--- the report of two entries: the source is deployed, and then a function is called
-pub record IsReport (source name : List ℕ) (args : List Tree) (answer : Answer) : Type 0 where
-  pub verdict : Verdict
-  pub is_verdict : IsVerdict source verdict
-  pub report : IsReportOf verdict (length source) name args answer
-
-abbrev pub IsAnswerByLength : Bool → List ℕ → List ℕ → List ℕ → List Tree → Answer → Type 0
-IsAnswerByLength true file source name args answer = answer ≡ long_file_answer file
-IsAnswerByLength false file source name args answer = IsReport source name args answer
-
--- the answer to `call` for what is held under the file's name; none where nothing is
-abbrev pub IsFileAnswer : List ℕ → List ℕ → List Tree → Option (List ℕ) → Answer → Type 0
-IsFileAnswer file name args None answer = ⊥
-IsFileAnswer file name args (Some source) answer = IsAnswerByLength (nat_lt MAX_FILE_BYTES (length source)) file source name args answer
+-- the answer for what is held under a file's name, by what is one for its bytes; none where nothing is held
+abbrev pub IsFileAnswer : List ℕ → (List ℕ → Answer → Type 0) → Option (List ℕ) → Answer → Type 0
+IsFileAnswer file Is None answer = ⊥
+IsFileAnswer file Is (Some bytes) answer = IsAnswerByLength (nat_lt MAX_FILE_BYTES (length bytes)) file (Is bytes) answer
 
 -- the answer to `call` for its arguments
 abbrev pub IsArgumentsAnswer : List ℕ → List ℕ → Arguments → Held → Answer → Type 0
-IsArgumentsAnswer file name (Err outcome) files answer = answer ≡ no_value_answer outcome
-IsArgumentsAnswer file name (Ok args) files answer = IsFileAnswer file name args (content_of files file) answer
+IsArgumentsAnswer file function (Err outcome) files answer = answer ≡ no_value_answer outcome
+IsArgumentsAnswer file function (Ok args) files answer = IsFileAnswer file (λ source. IsCalled source function args) (content_of files file) answer
 
 -- the answer to `call` for its words
 abbrev pub IsCallAnswer : List ℕ → List ℕ → List (List ℕ) → Held → Answer → Type 0
-IsCallAnswer file name words files answer = (args : Arguments) × Spell words args × IsArgumentsAnswer file name args files answer
+IsCallAnswer file function words files answer = (args : Arguments) × Spell words args × IsArgumentsAnswer file function args files answer
 
 -- the answer to `wire`
 abbrev pub IsWireAnswer : List ℕ → Answer → Type 0
@@ -94,7 +42,8 @@ IsWireAnswer word answer = (outcome : Outcome) × Parses word outcome × (answer
 -- the answer to a command; none where a file isn't held that is reached
 abbrev pub IsAnswerTo : Option Command → Held → Answer → Type 0
 IsAnswerTo None files answer = answer ≡ usage_answer
-IsAnswerTo (Some (Call file name words)) files answer = IsCallAnswer file name words files answer
+IsAnswerTo (Some (Call file function words)) files answer = IsCallAnswer file function words files answer
+IsAnswerTo (Some (Run file state)) files answer = IsFileAnswer file (IsRan file state) (content_of files file) answer
 IsAnswerTo (Some (Value word)) files answer = answer ≡ value_answer word
 IsAnswerTo (Some (Wire word)) files answer = IsWireAnswer word answer
 
@@ -105,6 +54,7 @@ arguments_named file (Ok args) = file ∷ []
 
 abbrev pub IsNamed : Option Command → List (List ℕ) → Type 0
 IsNamed None names = names ≡ []
-IsNamed (Some (Call file name words)) names = (args : Arguments) × Spell words args × (names ≡ arguments_named file args)
+IsNamed (Some (Call file function words)) names = (args : Arguments) × Spell words args × (names ≡ arguments_named file args)
+IsNamed (Some (Run file state)) names = names ≡ file ∷ []
 IsNamed (Some (Value word)) names = names ≡ []
 IsNamed (Some (Wire word)) names = names ≡ []

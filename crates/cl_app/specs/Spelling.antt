@@ -10,7 +10,7 @@ use Rattle.cl_values.specs.declared.fault.DecodeRefusal.TheVariants.{Ended, BadP
 use Rattle.cl_text.specs.Printed.{printed}
 use Rattle.cl_text.specs.Parsed.{Outcome, Stands, Broken, NotALiteral, TooDeep, TooLarge}
 use Rattle.cl_sexpr.specs.Rules.{rule_text}
-use Rattle.cl_app.specs.Refusals.{span_text}
+use Rattle.cl_report.specs.Refusals.{span_text}
 
 -- the bytes that are written, and the status
 pub record Answer : Type 0 where
@@ -59,10 +59,10 @@ value_answer word = hex_answer (decode_of (digits_in word))
 -- why a text is no value, and where
 abbrev pub outcome_text : Outcome → List ℕ
 outcome_text (Stands v) = []
-outcome_text (Broken b) = span_text (rule_text b.rule) b.span
-outcome_text (NotALiteral span) = span_text (codes "NotALiteral") span
-outcome_text (TooDeep span) = span_text (codes "TooDeep") span
-outcome_text (TooLarge span) = span_text (codes "TooLarge") span
+outcome_text (Broken b) = rule_text b.rule ++ span_text b.span
+outcome_text (NotALiteral span) = codes "NotALiteral" ++ span_text span
+outcome_text (TooDeep span) = codes "TooDeep" ++ span_text span
+outcome_text (TooLarge span) = codes "TooLarge" ++ span_text span
 
 -- the answer to a text that is no value
 abbrev pub no_value_answer : Outcome → Answer

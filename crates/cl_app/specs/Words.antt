@@ -1,5 +1,5 @@
 -- What the words of a command line ask for.
-use Rattle.std.specs.Prelude.{ℕ, Bool, false, List, [], ◌∷◌, Option, Some, None, codes, if◌then◌else◌, ◌==◌, string_bytes, map}
+use Rattle.std.specs.Prelude.{ℕ, Bool, true, false, List, [], ◌∷◌, Option, Some, None, codes, if◌then◌else◌, ◌==◌, ◌&&◌, string_bytes, map}
 use Rattle.std.specs.List.{list_any}
 use Rattle.std.specs.Str.{bytes_eq}
 use Rattle.std.specs.declared.alloc.Global.{Global}
@@ -12,6 +12,8 @@ texts words = map string_bytes words
 -- a command with its words
 pub data Command : Type 0 where
   Call : (file function : List ℕ) (args : List (List ℕ)) → Command
+  -- what the entries of a transaction file come to, and the state after them where it is asked for
+  Run : (file : List ℕ) (state : Bool) → Command
   -- the text of the value with this wire form
   Value : (word : List ℕ) → Command
   -- the wire form of the value with this text
@@ -25,7 +27,8 @@ begins_with_dash (b ∷ bytes) = b == 45
 abbrev pub command_with : List ℕ → List ℕ → Option Command
 command_with name word =
     if bytes_eq name (codes "value") then Some (Value word)
-    else (if bytes_eq name (codes "wire") then Some (Wire word) else None)
+    else (if bytes_eq name (codes "wire") then Some (Wire word)
+    else (if bytes_eq name (codes "run") then Some (Run word false) else None))
 
 -- the command of the first word, where it has its number of words
 abbrev pub command_of : List (List ℕ) → Option Command
@@ -34,6 +37,13 @@ command_of (name ∷ []) = None
 command_of (name ∷ word ∷ []) = command_with name word
 command_of (name ∷ file ∷ function ∷ args) = if bytes_eq name (codes "call") then Some (Call file function args) else None
 
--- the command that the words give, where they are of the table; no word begins with a dash
+-- `run`, a file and `--state`
+abbrev pub command_with_state : List (List ℕ) → Option Command
+command_with_state (name ∷ file ∷ last ∷ []) =
+    if begins_with_dash file then None
+    else (if bytes_eq name (codes "run") && bytes_eq last (codes "--state") then Some (Run file true) else None)
+command_with_state words = None
+
+-- The command that the words give, where they are of the table. No word begins with a dash, but `--state` as the last one of `run`.
 abbrev pub taken : List (List ℕ) → Option Command
-taken words = if list_any begins_with_dash words then None else command_of words
+taken words = if list_any begins_with_dash words then command_with_state words else command_of words

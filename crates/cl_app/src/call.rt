@@ -1,114 +1,150 @@
-//! The call of a function of a deployed contract.
-ghost use Rattle.std.specs.Prelude.{◌≡◌, Some, Ok, length, IfOk};
-ghost use Rattle.cl_app.specs.Contract.{IsCallable};
-ghost use Rattle.cl_app.specs.Seen.{function_seen};
-ghost use Rattle.cl_app.specs.Meaning.{applied};
-ghost use Rattle.cl_app.specs.Cost.{limited, ended};
-ghost use Rattle.cl_app.specs.Result.{cost_of_abort, ints_result, call_result};
+//! The reply to `call` for a source: it is deployed, and then one of its functions is called.
+ghost use Rattle.std.specs.Prelude.{◌≡◌, ◌≢◌, codes, IfOk};
+ghost use Rattle.cl_app.specs.Called.{sent_from_home, deployment, call, call_status, status_of, lines_by, IsReportOf, IsCalled};
+ghost use Rattle.cl_app.specs.Entries.{IsFirst};
+ghost use Rattle.cl_app.specs.Both.{AreBoth};
+ghost use Rattle.cl_app.specs.Reply.{answer_of};
+ghost use Rattle.cl_app.specs.Top.{IsOwnStatus};
 
-use crate::argument::ints;
-use crate::contract::Function;
-use crate::evaluate::{Abort, INT_SIZE, evaluate, pay};
-use cl_shapes::{Cost5, CostName, Meter};
+use crate::entries::{End, Ended, next};
+use crate::pieces::{Reply, two_pieces, whole_piece};
+use cl_c32::{Address, ContractName, Principal};
+use cl_costs::CostTable;
+use cl_engine::Node;
+use cl_tx::{Common, Entry, Row, nodes_stay_nodes};
+use cl_types::NoMemory;
 use cl_values::Val;
 use std::alloc::{AllocError, Global};
 
-/// Why an entry isn't run.
-#[derive(Clone, Copy, Debug, PartialEq, Eq)]
-pub(crate) enum EntryRefusal {
-    /// E2: the contract has no function of this name.
-    NoFunction,
-    /// E4: the function has another number of parameters.
-    ArgumentCount,
-    /// E5: this argument, counted from 0, isn't of its parameter's type.
-    Argument { index: u32 },
-}
-
-/// How a call ended.
-#[derive(Clone, Copy, Debug, PartialEq, Eq)]
-pub(crate) enum Outcome {
-    /// The answer of a read-only function.
-    Plain(i128),
-    Aborted(Abort),
-    Refused(EntryRefusal),
-}
-
-/// How a call ended, and what it cost unless it was refused.
-#[derive(Clone, Copy, Debug, PartialEq, Eq)]
-pub(crate) struct CallResult {
-    pub(crate) outcome: Outcome,
-    pub(crate) cost: Option<Cost5>,
-}
-
-/// Charges for each value that is bound to a parameter, and evaluates the body.
-fn apply(function: &Function, values: &[i128], meter: &mut Meter) -> Result<i128, Abort>
-    requires callable { IsCallable (function_seen function.now) }
-    requires values { length values.now ≡ length function.now.parameters.keys }
-    ensures { limited meter.old (applied (function_seen function.now) values.now) ≡ ended result meter.new }
+/// The name of the contract.
+fn main_name() -> ContractName
+    ensures { result ≡ codes "main" }
 {
-    pay(meter, CostName::Call, values.len() as u64)?;
-    for _value in values {
-        pay(meter, CostName::Bind, INT_SIZE)?;
-    }
-    evaluate(&function.parameters, values, function.body, meter)
+    ContractName::make(b"main").unwrap()
 }
 
-/// The cost of a run that was aborted: its charges, the one that passed the limit included.
-fn cost_of_abort(abort: Abort, meter: &Meter) -> Cost5
-    ensures { result ≡ cost_of_abort abort meter.now }
+/// The address SP000000000000000000002Q6VF78 as a sender.
+fn sent_from_home() -> Common
+    ensures { result ≡ sent_from_home }
 {
-    match abort {
-        Abort::Overflow | Abort::Underflow => meter.spent(),
-        Abort::CostLimit(over) => over.attempted,
+    Common {
+        sender: Address::new(22, &[0; 20]),
     }
 }
 
-fn refused(refusal: EntryRefusal) -> CallResult
-    ensures { result ≡ record { outcome = Outcome.Refused refusal; cost = None } }
+/// The deployment of a source.
+fn deployment(source: Vec<u8>) -> Entry
+    ensures { result ≡ deployment source.items }
 {
-    CallResult {
-        outcome: Outcome::Refused(refusal),
-        cost: None,
+    Entry::Deploy {
+        common: sent_from_home(),
+        name: main_name(),
+        source: Row::new(source),
     }
 }
 
-/// Calls the function with ints, with no stated limits.
-fn run(function: &Function, values: &[i128]) -> CallResult
-    requires callable { IsCallable (function_seen function.now) }
-    requires values { length values.now ≡ length function.now.parameters.keys }
-    ensures { ints_result (function_seen function.now) (Ok values.now) ≡ Some result }
+/// The call of a function of the contract.
+fn call(function: Vec<u8>, args: Vec<Val>) -> Entry
+    ensures { result ≡ call function.items args.items }
 {
-    let mut meter = Meter::new([u64::MAX; 5]);
-    match apply(function, values, &mut meter) {
-        Ok(value) => CallResult {
-            outcome: Outcome::Plain(value),
-            cost: Some(meter.spent()),
-        },
-        Err(abort) => CallResult {
-            outcome: Outcome::Aborted(abort),
-            cost: Some(cost_of_abort(abort, &meter)),
-        },
+    let common = sent_from_home();
+    let contract = Principal {
+        address: common.sender,
+        contract: Some(main_name()),
+    };
+    Entry::Call {
+        common,
+        contract,
+        function: Row::new(function),
+        args: Row::new(args),
     }
 }
 
-/// Calls the contract's one function by a name, with no stated limits.
-pub(crate) fn call(
+/// How the two entries ended.
+#[derive(Drop)]
+pub(crate) struct Both {
+    deployed: Ended,
+    called: Ended,
+}
+
+/// Does what the two entries ask for. Where the deployment is refused, the call finds no contract.
+fn run_both(alloc: Global, node: &mut Node, first: &Entry, second: &Entry) -> Result<Both, NoMemory>
+    requires { IsFirst node.now }
+    ensures { IfOk result (AreBoth first.now second.now) }
+{
+    nodes_stay_nodes();
+    let costs = CostTable::builtin();
+    let deployed = next(alloc, node, 0, first, &costs)?;
+    let called = next(alloc, node, 1, second, &costs)?;
+    Ok(Both { deployed, called })
+}
+
+fn call_status(end: End) -> u8
+    ensures value { result ≡ call_status end }
+    ensures own { IsOwnStatus result × (result ≢ 2) }
+{
+    match end {
+        End::Good => 0,
+        End::Bad | End::Aborted | End::Refused => 7,
+    }
+}
+
+fn status_of(deployed: End, called: End) -> u8
+    ensures value { result ≡ status_of deployed called }
+    ensures own { IsOwnStatus result × (result ≢ 2) }
+{
+    match deployed {
+        End::Refused => 6,
+        End::Aborted => 7,
+        End::Good | End::Bad => call_status(called),
+    }
+}
+
+/// The report of the two entries.
+fn report(alloc: Global, both: Both) -> Result<Reply, AllocError>
+    ensures answer { IfOk result (λ reply. answer_of reply ≡ record {
+      bytes = lines_by both.deployed.end both.deployed.text.items both.called.text.items;
+      status = status_of both.deployed.end both.called.end;
+    }) }
+    ensures status { IfOk result (λ reply. IsOwnStatus reply.status × (reply.status ≢ 2)) }
+{
+    let Both { deployed, called } = both;
+    let status = status_of(deployed.end, called.end);
+    match deployed.end {
+        End::Refused => whole_piece(alloc, deployed.text, status),
+        End::Good | End::Bad | End::Aborted => {
+            two_pieces(alloc, deployed.text, called.text, status)
+        }
+    }
+}
+
+/// The report of the two entries from the first node on.
+fn report_of(
     alloc: Global,
-    function: &Function,
-    name: &str,
-    values: &[Val],
-) -> Result<CallResult, AllocError>
-    requires { IsCallable (function_seen function.now) }
-    ensures { IfOk result (λ ended. call_result (function_seen function.now) name.now values.now ≡ Some ended) }
+    node: &mut Node,
+    first: &Entry,
+    second: &Entry,
+) -> Result<Reply, NoMemory>
+    requires { IsFirst node.now }
+    ensures answer { IfOk result (λ reply. IsReportOf first.now second.now (answer_of reply)) }
+    ensures status { IfOk result (λ reply. IsOwnStatus reply.status × (reply.status ≢ 2)) }
 {
-    if function.name.bytes() != name.as_bytes() {
-        return Ok(refused(EntryRefusal::NoFunction));
-    }
-    if values.len() != function.parameters.len() {
-        return Ok(refused(EntryRefusal::ArgumentCount));
-    }
-    match ints(alloc, values)? {
-        Ok(ints) => Ok(run(function, &ints)),
-        Err(index) => Ok(refused(EntryRefusal::Argument { index })),
-    }
+    let both = run_both(alloc, node, first, second)?;
+    Ok(report(alloc, both)?)
+}
+
+/// The reply to `call` for a source, the name of a function and its arguments.
+pub(crate) fn call_reply(
+    alloc: Global,
+    source: Vec<u8>,
+    function: &str,
+    args: Vec<Val>,
+) -> Result<Reply, NoMemory>
+    ensures answer { IfOk result (λ reply. IsCalled source.items function.now args.items (answer_of reply)) }
+    ensures status { IfOk result (λ reply. IsOwnStatus reply.status × (reply.status ≢ 2)) }
+{
+    let first = deployment(source);
+    let second = call(Vec::from_slice(alloc, function.as_bytes())?, args);
+    let mut node = Node::genesis(alloc)?;
+    report_of(alloc, &mut node, &first, &second)
 }

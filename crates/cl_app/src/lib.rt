@@ -3,23 +3,17 @@
 #![tactic(auto)]
 
 mod argument;
-mod bound;
 mod call;
-mod contract;
-mod evaluate;
-mod expression;
-mod items;
-mod laws;
+mod entries;
 mod pieces;
-mod refusal;
 mod reply;
-mod report;
-mod source;
+#[cfg(test)]
+mod rows;
+mod run;
 mod spelling;
 #[cfg(test)]
 mod tests;
 mod top;
 mod words;
 
-pub use laws::{a_call_spends_its_charges, charges_stay_within_the_bound};
 pub use top::clarity;

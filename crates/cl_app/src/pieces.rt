@@ -61,14 +61,14 @@ pub(crate) fn one_piece(alloc: Global, line: String, status: u8) -> Result<Reply
 pub(crate) fn two_pieces(
     alloc: Global,
     first: Vec<u8>,
-    second: String,
+    second: Vec<u8>,
     status: u8,
 ) -> Result<Reply, AllocError>
-    ensures { IfOk result (λ reply. answer_of reply ≡ record { bytes = first.items ++ string_bytes second; status = status }) }
+    ensures { IfOk result (λ reply. answer_of reply ≡ record { bytes = first.items ++ second.items; status = status }) }
 {
     let mut pieces = Vec::new(alloc);
     pieces.push(first)?;
-    pieces.push(second.into_bytes())?;
+    pieces.push(second)?;
     Ok(Reply { pieces, status })
 }
 

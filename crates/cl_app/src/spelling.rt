@@ -1,7 +1,7 @@
 //! The replies to `value` and `wire`.
-ghost use Rattle.std.specs.Prelude.{◌≡◌, ◌≢◌, IfOk, string_bytes};
+ghost use Rattle.std.specs.Prelude.{◌≡◌, ◌≢◌, ◌++◌, IfOk, string_bytes};
 ghost use Rattle.cl_values.specs.Reading.{decoded};
-ghost use Rattle.cl_app.specs.Refusals.{span_text};
+ghost use Rattle.cl_report.specs.Refusals.{span_text};
 ghost use Rattle.cl_app.specs.Reply.{answer_of};
 ghost use Rattle.cl_app.specs.Spelling.{refused_answer, line_answer, digits_in, fault_text, bytes_answer, hex_answer, value_answer, outcome_text, no_value_answer, wire_answer};
 ghost use Rattle.cl_app.specs.Answer.{IsWireAnswer};
@@ -9,8 +9,8 @@ ghost use Rattle.cl_app.specs.Top.{IsOwnStatus};
 ghost use Rattle.cl_text.specs.Parsed.{Stands, outcome_of};
 
 use crate::pieces::{Reply, fixed_line, joined, one_piece, whole_piece};
-use crate::refusal::span_text;
 use cl_codec::{decode, encode};
+use cl_sexpr::Span;
 use cl_text::{TextRefusal, parse, print_value};
 use cl_types::{Fault, NoMemory};
 use cl_values::{DecodeRefusal, Val};
@@ -77,6 +77,15 @@ pub(crate) fn value_reply(alloc: Global, word: &[u8]) -> Result<Reply, NoMemory>
         Err(FromHexError::OutOfMemory) => Err(NoMemory),
         Err(_) => Ok(refused(alloc, "NotHex")?),
     }
+}
+
+/// A name with the places of the bytes that it speaks of.
+#[tactic(auto, unfolding(cl_report::specs::Refusals::span_text))]
+fn span_text(alloc: Global, name: &str, span: Span) -> Result<String, AllocError>
+    ensures { IfOk result (λ text. string_bytes text ≡ name.now ++ span_text span) }
+{
+    let Span { start, end } = span;
+    format!(in alloc; "{name} {start}..{end}")
 }
 
 fn refusal_text(alloc: Global, refusal: &TextRefusal) -> Result<String, AllocError>

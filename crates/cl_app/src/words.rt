@@ -1,7 +1,7 @@
 //! The words of the command line.
 ghost use Rattle.std.specs.Prelude.{◌≡◌, option_map};
 ghost use Rattle.std.specs.List.{list_any};
-ghost use Rattle.cl_app.specs.Words.{begins_with_dash, texts, command_with, taken};
+ghost use Rattle.cl_app.specs.Words.{begins_with_dash, texts, command_with, command_of, command_with_state, taken};
 ghost use Rattle.cl_app.specs.Seen.{command_seen};
 
 /// A command with its words.
@@ -12,6 +12,11 @@ pub(crate) enum Command<'a> {
         file: &'a str,
         function: &'a str,
         args: &'a [String],
+    },
+    /// What the entries of a transaction file come to, and with `state` the state after them.
+    Run {
+        file: &'a str,
+        state: bool,
     },
     /// The text of the value with this wire form.
     Value(&'a str),
@@ -50,16 +55,19 @@ fn command_with<'a>(name: &str, word: &'a str) -> Option<Command<'a>>
     if name == "wire" {
         return Some(Command::Wire(word));
     }
+    if name == "run" {
+        return Some(Command::Run {
+            file: word,
+            state: false,
+        });
+    }
     None
 }
 
-/// The command that the words give, where they are of the table.
-pub(crate) fn taken(words: &[String]) -> Option<Command<'_>>
-    ensures { option_map command_seen result ≡ taken (texts words.now) }
+/// The command of words of which none begins with a dash.
+fn command_of(words: &[String]) -> Option<Command<'_>>
+    ensures { option_map command_seen result ≡ command_of (texts words.now) }
 {
-    if has_dash(words) {
-        return None;
-    }
     match words {
         [name, word] => command_with(name.as_str(), word.as_str()),
         [name, file, function, args @ ..] => {
@@ -74,4 +82,35 @@ pub(crate) fn taken(words: &[String]) -> Option<Command<'_>>
         }
         _ => None,
     }
+}
+
+/// `run`, a file and `--state`.
+fn command_with_state(words: &[String]) -> Option<Command<'_>>
+    ensures { option_map command_seen result ≡ command_with_state (texts words.now) }
+{
+    match words {
+        [name, file, last] => {
+            if begins_with_dash(file.as_bytes()) {
+                return None;
+            }
+            if name.as_str() == "run" && last.as_str() == "--state" {
+                return Some(Command::Run {
+                    file: file.as_str(),
+                    state: true,
+                });
+            }
+            None
+        }
+        _ => None,
+    }
+}
+
+/// The command that the words give, where they are of the table.
+pub(crate) fn taken(words: &[String]) -> Option<Command<'_>>
+    ensures { option_map command_seen result ≡ taken (texts words.now) }
+{
+    if has_dash(words) {
+        return command_with_state(words);
+    }
+    command_of(words)
 }

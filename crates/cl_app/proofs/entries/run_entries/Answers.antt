@@ -1,0 +1,23 @@
+use Rattle.std.proofs.Common.{◌≡◌, List, Vec, Global, ℕ, sym, subst, ap, arith, length, []}
+use Rattle.std.proofs.lemmas.Grind.{common_steps}
+use Rattle.cl_app.specs.Entries.{Reports}
+use Rattle.cl_app.specs.Reply.{bytes_of}
+use Rattle.cl_app.proofs.Reached.{reports_first, reports_piece}
+use Rattle.cl_app.proofs.entries.run_entries.Goals as goal
+
+pub loop-entry-init : goal.loop-entry-init
+loop-entry-init c = record {
+  reports = subst (λ (pieces : List (Vec ℕ Global)). Reports [] (bytes_of pieces) c.args.node.now) (sym c.new-pieces.ensures.items) (reports_first c.nodes_stay_nodes.ensures.first c.args.node.now c.requires.first);
+  count = ap length c.new-pieces.ensures.items;
+}
+
+pub loop-entry-preserved : goal.loop-entry-preserved
+loop-entry-preserved c =
+    let numbered : c.len.result ≡ c.loop-entry.entry-index = grind (arith, common_steps) in
+    record {
+      reports = rw c.in_ok-push.ensures.items
+          (reports_piece c.entries_have_one_result.ensures.each c.nodes_stay_nodes.ensures.step c.args.entries.now c.loop-entry.entry-index c.len.result
+          c.loop-entry.pieces.items c.in_ok-ended.ended.text c.loop-entry.node c.next.new.node c.entry-item.result c.entry-item.result c.in_ok-ended.ended.end
+          c.loop-entry-test.true c.entry-item.is numbered c.loop-entry.invariant.reports c.in_ok-ended.ensures);
+      count = grind (arith, common_steps);
+    }

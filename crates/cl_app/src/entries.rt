@@ -1,0 +1,81 @@
+//! Entries one after another, each with its lines.
+ghost use Rattle.std.specs.Prelude.{◌≡◌, ◌≤◌, length, IfOk};
+ghost use Rattle.cl_costs.specs.Tables.{unit_table};
+ghost use Rattle.cl_app.specs.Entries.{end_of, IsFirst, Ends, Reports};
+ghost use Rattle.cl_app.specs.Reply.{bytes_of};
+
+use cl_costs::CostTable;
+use cl_engine::{Node, entries_have_one_result};
+use cl_report::lines;
+use cl_tx::{Entry, Outcome, nodes_stay_nodes};
+use cl_types::NoMemory;
+use std::alloc::Global;
+
+/// How an entry ended.
+#[derive(Clone, Copy, Debug, PartialEq, Eq)]
+pub(crate) enum End {
+    /// With what it changed: the contract is deployed, or a value or an ok was given.
+    Good,
+    /// With an err.
+    Bad,
+    Aborted,
+    Refused,
+}
+
+/// How an entry ended, and its lines.
+#[derive(Drop)]
+pub(crate) struct Ended {
+    pub(crate) end: End,
+    pub(crate) text: Vec<u8>,
+}
+
+fn end_of(outcome: &Outcome) -> End
+    ensures { result ≡ end_of outcome.now }
+{
+    match outcome {
+        Outcome::Done | Outcome::Good(_) | Outcome::Plain(_) => End::Good,
+        Outcome::Bad(_) => End::Bad,
+        Outcome::Aborted(_) => End::Aborted,
+        Outcome::Refused(_) => End::Refused,
+    }
+}
+
+/// Does what the entry with this number asks for. Its result isn't kept.
+pub(crate) fn next(
+    alloc: Global,
+    node: &mut Node,
+    number: u32,
+    entry: &Entry,
+    costs: &CostTable,
+) -> Result<Ended, NoMemory>
+    requires unit { costs.now ≡ unit_table }
+    ensures { IfOk result (λ e. Ends number node.old entry.now node.new e.end e.text.items) }
+{
+    let given = node.step(alloc, entry, costs)?;
+    let text = lines(alloc, number, entry, &given)?;
+    Ok(Ended {
+        end: end_of(&given.outcome),
+        text,
+    })
+}
+
+/// Does what the entries ask for, from the first node on. The lines are given, a piece for each entry.
+pub(crate) fn run_entries(
+    alloc: Global,
+    node: &mut Node,
+    entries: &[Entry],
+) -> Result<Vec<Vec<u8>>, NoMemory>
+    requires first { IsFirst node.now }
+    requires few { length entries.now ≤ 100000 }
+    ensures { IfOk result (λ pieces. Reports entries.now (bytes_of pieces.items) node.new) }
+{
+    nodes_stay_nodes();
+    entries_have_one_result();
+    let costs = CostTable::builtin();
+    let mut pieces = Vec::new(alloc);
+    for entry in entries {
+        let ended = next(alloc, node, pieces.len() as u32, entry, &costs)?;
+        pieces.push(ended.text)?;
+    }
+    Ok(pieces)
+}
