@@ -3,7 +3,8 @@ ghost use Rattle.std.specs.Prelude.{◌≡◌, IfOk, option_map};
 ghost use Rattle.cl_forms.specs.Forms.{VariableForm, NonFungibleForm, FunctionForm};
 ghost use Rattle.cl_forms.specs.FormView.{plain_kind};
 ghost use Rattle.cl_forms.specs.ItemView.{plain_draft};
-ghost use Rattle.cl_forms.specs.Items.{kind_of, map_form};
+ghost use Rattle.cl_forms.specs.Items.{kind_of, map_form, typed};
+ghost use Rattle.cl_forms.specs.WrittenTypes.{written_type};
 
 use crate::form::FormKind;
 use crate::item::Draft;
@@ -12,16 +13,29 @@ use cl_sexpr::Sexpr;
 use cl_types::{Access, Name, NoMemory, SizedTy};
 use std::alloc::Global;
 
-fn variable(ty: Option<SizedTy>, e: Sexpr) -> Option<FormKind>
-    ensures { option_map plain_kind result ≡ option_map (λ t. VariableForm t e) ty }
+fn variable(alloc: Global, ty: Sexpr, value: Sexpr) -> Result<Option<FormKind>, NoMemory>
+    ensures { IfOk result (λ o. option_map plain_kind o ≡ option_map (λ t. VariableForm t value) (written_type ty)) }
 {
-    match ty {
-        Some(ty) => Some(FormKind::Variable(ty, e)),
-        None => None,
+    match written_type(alloc, &ty)? {
+        Some(ty) => Ok(Some(FormKind::Variable(ty, value))),
+        None => Ok(None),
     }
 }
 
-fn map_of(key: Option<SizedTy>, value: Option<SizedTy>) -> Option<FormKind>
+/// The types of keys and of values.
+fn both(
+    alloc: Global,
+    key: &Sexpr,
+    value: &Sexpr,
+) -> Result<(Option<SizedTy>, Option<SizedTy>), NoMemory>
+    ensures { IfOk result (λ p. (p.0 ≡ written_type key.now) × (p.1 ≡ written_type value.now)) }
+{
+    let key = written_type(alloc, key)?;
+    let value = written_type(alloc, value)?;
+    Ok((key, value))
+}
+
+fn map_by(key: Option<SizedTy>, value: Option<SizedTy>) -> Option<FormKind>
     ensures { option_map plain_kind result ≡ map_form key value }
 {
     match (key, value) {
@@ -30,25 +44,37 @@ fn map_of(key: Option<SizedTy>, value: Option<SizedTy>) -> Option<FormKind>
     }
 }
 
-fn non_fungible(ty: Option<SizedTy>) -> Option<FormKind>
-    ensures { option_map plain_kind result ≡ option_map NonFungibleForm ty }
+fn map_of(alloc: Global, key: &Sexpr, value: &Sexpr) -> Result<Option<FormKind>, NoMemory>
+    ensures { IfOk result (λ o. option_map plain_kind o ≡ map_form (written_type key.now) (written_type value.now)) }
 {
-    match ty {
-        Some(ty) => Some(FormKind::NonFungible(ty)),
-        None => None,
+    let (key, value) = both(alloc, key, value)?;
+    Ok(map_by(key, value))
+}
+
+fn non_fungible(alloc: Global, ty: &Sexpr) -> Result<Option<FormKind>, NoMemory>
+    ensures { IfOk result (λ o. option_map plain_kind o ≡ option_map NonFungibleForm (written_type ty.now)) }
+{
+    match written_type(alloc, ty)? {
+        Some(ty) => Ok(Some(FormKind::NonFungible(ty))),
+        None => Ok(None),
     }
 }
 
-fn function(access: Access, params: Option<Vec<(Name, SizedTy)>>, body: Sexpr) -> Option<FormKind>
-    ensures { option_map plain_kind result ≡ option_map (λ ps. FunctionForm access ps body) (option_map (λ v. v.items) params) }
+fn function(
+    alloc: Global,
+    access: Access,
+    params: &[(Name, Sexpr)],
+    body: Sexpr,
+) -> Result<Option<FormKind>, NoMemory>
+    ensures { IfOk result (λ o. option_map plain_kind o ≡ option_map (λ ps. FunctionForm access ps body) (typed params.now)) }
 {
-    match params {
-        Some(params) => Some(FormKind::Function {
+    match typed(alloc, params)? {
+        Some(params) => Ok(Some(FormKind::Function {
             access,
             params,
             body,
-        }),
-        None => None,
+        })),
+        None => Ok(None),
     }
 }
 
@@ -58,17 +84,10 @@ pub(crate) fn kind_of(alloc: Global, draft: Draft) -> Result<Option<FormKind>, N
 {
     match draft {
         Draft::Constant(e) => Ok(Some(FormKind::Constant(e))),
-        Draft::Variable(t, e) => Ok(variable(written_type(alloc, &t)?, e)),
-        Draft::MapOf(k, v) => {
-            let key = written_type(alloc, &k)?;
-            let value = written_type(alloc, &v)?;
-            Ok(map_of(key, value))
-        }
+        Draft::Variable(t, e) => variable(alloc, t, e),
+        Draft::MapOf(k, v) => map_of(alloc, &k, &v),
         Draft::Fungible(supply) => Ok(Some(FormKind::Fungible(supply))),
-        Draft::NonFungible(t) => Ok(non_fungible(written_type(alloc, &t)?)),
-        Draft::Function(access, params, body) => {
-            let params = typed(alloc, &params)?;
-            Ok(function(access, params, body))
-        }
+        Draft::NonFungible(t) => non_fungible(alloc, &t),
+        Draft::Function(access, params, body) => function(alloc, access, &params, body),
     }
 }
