@@ -133,6 +133,32 @@ fn report_of(
     Ok(report(alloc, both)?)
 }
 
+/// The report of the two entries.
+fn report_from_genesis(alloc: Global, first: &Entry, second: &Entry) -> Result<Reply, NoMemory>
+    ensures answer { IfOk result (λ reply. IsReportOf first.now second.now (answer_of reply)) }
+    ensures status { IfOk result (λ reply. IsOwnStatus reply.status × (reply.status ≢ 2)) }
+{
+    let mut node = Node::genesis(alloc)?;
+    report_of(alloc, &mut node, first, second)
+}
+
+/// The call of a function of the contract, by its name.
+fn call_by(alloc: Global, function: &str, args: Vec<Val>) -> Result<Entry, AllocError>
+    ensures { IfOk result (λ entry. entry ≡ call function.now args.items) }
+{
+    let function = Vec::from_slice(alloc, function.as_bytes())?;
+    Ok(call(function, args))
+}
+
+/// The reply for the deployment of this source, and this call.
+fn reply_for(alloc: Global, source: Vec<u8>, second: &Entry) -> Result<Reply, NoMemory>
+    ensures answer { IfOk result (λ reply. IsReportOf (deployment source.items) second.now (answer_of reply)) }
+    ensures status { IfOk result (λ reply. IsOwnStatus reply.status × (reply.status ≢ 2)) }
+{
+    let first = deployment(source);
+    report_from_genesis(alloc, &first, second)
+}
+
 /// The reply to `call` for a source, the name of a function and its arguments.
 pub(crate) fn call_reply(
     alloc: Global,
@@ -143,8 +169,6 @@ pub(crate) fn call_reply(
     ensures answer { IfOk result (λ reply. IsCalled source.items function.now args.items (answer_of reply)) }
     ensures status { IfOk result (λ reply. IsOwnStatus reply.status × (reply.status ≢ 2)) }
 {
-    let first = deployment(source);
-    let second = call(Vec::from_slice(alloc, function.as_bytes())?, args);
-    let mut node = Node::genesis(alloc)?;
-    report_of(alloc, &mut node, &first, &second)
+    let second = call_by(alloc, function, args)?;
+    reply_for(alloc, source, &second)
 }

@@ -3,11 +3,12 @@ ghost use Rattle.std.specs.Prelude.{◌≡◌, ◌≤◌, length, IfOk};
 ghost use Rattle.cl_costs.specs.Tables.{unit_table};
 ghost use Rattle.cl_app.specs.Entries.{end_of, IsFirst, Ends, Reports};
 ghost use Rattle.cl_app.specs.Reply.{bytes_of};
+ghost use Rattle.cl_report.specs.Lines.{lines_of};
 
 use cl_costs::CostTable;
 use cl_engine::{Node, entries_have_one_result};
 use cl_report::lines;
-use cl_tx::{Entry, Outcome, nodes_stay_nodes};
+use cl_tx::{Entry, Outcome, TxResult, nodes_stay_nodes};
 use cl_types::NoMemory;
 use std::alloc::Global;
 
@@ -40,6 +41,18 @@ fn end_of(outcome: &Outcome) -> End
     }
 }
 
+/// How an entry with this result ended.
+fn told(alloc: Global, number: u32, entry: &Entry, given: &TxResult) -> Result<Ended, NoMemory>
+    ensures end { IfOk result (λ e. e.end ≡ end_of given.now.outcome) }
+    ensures text { IfOk result (λ e. e.text.items ≡ lines_of number entry.now given.now) }
+{
+    let text = lines(alloc, number, entry, given)?;
+    Ok(Ended {
+        end: end_of(&given.outcome),
+        text,
+    })
+}
+
 /// Does what the entry with this number asks for. Its result isn't kept.
 pub(crate) fn next(
     alloc: Global,
@@ -52,11 +65,7 @@ pub(crate) fn next(
     ensures { IfOk result (λ e. Ends number node.old entry.now node.new e.end e.text.items) }
 {
     let given = node.step(alloc, entry, costs)?;
-    let text = lines(alloc, number, entry, &given)?;
-    Ok(Ended {
-        end: end_of(&given.outcome),
-        text,
-    })
+    told(alloc, number, entry, &given)
 }
 
 /// Does what the entries ask for, from the first node on. The lines are given, a piece for each entry.
