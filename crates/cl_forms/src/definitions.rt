@@ -1,5 +1,5 @@
 //! The forms of a text, or the first rule of forms that it breaks.
-ghost use Rattle.std.specs.Prelude.{◌≡◌, ℕ, List, [], map, IfOk, OnOk, is_some, Some, None, if◌then◌else◌};
+ghost use Rattle.std.specs.Prelude.{◌≡◌, ℕ, List, [], map, IfOk, OnOk, is_some, Some, None, option_map, if◌then◌else◌};
 ghost use Rattle.std.specs.List.{list_any};
 ghost use Rattle.std.specs.Option.{option_or};
 ghost use Rattle.indexmap.specs.IndexMap.{get as lookup};
@@ -8,7 +8,7 @@ ghost use Rattle.cl_sexpr.specs.Tree.{Tree};
 ghost use Rattle.cl_forms.specs.Names.{same};
 ghost use Rattle.cl_forms.specs.Heads.{is_reserved};
 ghost use Rattle.cl_forms.specs.ItemView.{plain_draft, plain_item};
-ghost use Rattle.cl_forms.specs.FormBreaks.{broken_at, params_of, defines, repeats, IsFirstBreak, AreForms};
+ghost use Rattle.cl_forms.specs.FormBreaks.{broken_at, params_of, defines, repeats, when, IsFirstBreak, AreForms};
 ghost use Rattle.cl_forms.specs.Looks.{plain_entry, first_from, is_used, has_reserved, is_before, comes_last, first_of, first_at, rules_by, break_of, first_broken, form_at};
 ghost use Rattle.cl_forms.specs.Items.{Definition, form_by};
 
@@ -156,13 +156,47 @@ fn first_of(left_out: Option<Span>, rule: Rule, span: Span) -> Break
     }
 }
 
-/// The form, unless an atom in its item is left out.
-fn unless_left_out(left_out: Option<Span>, form: Form) -> Result<Form, Fault<Break>>
-    ensures found { IfOk result (λ f. (left_out ≡ None) × (f ≡ form)) }
-    ensures broken { IfRefused result (λ r. first_at [] left_out form.span ≡ Some r) }
+/// What an item breaks by an atom that is left out.
+fn by_left_out(left_out: Option<Span>) -> Option<Break>
+    ensures { result ≡ option_map (λ at. broken_at at Rule.NotInProfile) left_out }
 {
     match left_out {
-        Some(at) => Err(Fault::Refused(broken_at(at, Rule::NotInProfile))),
+        Some(at) => Some(broken_at(at, Rule::NotInProfile)),
+        None => None,
+    }
+}
+
+/// What a definition breaks first whose types are types, by its names and an atom that is left out.
+fn by_names(
+    alloc: Global,
+    names: &IndexMap<Name, usize>,
+    place: usize,
+    name: &Name,
+    params: &[(Name, Sexpr)],
+    left_out: Option<Span>,
+    span: Span,
+) -> Result<Option<Break>, AllocError>
+    ensures { IfOk result (λ b. b ≡ first_at
+        (when (has_reserved name.now (map (λ p. p.0) params.now)) Rule.BadName
+        (when (is_used (lookup same names.now) place name.now (map (λ p. p.0) params.now)) Rule.NameUsed []))
+        left_out span) }
+{
+    if has_reserved(name, params) {
+        return Ok(Some(first_of(left_out, Rule::BadName, span)));
+    }
+    if is_used(alloc, names, place, name, params)? {
+        return Ok(Some(first_of(left_out, Rule::NameUsed, span)));
+    }
+    Ok(by_left_out(left_out))
+}
+
+/// The form, unless its item breaks a rule.
+fn unless_broken(broken: Option<Break>, form: Form) -> Result<Form, Fault<Break>>
+    ensures found { IfOk result (λ f. (broken ≡ None) × (f ≡ form)) }
+    ensures broken { IfRefused result (λ r. broken ≡ Some r) }
+{
+    match broken {
+        Some(broken) => Err(Fault::Refused(broken)),
         None => Ok(form),
     }
 }
@@ -181,23 +215,26 @@ fn definition(
         × (form_by (Definition name (plain_draft draft)) span ≡ Some f)) }
     ensures broken { IfRefused result (λ r. first_at (rules_by (lookup same names.now) place (Definition name (plain_draft draft))) left_out span ≡ Some r) }
 {
-    let reserved = has_reserved(&name, params_of(&draft));
-    let used = is_used(alloc, names, place, &name, params_of(&draft))?;
-    let Some(kind) = kind_of(alloc, draft)? else {
-        return Err(Fault::Refused(first_of(left_out, Rule::BadType, span)));
-    };
-    if reserved {
-        return Err(Fault::Refused(first_of(left_out, Rule::BadName, span)));
-    }
-    if used {
-        return Err(Fault::Refused(first_of(left_out, Rule::NameUsed, span)));
-    }
-    let form = Form {
-        name: Some(name),
-        kind,
+    let broken = by_names(
+        alloc,
+        names,
+        place,
+        &name,
+        params_of(&draft),
+        left_out,
         span,
-    };
-    unless_left_out(left_out, form)
+    )?;
+    match kind_of(alloc, draft)? {
+        Some(kind) => {
+            let form = Form {
+                name: Some(name),
+                kind,
+                span,
+            };
+            unless_broken(broken, form)
+        }
+        None => Err(Fault::Refused(first_of(left_out, Rule::BadType, span))),
+    }
 }
 
 /// The form of an item at a place, or the first rule that it breaks.
@@ -222,7 +259,7 @@ fn form_of(
                 kind: FormKind::Expression(e),
                 span,
             };
-            unless_left_out(left_out, form)
+            unless_broken(by_left_out(left_out), form)
         }
         Item::Misshapen => Err(Fault::Refused(first_of(left_out, Rule::BadDefinition, span))),
         Item::Definition(name, draft) => {
