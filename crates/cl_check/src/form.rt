@@ -254,6 +254,114 @@ fn add_int(
     }))
 }
 
+/// The body of a function whose parameters have these names.
+fn body_given(
+    alloc: Global,
+    scope: &Scope,
+    access: Access,
+    params: &[(Name, SizedTy)],
+    body: &Sexpr,
+) -> Result<Option<Given>, NoMemory>
+    requires once { repeats [] (names_of params.now) ≡ false }
+    requires free { list_any is_reserved (names_of params.now) ≡ false }
+    requires small { tree_size body.now ≤ 2 ^ 21 }
+    requires callable { AreCallable scope.now.functions.entries }
+    ensures value { IfOk result (λ r. option_map given_of r ≡ body_of access (definitions_of scope.now) (names_of params.now) body.now) }
+    ensures within { IfOk result (λ r. IfSome r (λ g. IsWithin (tree_size body.now) g.weight)) }
+    ensures code { IfOk result (λ r. IfSome r (λ g. expression_of g.code ≡ body.now)) }
+{
+    let names = names_of(alloc, params)?;
+    body_of(alloc, scope, access, &names, body)
+}
+
+/// What a function gives, and the height of its application.
+#[derive(Drop)]
+struct Told {
+    returns: SizedTy,
+    height: u32,
+}
+
+/// Adds the function, and tells what its definition keeps of it.
+fn tell(alloc: Global, scope: &mut Scope, name: Name, callee: Callee) -> Result<Told, NoMemory>
+    requires new { callee_in name scope.old.functions.entries ≡ None }
+    requires small { IsAtMost scope.old.deploy (in_each (2 ^ 100)) }
+    ensures { OnOk result (definitions_of scope.new ≡ add_function (definitions_of scope.old) name callee) }
+{
+    let returns = callee.returns.copy(alloc)?;
+    let height = callee.weight.height;
+    add_function(scope, name, callee)?;
+    Ok(Told { returns, height })
+}
+
+/// Adds the function with this body, where it isn't too heavy.
+fn add_callee(
+    alloc: Global,
+    scope: &mut Scope,
+    name: Name,
+    access: Access,
+    arity: usize,
+    body: &Given,
+) -> Result<Option<Told>, NoMemory>
+    requires new { callee_in name scope.old.functions.entries ≡ None }
+    requires own { is_reserved name ≡ false }
+    requires few { arity < 2 ^ 30 }
+    requires within { IsWithin (2 ^ 30) body.now.weight }
+    requires callable { AreCallable scope.old.functions.entries }
+    requires deploy { IsAtMost scope.old.deploy (in_each (2 ^ 100)) }
+    ensures value { IfOk result (λ r. if_so (is_some r) (Some (definitions_of scope.new)) ≡ option_map (add_function (definitions_of scope.old) name) (function_of access arity (Some (given_of body.now)))) }
+    ensures callable { IfOk result (λ _. AreCallable scope.new.functions.entries) }
+{
+    match function_of(alloc, access, arity, body)? {
+        Some(callee) => Ok(Some(tell(alloc, scope, name, callee)?)),
+        None => Ok(None),
+    }
+}
+
+/// What the definition of a function keeps beside its parameters.
+#[derive(Drop)]
+struct Taken {
+    returns: SizedTy,
+    height: u32,
+    code: Code,
+}
+
+/// Adds the function with these parameters and this body, where it is taken.
+fn add_taken(
+    alloc: Global,
+    scope: &mut Scope,
+    name: Name,
+    access: Access,
+    params: &[(Name, SizedTy)],
+    body: &Sexpr,
+) -> Result<Option<Taken>, NoMemory>
+    requires new { callee_in name scope.old.functions.entries ≡ None }
+    requires own { is_reserved name ≡ false }
+    requires once { repeats [] (names_of params.now) ≡ false }
+    requires free { list_any is_reserved (names_of params.now) ≡ false }
+    requires few { length params.now ≤ 2 ^ 21 }
+    requires small { tree_size body.now ≤ 2 ^ 21 }
+    requires callable { AreCallable scope.old.functions.entries }
+    requires deploy { IsAtMost scope.old.deploy (in_each (2 ^ 100)) }
+    ensures value { IfOk result (λ r. if_so (is_some r) (Some (definitions_of scope.new)) ≡ with_kind (definitions_of scope.old) name (FunctionForm access params.now body.now)) }
+    ensures code { IfOk result (λ r. IfSome r (λ t. expression_of t.code ≡ body.now)) }
+    ensures callable { IfOk result (λ _. AreCallable scope.new.functions.entries) }
+{
+    if !are_ints(params) {
+        return Ok(None);
+    }
+    let Some(given) = body_given(alloc, scope, access, params, body)? else {
+        return Ok(None);
+    };
+    match add_callee(alloc, scope, name, access, params.len(), &given)? {
+        Some(Told { returns, height }) => Ok(Some(Taken {
+            returns,
+            height,
+            code: given.code,
+        })),
+        None => Ok(None),
+    }
+}
+
 /// Adds a function of ints, where it is taken.
 fn add_given(
     alloc: Global,
@@ -276,28 +384,25 @@ fn add_given(
     ensures defined { IfOk result (λ r. IfSome r (λ f. form_of f ≡ record { name = Some name; kind = FunctionForm access params.items body.now; span = span })) }
     ensures callable { IfOk result (λ _. AreCallable scope.new.functions.entries) }
 {
-    if !are_ints(&params) {
-        return Ok(None);
+    let taken = add_taken(alloc, scope, name, access, &params, body)?;
+    match taken {
+        Some(
+            Taken {
+                returns,
+                height,
+                code,
+            },
+        ) => Ok(Some(Function {
+            name,
+            access,
+            params,
+            returns,
+            height,
+            body: code,
+            span,
+        })),
+        None => Ok(None),
     }
-    let names = names_of(alloc, &params)?;
-    let Some(given) = body_of(alloc, scope, access, &names, body)? else {
-        return Ok(None);
-    };
-    let Some(callee) = function_of(alloc, access, params.len(), &given)? else {
-        return Ok(None);
-    };
-    let returns = callee.returns.copy(alloc)?;
-    let height = callee.weight.height;
-    add_function(scope, name, callee)?;
-    Ok(Some(Function {
-        name,
-        access,
-        params,
-        returns,
-        height,
-        body: given.code,
-        span,
-    }))
 }
 
 /// Adds what a form of this name is, where it is taken.
