@@ -7,12 +7,8 @@ mod call;
 mod entries;
 mod pieces;
 mod reply;
-#[cfg(test)]
-mod rows;
 mod run;
 mod spelling;
-#[cfg(test)]
-mod tests;
 mod top;
 mod words;
 

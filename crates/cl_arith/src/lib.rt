@@ -9,8 +9,6 @@ ghost use Rattle.cl_arith.specs.Roots.{root_of, log2_of, square_root, log2, IsSq
 
 mod ints;
 mod roots;
-#[cfg(test)]
-mod tests;
 mod uints;
 
 /// A number of one of the two kinds.

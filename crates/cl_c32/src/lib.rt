@@ -9,8 +9,6 @@ mod contract_name;
 mod digits;
 mod laws;
 mod principal;
-#[cfg(test)]
-mod tests;
 
 pub use address::Address;
 pub use address_text::AddressText;

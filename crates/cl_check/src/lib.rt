@@ -9,8 +9,6 @@ mod laws;
 mod node;
 mod parts;
 mod scope;
-#[cfg(test)]
-mod tests;
 mod weight;
 
 pub use checker::{Checked, check};

@@ -5,8 +5,6 @@ mod decoder;
 mod encoder;
 mod leaves;
 mod parts;
-#[cfg(test)]
-mod tests;
 
 pub use cl_values::DecodeRefusal;
 pub use decoder::decode;

@@ -6,8 +6,6 @@ mod function;
 mod refusal;
 mod shape;
 mod table;
-#[cfg(test)]
-mod tests;
 
 pub use cost_file::{read, reads_each_name, reads_every_table};
 pub use refusal::CostRefusal;

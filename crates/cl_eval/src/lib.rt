@@ -13,8 +13,6 @@ mod natives;
 mod numbers;
 mod payment;
 mod stop;
-#[cfg(test)]
-mod tests;
 mod top;
 mod values;
 

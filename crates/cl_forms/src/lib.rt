@@ -11,8 +11,6 @@ mod laws;
 mod names;
 mod placed;
 mod reserved;
-#[cfg(test)]
-mod tests;
 mod type_word;
 mod types;
 mod weights;

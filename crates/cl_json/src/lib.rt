@@ -2,8 +2,6 @@
 #![tactic(auto)]
 
 mod members;
-#[cfg(test)]
-mod tests;
 mod text;
 
 pub use members::{is_known, members_rise, unknown_is_least, unknown_member};

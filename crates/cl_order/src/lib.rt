@@ -6,8 +6,6 @@ mod laws;
 mod naming;
 mod ordering;
 mod search;
-#[cfg(test)]
-mod tests;
 
 pub use laws::{cycles_are_rings, good_order_or_cycle, orders_are_good};
 pub use ordering::order;

@@ -12,8 +12,6 @@ mod memory_sink;
 mod real;
 mod refusal;
 mod sink;
-#[cfg(test)]
-mod tests;
 
 pub use files::Files;
 pub use memory_files::MemoryFiles;

@@ -7,8 +7,6 @@ mod events;
 mod laws;
 mod refusals;
 mod state;
-#[cfg(test)]
-mod tests;
 
 pub use entries::lines;
 pub use events::event_line;

@@ -12,8 +12,6 @@ mod reading;
 mod rule;
 mod run;
 mod sexpr;
-#[cfg(test)]
-mod tests;
 
 pub use order::items_stand_in_order;
 pub use reader::{MOST_BYTES, one_reading, read};

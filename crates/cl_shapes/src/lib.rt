@@ -5,8 +5,6 @@ mod cost;
 mod function;
 mod limit;
 mod name;
-#[cfg(test)]
-mod tests;
 
 pub use cost::{Cost5, Dimension};
 pub use function::{CostFn, Shape};

@@ -6,8 +6,6 @@ mod keys;
 mod laws;
 mod place;
 mod tables;
-#[cfg(test)]
-mod tests;
 mod world;
 
 pub use laws::{places_have_own_keys, variables_are_looked_up};

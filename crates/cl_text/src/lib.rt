@@ -7,11 +7,7 @@ mod literal;
 mod parser;
 mod printer;
 mod refusal;
-#[cfg(test)]
-mod tests;
 mod type_printer;
-#[cfg(test)]
-mod type_tests;
 mod word;
 
 pub use laws::{one_outcome, printed_is_read};

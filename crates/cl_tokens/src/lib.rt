@@ -7,8 +7,6 @@ mod laws;
 mod non_fungible;
 mod refusal;
 mod table;
-#[cfg(test)]
-mod tests;
 
 pub use fungible::Fungible;
 pub use key::Key;

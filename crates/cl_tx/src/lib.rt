@@ -10,8 +10,6 @@ mod object;
 mod outcome;
 mod refusal;
 mod row;
-#[cfg(test)]
-mod tests;
 
 pub use entry::{Common, Entry, TxFile};
 pub use examples::{calls_of_a_function, calls_of_public_functions, deployments};

@@ -6,18 +6,12 @@ mod depth;
 mod fault;
 mod keys;
 mod lattice_laws;
-#[cfg(test)]
-mod lattice_tests;
 mod laws;
 mod measure;
 mod name;
 mod order;
 mod sized;
-#[cfg(test)]
-mod sized_tests;
 mod supertype;
-#[cfg(test)]
-mod tests;
 mod text;
 mod ty;
 

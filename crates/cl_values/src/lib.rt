@@ -6,8 +6,6 @@ mod depth;
 mod examples;
 mod fault;
 mod inhabitants;
-#[cfg(test)]
-mod inhabitants_tests;
 mod keys;
 mod laws;
 mod leaves;
@@ -16,8 +14,6 @@ mod order;
 mod prefix;
 mod refusal;
 mod size;
-#[cfg(test)]
-mod tests;
 mod texts;
 mod val;
 mod value;
