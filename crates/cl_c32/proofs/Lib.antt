@@ -1,4 +1,5 @@
 pub mod Characters
+pub mod Examples
 pub mod Numbers
 pub mod Padding
 pub mod RoundTrip

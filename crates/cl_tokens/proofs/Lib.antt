@@ -1,3 +1,4 @@
+pub mod Examples
 pub mod Slots
 pub mod Balances
 pub mod Acts
