@@ -1,3 +1,4 @@
+pub mod Examples
 pub mod Holders
 pub mod Layers
 pub mod Places
