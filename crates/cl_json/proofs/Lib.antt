@@ -1,3 +1,4 @@
+mod Examples
 mod Least
 mod Order
 mod Texts
