@@ -2,3 +2,4 @@ pub mod Examples
 pub mod Greatest
 pub mod Laws
 pub mod Powers
+pub mod Ranges

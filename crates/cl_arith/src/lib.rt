@@ -1,10 +1,11 @@
 // Arithmetic on 128-bit numbers, as the Clarity language has it (SIP-002): the exact result, or why there is none.
 #![tactic(auto)]
 
-ghost use Rattle.std.specs.Prelude.{◌≡◌, ◌≢◌, ℕ, ◌+◌, ◌^◌, ◌<◌, ℤ, pos, ◌+ℤ◌, ◌*ℤ◌, ◌≤ℤ◌, int_div, int_rem, unsigned_abs, Ok};
+ghost use Rattle.std.specs.Prelude.{◌≡◌, ◌≢◌, ℕ, ◌+◌, ◌^◌, ◌<◌, ℤ, pos, ◌+ℤ◌, ◌*ℤ◌, ◌≤ℤ◌, int_div, int_rem, unsigned_abs, Ok, Result};
 ghost use Rattle.std.specs.Int.{int_pow};
-ghost use Rattle.cl_arith.specs.Numbers.{kind_of, whole, as_int, as_uint};
+ghost use Rattle.cl_arith.specs.Numbers.{Num as Number, ArithRefusal as Refusal, Kind, kind_of, whole, as_int, as_uint};
 ghost use Rattle.cl_arith.specs.Operations.{sum, difference, product, quotient, remainder, power, tested, computed, exclusive_or};
+ghost use Rattle.cl_arith.specs.Ranges.{IsNumber, IsInRange};
 ghost use Rattle.cl_arith.specs.Roots.{root_of, log2_of, square_root, log2, IsSquareRoot, IsLog2};
 
 mod ints;
@@ -179,4 +180,10 @@ pub fn powers_are_products()
 pub fn roots_round_down()
     ensures square_root { (n : ℕ) → n < 2 ^ 128 → IsSquareRoot n (square_root n) }
     ensures log2 { (n : ℕ) → 0 < n → n < 2 ^ 128 → IsLog2 n (log2 n) }
+{}
+
+/// What an operation gives is a number of its kind, in its range: results are tested for it, and an exclusive or needs no test.
+pub fn results_are_in_range()
+    ensures tested { (kind : Kind) (r : Result ℤ Refusal) → IsInRange kind (tested kind r) }
+    ensures exclusive_or { (kind : Kind) (a b : Number) → IsNumber kind a → IsNumber kind b → IsNumber kind (exclusive_or a b) }
 {}
