@@ -17,7 +17,7 @@ use Rattle.cl_forms.specs.Weights.{weight_of_forms}
 use Rattle.cl_rules.specs.Context.{Known, Signature, Bound, signature_in}
 use Rattle.cl_rules.specs.FormRules.{Defined, nothing_defined, most_height}
 use Rattle.cl_rules.specs.FormTyping.{FormsTyped}
-use Rattle.cl_rules.specs.NativeTypes.{is_int}
+use Rattle.cl_types.specs.TypeKinds.{is_int}
 use Rattle.cl_rules.specs.Acceptance.{Ordered, forms_at, most_cost, bound_at, bound_by, Bounded}
 use Rattle.cl_check.specs.declared.weight.Weight.{Weight}
 use Rattle.cl_check.specs.declared.scope.Callee.{Callee}

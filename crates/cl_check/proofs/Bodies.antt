@@ -15,7 +15,8 @@ use Rattle.cl_forms.specs.declared.head.Head.TheVariants.{VarSet}
 use Rattle.cl_forms.specs.Names.{same}
 use Rattle.cl_forms.specs.Shapes.{trees_of}
 use Rattle.cl_rules.specs.Faults.{sound_shape, sound_types, shape_rules, type_rules}
-use Rattle.cl_rules.specs.NativeTypes.{fine, made, one, if_kind, is_response, native_type}
+use Rattle.cl_types.specs.TypeKinds.{is_response}
+use Rattle.cl_rules.specs.NativeTypes.{fine, made, one, if_kind, native_type}
 use Rattle.cl_rules.specs.Context.{Context, Names, charge, named_in}
 use Rattle.cl_rules.specs.Verdicts.{Found, Thrown, so_far, thrown_by, faults_with, types_of, highest, sum_of, summed, number_at}
 use Rattle.cl_rules.specs.Shapes.{Shape, parts, there_or_not, is_no_such, named_faults, named_shape}

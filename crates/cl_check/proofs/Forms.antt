@@ -15,7 +15,7 @@ use Rattle.cl_sexpr.specs.Tree.{Tree, LeafAt, Signed}
 use Rattle.cl_forms.specs.Forms.{Form, FormKind, ConstantForm, VariableForm, MapForm, FungibleForm, NonFungibleForm, FunctionForm, ExpressionForm}
 use Rattle.cl_forms.specs.Heads.{is_reserved}
 use Rattle.cl_rules.specs.Faults.{sound_form, form_rules}
-use Rattle.cl_rules.specs.NativeTypes.{is_int}
+use Rattle.cl_types.specs.TypeKinds.{is_int}
 use Rattle.cl_rules.specs.Context.{Context, Names, Signature, charge}
 use Rattle.cl_rules.specs.Verdicts.{Found, Thrown, thrown_after, so_far}
 use Rattle.cl_rules.specs.ControlShapes.{binds}

@@ -16,7 +16,7 @@ use Rattle.cl_forms.specs.Names.{same, Plain, atoms_in, atoms_of_expression, ato
 use Rattle.cl_forms.specs.Order.{is_in, Visited, and_then, visit_each, visit, places_of, ordered}
 use Rattle.cl_order.proofs.Named.{next, next_named}
 use Rattle.cl_order.proofs.Visits.{visit_done, visit_new}
-use Rattle.cl_rules.specs.NativeTypes.{is_int}
+use Rattle.cl_types.specs.TypeKinds.{is_int}
 use Rattle.cl_rules.specs.Acceptance.{forms_at}
 use Rattle.cl_check.specs.declared.scope.Callee.{Callee}
 use Rattle.cl_check.specs.Taken.{Definitions, callee_in, is_literal, weigh, Given, add_variable, add_function, function_of, body_of, names_of, are_ints, with_kind, with_name}

@@ -11,7 +11,7 @@ use Rattle.cl_forms.specs.Forms.{Form, FormKind, ConstantForm, VariableForm, Map
 use Rattle.cl_forms.specs.Names.{same}
 use Rattle.cl_check.specs.declared.scope.Callee.{Callee}
 use Rattle.cl_check.specs.Taken.{Definitions, is_among, callee_in, is_literal, add_variable, add_function, function_of, body_of, names_of, are_ints, with_kind, with_name, taken_all}
-use Rattle.cl_rules.specs.NativeTypes.{is_int}
+use Rattle.cl_types.specs.TypeKinds.{is_int}
 use Rattle.cl_check.proofs.Options.{same_in, so_some, map_some, then_some}
 use Rattle.cl_check.proofs.Forms.{function_is}
 

@@ -17,7 +17,8 @@ use Rattle.cl_forms.specs.declared.head.Head.TheVariants.{VarGet}
 use Rattle.cl_forms.specs.Names.{same}
 use Rattle.cl_forms.specs.Shapes.{trees_of}
 use Rattle.cl_rules.specs.Faults.{sound_shape, sound_types, shape_rules, type_rules}
-use Rattle.cl_rules.specs.NativeTypes.{is_int, is_uint, are_numbers, number_row, fine, of_kind, native_type}
+use Rattle.cl_types.specs.TypeKinds.{is_int, is_uint, are_numbers}
+use Rattle.cl_rules.specs.NativeTypes.{number_row, fine, of_kind, native_type}
 use Rattle.cl_rules.specs.Context.{Context, Names, Signature, charge, named_in, signature_in, is_no_value, keyword}
 use Rattle.cl_rules.specs.Verdicts.{Found, Thrown, so_far, thrown_after, thrown_by, faults_with, types_of, highest, sum_of, summed, number_at}
 use Rattle.cl_rules.specs.Shapes.{Shape, parts, value_shape, are_wanted, Admitted, there_or_not, is_no_such, named_faults, named_shape}

@@ -17,7 +17,7 @@ use Rattle.cl_sexpr.specs.Tree.{Tree, LeafAt, ListAt, Named, Signed, Forest, Emp
 use Rattle.cl_forms.specs.Forms.{Form, FormKind, VariableForm, FunctionForm}
 use Rattle.cl_forms.specs.Names.{same}
 use Rattle.cl_forms.specs.Shapes.{trees_of}
-use Rattle.cl_rules.specs.NativeTypes.{is_int}
+use Rattle.cl_types.specs.TypeKinds.{is_int}
 use Rattle.cl_rules.specs.FormRules.{most_height}
 use Rattle.cl_rules.specs.Acceptance.{Ordered}
 use Rattle.cl_check.specs.declared.weight.Weight.{Weight}

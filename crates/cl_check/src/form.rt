@@ -13,7 +13,7 @@ ghost use Rattle.cl_forms.specs.Weights.{weight_of_kind};
 ghost use Rattle.cl_code.specs.Definitions.{variable_form, form_defined};
 ghost use Rattle.cl_code.specs.Functions.{form_of};
 ghost use Rattle.cl_code.specs.Typed.{expression_of};
-ghost use Rattle.cl_rules.specs.NativeTypes.{is_int};
+ghost use Rattle.cl_types.specs.TypeKinds.{is_int};
 ghost use Rattle.cl_check.specs.Taken.{application, charged_each, given, is_light, are_ints, names_of, is_literal, is_among, callee_in, if_so, weigh, body_of, function_of, add_variable, add_function, with_kind, with_name};
 ghost use Rattle.cl_check.specs.Refusal.{IsNew, IsNewName};
 ghost use Rattle.cl_check.specs.Room.{definitions_of, AreCallable, IsWithin, given_of};

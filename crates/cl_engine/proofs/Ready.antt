@@ -18,7 +18,7 @@ use Rattle.cl_forms.specs.Shapes.{trees_of}
 use Rattle.cl_forms.specs.Weights.{weight_of_kind, weight_of_forms}
 use Rattle.cl_events.specs.State.{State, is_principal}
 use Rattle.cl_meaning.specs.Deployed.{Contract, Deployed, Function, contract_at, function_in, as_function, form_of, has_name}
-use Rattle.cl_meaning.specs.Kept.{IsOf}
+use Rattle.cl_values.specs.Typed.{IsOf}
 use Rattle.cl_meaning.specs.Limits.{Limited, Gave, Threw, AbortedBy, Passed, Lost, limited}
 use Rattle.cl_meaning.specs.Scope.{Frame}
 use Rattle.cl_meaning.specs.Top.{call_from}

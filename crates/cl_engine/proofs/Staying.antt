@@ -14,7 +14,7 @@ use Rattle.cl_forms.specs.Forms.{Form}
 use Rattle.cl_events.specs.State.{State, at_rest}
 use Rattle.cl_state.specs.Variables.{HasVariablesAlone}
 use Rattle.cl_meaning.specs.Deployed.{Contract, Deployed, Function, contract_at, function_in}
-use Rattle.cl_meaning.specs.Kept.{IsOf}
+use Rattle.cl_values.specs.Typed.{IsOf}
 use Rattle.cl_meaning.specs.Limits.{Limited, Gave, Threw, AbortedBy, Passed, Lost}
 use Rattle.cl_rules.specs.Context.{Known, known_at}
 use Rattle.cl_check.specs.Taken.{Definitions, IsTaken, IsNotYet}

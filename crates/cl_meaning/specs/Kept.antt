@@ -1,23 +1,18 @@
 -- States that are as their contracts say.
-use Rattle.std.specs.Prelude.{◌≡◌, ℕ, true, List, Contains, Option, Some, None}
+use Rattle.std.specs.Prelude.{◌≡◌, ℕ, List, Contains, Option, Some, None}
 use Rattle.cl_types.specs.Types.{PlainType}
 use Rattle.cl_c32.specs.declared.principal.Principal.{Principal}
 use Rattle.cl_sexpr.specs.Tree.{Tree}
 use Rattle.cl_values.specs.Tree.{Tree as Val}
 use Rattle.cl_values.specs.Wire.{wire}
-use Rattle.cl_values.specs.Valid.{IsVal, IsPrincipal}
-use Rattle.cl_values.specs.Inhabits.{inhabits}
+use Rattle.cl_values.specs.Valid.{IsPrincipal}
+use Rattle.cl_values.specs.Typed.{IsOf}
 use Rattle.cl_maps.specs.Maps.{Map, get}
 use Rattle.cl_tokens.specs.Ledger.{Ledger, IsLedger}
 use Rattle.cl_tokens.specs.Owners.{Owners}
 use Rattle.cl_forms.specs.Forms.{FormKind, ConstantForm, VariableForm, MapForm, FungibleForm, NonFungibleForm}
 use Rattle.cl_events.specs.State.{State, holder, place, spot}
 use Rattle.cl_meaning.specs.Deployed.{Contract, Deployed, form_of, value_of}
-
--- a value within the limits, of a type
-pub record IsOf (v : Val) (t : PlainType) : Type 0 where
-  pub valid : IsVal v
-  pub typed : inhabits v t ≡ true
 
 -- a deployed contract defines a name in this way
 pub record Defines (W : Deployed) (c : Contract) (x : List ℕ) (kind : FormKind) : Type 0 where

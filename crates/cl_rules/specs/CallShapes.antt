@@ -12,7 +12,8 @@ use Rattle.cl_forms.specs.declared.head.Head.{Head}
 use Rattle.cl_forms.specs.declared.head.Head.TheVariants.{OnValues, And, Or}
 use Rattle.cl_forms.specs.Shapes.{beside}
 use Rattle.cl_rules.specs.Faults.{sound_shape}
-use Rattle.cl_rules.specs.NativeTypes.{Ruled, fine, of_kind, if_kind, wrong_kind, undetermined, made, and_lub, and_ruled, is_bool, is_undetermined, is_sequence, entry_of, native_type}
+use Rattle.cl_types.specs.TypeKinds.{is_bool, is_undetermined, is_sequence, entry_of}
+use Rattle.cl_rules.specs.NativeTypes.{Ruled, fine, of_kind, if_kind, wrong_kind, undetermined, made, and_lub, and_ruled, native_type}
 use Rattle.cl_rules.specs.Context.{Context, Names, Bound, Signature, Known, charge, both, signature_in, if_callable, target_at}
 use Rattle.cl_rules.specs.Verdicts.{Found, Verdict, types_of, sizes_of, number_at, applying}
 use Rattle.cl_rules.specs.Shapes.{Shape, parts, unlooked, is_miscounted, Admitted, are_wanted, First, Absent, NoName, NoSuch, There, there_or_not, first_named, is_no_name, is_no_such, at_first}

@@ -9,7 +9,8 @@ use Rattle.cl_sexpr.specs.Tree.{Tree, LeafAt, ListAt, Leaf, Named, Signed, Unsig
 use Rattle.cl_forms.specs.Heads.{Row}
 use Rattle.cl_forms.specs.Shapes.{trees_of, binding_of, bindings_of}
 use Rattle.cl_rules.specs.Faults.{sound_shape, sound_types}
-use Rattle.cl_rules.specs.NativeTypes.{Ruled, fine, of_kind, if_kind, wrong_kind, made, lubbed, is_bool, is_response, is_undetermined, part_row, err_row}
+use Rattle.cl_types.specs.TypeKinds.{is_bool, is_response, is_undetermined}
+use Rattle.cl_rules.specs.NativeTypes.{Ruled, fine, of_kind, if_kind, wrong_kind, made, lubbed, part_row, err_row}
 use Rattle.cl_rules.specs.Context.{Context, Names, Bound, charge, both, named_in, is_taken, is_no_value, bind, keyword}
 use Rattle.cl_rules.specs.Verdicts.{Found, Verdict, types_of, concluded, summed}
 use Rattle.cl_rules.specs.Shapes.{Plan, Ends, Part, Gives, Shape, parts, no_verdict, unlooked, value_shape, is_miscounted}

@@ -7,7 +7,7 @@ use Rattle.cl_c32.specs.declared.principal.Principal.{Principal}
 use Rattle.cl_shapes.specs.declared.name.CostName.TheVariants.{Call, Define, Deploy}
 use Rattle.cl_forms.specs.Forms.{Form, FormKind, ConstantForm, VariableForm, MapForm, FungibleForm, NonFungibleForm, FunctionForm, ExpressionForm}
 use Rattle.cl_rules.specs.Faults.{FormFaults, sound_form}
-use Rattle.cl_rules.specs.NativeTypes.{is_response}
+use Rattle.cl_types.specs.TypeKinds.{is_response}
 use Rattle.cl_rules.specs.Context.{Bound, charge, free, both, Signature, Known, Context}
 use Rattle.cl_rules.specs.Verdicts.{Found, Thrown, thrown_after}
 use Rattle.cl_rules.specs.Shapes.{Plan, Ends, Part}

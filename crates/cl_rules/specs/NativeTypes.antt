@@ -4,6 +4,7 @@ use Rattle.std.specs.Prelude.{ℕ, ◌+◌, ◌&&◌, ◌||◌, not, nat_lt, nat
 use Rattle.std.specs.List.{list_all}
 use Rattle.std.specs.Cmp.Lexicographic.{pointwise}
 use Rattle.cl_types.specs.Types.{PlainType, NoType, IntType, UintType, BoolType, PrincipalType, BuffType, AsciiType, Utf8Type, ListType, TupleType, OptionalType, ResponseType, Fields, NoField, Field, admits, depth_of}
+use Rattle.cl_types.specs.TypeKinds.{is_int, is_uint, is_bool, is_principal, is_optional, is_response, is_undetermined, are_numbers, is_hashed, is_sequence, entry_of, resized}
 use Rattle.cl_types.specs.Lattice.{least_supertype}
 use Rattle.cl_types.specs.declared.sized.TyRefusal.{TyRefusal}
 use Rattle.cl_types.specs.declared.sized.TyRefusal.TheVariants.{Differ}
@@ -76,70 +77,6 @@ or_broken (rule ∷ rules) broken next = broken
 -- what is made of the type, where nothing is broken
 abbrev pub and_ruled : Ruled → (PlainType → Ruled) → Ruled
 and_ruled r make = or_broken (type_rules r.faults) r (make r.type)
-
--- ---- kinds of types
-
-abbrev pub is_int : PlainType → Bool
-is_int IntType = true
-is_int t = false
-
-abbrev pub is_uint : PlainType → Bool
-is_uint UintType = true
-is_uint t = false
-
-abbrev pub is_bool : PlainType → Bool
-is_bool BoolType = true
-is_bool t = false
-
-abbrev pub is_principal : PlainType → Bool
-is_principal PrincipalType = true
-is_principal t = false
-
-abbrev pub is_optional : PlainType → Bool
-is_optional (OptionalType t) = true
-is_optional t = false
-
-abbrev pub is_response : PlainType → Bool
-is_response (ResponseType t e) = true
-is_response t = false
-
-abbrev pub is_undetermined : PlainType → Bool
-is_undetermined NoType = true
-is_undetermined t = false
-
--- numbers of one kind
-abbrev pub are_numbers : List PlainType → Bool
-are_numbers ts = list_all is_int ts || list_all is_uint ts
-
--- a buffer or a number
-abbrev pub is_hashed : PlainType → Bool
-is_hashed (BuffType n) = true
-is_hashed t = is_int t || is_uint t
-
--- ---- sequences: lists, buffers and strings
-
-abbrev pub is_sequence : PlainType → Bool
-is_sequence (ListType n t) = true
-is_sequence (BuffType n) = true
-is_sequence (AsciiType n) = true
-is_sequence (Utf8Type n) = true
-is_sequence t = false
-
--- the type of a sequence's entries
-abbrev pub entry_of : PlainType → PlainType
-entry_of (ListType n t) = t
-entry_of (BuffType n) = BuffType 1
-entry_of (AsciiType n) = AsciiType 1
-entry_of (Utf8Type n) = Utf8Type 1
-entry_of t = NoType
-
--- the sequence type with another greatest length
-abbrev pub resized : ℕ → PlainType → PlainType
-resized m (ListType n t) = ListType m t
-resized m (BuffType n) = BuffType m
-resized m (AsciiType n) = AsciiType m
-resized m (Utf8Type n) = Utf8Type m
-resized m t = NoType
 
 -- ---- rows
 

@@ -6,7 +6,8 @@ use Rattle.cl_shapes.specs.declared.name.CostName.{CostName}
 use Rattle.cl_sexpr.specs.Tree.{Tree, LeafAt, Named}
 use Rattle.cl_forms.specs.Heads.{Row, takes}
 use Rattle.cl_rules.specs.Faults.{ShapeFaults, sound_shape}
-use Rattle.cl_rules.specs.NativeTypes.{Ruled, fine, if_kind, is_uint, is_principal}
+use Rattle.cl_types.specs.TypeKinds.{is_uint, is_principal}
+use Rattle.cl_rules.specs.NativeTypes.{Ruled, fine, if_kind}
 use Rattle.cl_rules.specs.Context.{Names, charge, free}
 use Rattle.cl_rules.specs.Verdicts.{Found, Verdict, types_of, number_at, summed}
 

@@ -26,7 +26,7 @@ use Rattle.cl_meaning.specs.Control.{last_of, begin_form}
 use Rattle.cl_meaning.specs.Values.{on_values, strict_form}
 use Rattle.cl_meaning.specs.Data.{variable_set, var_set_form}
 use Rattle.cl_meaning.specs.Meaning.{head_form, node}
-use Rattle.cl_meaning.specs.Kept.{IsOf}
+use Rattle.cl_values.specs.Typed.{IsOf}
 use Rattle.cl_meaning.proofs.Equations.{named_list, node_of_row}
 use Rattle.cl_check.specs.declared.weight.Weight.{Weight}
 use Rattle.cl_check.specs.Taken.{charged as charge, above, Definitions, is_among, count, Given as Gives}

@@ -16,7 +16,7 @@ use Rattle.cl_values.specs.Tree.{Tree as Val, IntV}
 use Rattle.cl_values.specs.Wire.{size_of as value_size}
 use Rattle.cl_forms.specs.Forms.{Form, FormKind, ConstantForm, VariableForm, MapForm, FungibleForm, NonFungibleForm, FunctionForm, ExpressionForm}
 use Rattle.cl_forms.specs.Names.{same}
-use Rattle.cl_rules.specs.NativeTypes.{is_int}
+use Rattle.cl_types.specs.TypeKinds.{is_int}
 use Rattle.cl_events.specs.State.{State}
 use Rattle.cl_meaning.specs.Answers.{Answer, Given, stop, give, charged, after_log, then_on, and_then, ending}
 use Rattle.cl_meaning.specs.Deployed.{Contract, Deployed}

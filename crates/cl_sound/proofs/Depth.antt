@@ -19,7 +19,7 @@ use Rattle.cl_meaning.specs.Deployed.{Deployed, Function}
 use Rattle.cl_meaning.specs.Scope.{Frame, Bound, OwnFunction, Take}
 use Rattle.cl_meaning.specs.Calls.{closing, bound_to, body_in, function_form, application}
 use Rattle.cl_meaning.specs.Meaning.{node, means, applied}
-use Rattle.cl_meaning.specs.Kept.{IsOf}
+use Rattle.cl_values.specs.Typed.{IsOf}
 use Rattle.cl_meaning.proofs.Equations.{means_step, applied_step}
 use Rattle.cl_check.specs.declared.weight.Weight.{Weight}
 use Rattle.cl_check.specs.declared.scope.Callee.{Callee}

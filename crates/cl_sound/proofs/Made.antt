@@ -13,7 +13,7 @@ use Rattle.cl_sexpr.specs.Tree.{Tree}
 use Rattle.cl_forms.specs.Forms.{Form, FormKind, ConstantForm, VariableForm, MapForm, FungibleForm, NonFungibleForm, FunctionForm, ExpressionForm}
 use Rattle.cl_forms.specs.Heads.{is_reserved}
 use Rattle.cl_forms.specs.Names.{same}
-use Rattle.cl_rules.specs.NativeTypes.{is_int}
+use Rattle.cl_types.specs.TypeKinds.{is_int}
 use Rattle.cl_meaning.specs.Deployed.{Function, has_name, form_of, as_function, function_in}
 use Rattle.cl_check.specs.declared.scope.Callee.{Callee}
 use Rattle.cl_check.specs.Taken.{Definitions, callee_in, is_literal, application, is_light, body_of, function_of, add_variable, add_function, names_of, are_ints, with_kind, with_name, taken_all, Given as Gives}

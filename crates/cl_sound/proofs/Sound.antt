@@ -12,7 +12,7 @@ use Rattle.cl_shapes.specs.declared.name.CostName.TheVariants.{Deploy}
 use Rattle.cl_values.specs.Tree.{Tree as Val}
 use Rattle.cl_forms.specs.Forms.{Form}
 use Rattle.cl_forms.specs.Shapes.{trees_of}
-use Rattle.cl_rules.specs.NativeTypes.{is_int}
+use Rattle.cl_types.specs.TypeKinds.{is_int}
 use Rattle.cl_events.specs.State.{State}
 use Rattle.cl_meaning.specs.Answers.{charged, with_known}
 use Rattle.cl_meaning.specs.Deployed.{Contract, Deployed, Function, contract_at, function_in, function_of}
@@ -21,7 +21,7 @@ use Rattle.cl_meaning.specs.Top.{call_from}
 use Rattle.cl_meaning.specs.Meaning.{applied}
 use Rattle.cl_meaning.specs.Deploying.{all_defined, forms_by, in_order, deployment}
 use Rattle.cl_meaning.specs.Limits.{cost}
-use Rattle.cl_meaning.specs.Kept.{IsOf}
+use Rattle.cl_values.specs.Typed.{IsOf}
 use Rattle.cl_check.specs.declared.weight.Weight.{Weight}
 use Rattle.cl_check.specs.declared.scope.Callee.{Callee}
 use Rattle.cl_check.specs.Taken.{Definitions, callee_in, is_read_only, is_light, application, are_ints, names_of, weigh, body_of, no_definitions, IsTaken, Given as Gives}

@@ -18,7 +18,7 @@ use Rattle.cl_values.specs.Inhabits.{inhabits}
 use Rattle.cl_values.specs.Arithmetic.{of_kind, and_number, numbers_of, on_numbers, work_on, number_or_abort, from_left, subtracted}
 use Rattle.cl_values.specs.Natives.{native_value}
 use Rattle.cl_meaning.specs.Answers.{outcome_of}
-use Rattle.cl_meaning.specs.Kept.{IsOf}
+use Rattle.cl_values.specs.Typed.{IsOf}
 use Rattle.cl_sound.specs.Sound.{IsFine}
 
 -- ---- ints of 128 bits

@@ -17,7 +17,7 @@ use Rattle.cl_meaning.specs.Scope.{Frame}
 use Rattle.cl_meaning.specs.Top.{call_from}
 use Rattle.cl_meaning.specs.Deploying.{deployment}
 use Rattle.cl_meaning.specs.Limits.{Costs, cost, Within, Limited, Gave, Threw, AbortedBy, Passed, Lost, limit_on, limited}
-use Rattle.cl_meaning.specs.Kept.{IsOf}
+use Rattle.cl_values.specs.Typed.{IsOf}
 use Rattle.cl_check.specs.declared.scope.Callee.{Callee}
 use Rattle.cl_check.specs.Taken.{Definitions, callee_in, is_read_only, are_ints, IsTaken}
 use Rattle.cl_sound.specs.Sound.{Fit, Holds, Follows, IsArithmetic, IsSound}

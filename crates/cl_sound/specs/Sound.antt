@@ -11,7 +11,7 @@ use Rattle.cl_maps.specs.Maps.{get}
 use Rattle.cl_events.specs.State.{State, place}
 use Rattle.cl_meaning.specs.Answers.{Outcome, Given, Thrown, Aborted, Wrong, Deeper, Cause, ByArithmetic, ByPanic, BySupply, Answer}
 use Rattle.cl_meaning.specs.Limits.{cost}
-use Rattle.cl_meaning.specs.Kept.{IsOf}
+use Rattle.cl_values.specs.Typed.{IsOf}
 use Rattle.cl_check.specs.Taken.{Definitions, is_among}
 
 -- ---- values

@@ -7,46 +7,8 @@ use Rattle.std.proofs.lemmas.Bool.{and_parts, and_from, or_from, or_parts, false
 use Rattle.std.proofs.lemmas.Cmp.{nat_list_cmp_total}
 use Rattle.std.proofs.lemmas.List.Sorted.{ranks_by}
 use Rattle.cl_types.specs.Types.{PlainType, TupleType, Fields, NoField, Field}
-use Rattle.cl_types.specs.Sized.{has_key, is_among, differ, is_below, rises_from, rises, placed, in_order}
-
-keys_ordered : IsStrictWeakOrder is_below
-keys_ordered = ranks_by nat_list_cmp_total (λ (k : List ℕ). k)
-
-both_no : (b : Bool) → b ≡ true → b ≡ false → ⊥
-both_no b p q = true≢false (sym p ∙ q)
-
-never_below : (k : List ℕ) → is_below k k ≡ false
-never_below k = false_from_ne_true (is_below k k) (λ e. both_no (is_below k k) e (keys_ordered.one_way k k e))
-
-below_below : (i j k : List ℕ) → is_below i j ≡ true → is_below j k ≡ true → is_below i k ≡ true
-below_below i j k p q =
-    true_from_ne_false (is_below i k) (λ n. both_no (is_below i j) p (keys_ordered.chain i k j n (keys_ordered.one_way j k q)))
-
-below_differs : (k j : List ℕ) → is_below k j ≡ true → pointwise nat_eq k j ≡ false
-below_differs k j p =
-    false_from_ne_true (pointwise nat_eq k j) (λ e.
-    let same : k ≡ j = same_text k j (sym e) in
-    both_no (is_below k j) p (ap (λ (i : List ℕ). is_below k i) (sym same) ∙ never_below k))
-
-above_differs : (k j : List ℕ) → is_below j k ≡ true → pointwise nat_eq k j ≡ false
-above_differs k j p =
-    false_from_ne_true (pointwise nat_eq k j) (λ e.
-    let same : k ≡ j = same_text k j (sym e) in
-    both_no (is_below j k) p (ap (λ (i : List ℕ). is_below i k) (sym same) ∙ never_below k))
-
-neither : (o p : Ordering) → o ≡ ordering_reverse p → is_lt o ≡ false → is_lt p ≡ false → is_eq o ≡ true
-neither Less p e a b = absurd (true≢false a)
-neither Equal p e a b = refl
-neither Greater Less e a b = absurd (true≢false b)
-neither Greater Equal e a b = absurd cc
-neither Greater Greater e a b = absurd cc
-
--- of two keys that differ, one is below the other
-below_or_above : (k j : List ℕ) → pointwise nat_eq k j ≡ false → is_below j k ≡ false → is_below k j ≡ true
-below_or_above k j d n =
-    true_from_ne_false (is_below k j) (λ m.
-    let tie : is_eq (slice_cmp nat_cmp k j) ≡ true = neither (slice_cmp nat_cmp k j) (slice_cmp nat_cmp j k) (nat_list_cmp_total.antisymm k j) m n in
-    both_no (pointwise nat_eq k j) (texts_ties k j ∙ tie) d)
+use Rattle.cl_types.specs.Sized.{has_key, is_among, differ, is_below, rises_from, rises, fields_rise, placed, in_order}
+use Rattle.cl_types.proofs.KeyOrder.{both_no, keys_ordered, below_below, below_differs, above_differs, below_or_above}
 
 -- a key below the first of a rising row isn't in it
 not_among : (k i : List ℕ) (gs : Fields) → is_below k i ≡ true → rises_from i gs ≡ true → is_among k gs ≡ false
@@ -93,15 +55,10 @@ rises_back j k t (Field i v hs) f =
       | false ↦ λ e. and_from (is_below j k) (is_below k i && rises_from i hs) f.below (and_from (is_below k i) (rises_from i hs) (below_or_above k i other.0 e) up.1)
     ] refl
 
--- a row rises, where it has a field
-abbrev on : Fields → Bool
-on NoField = true
-on (Field k t fs) = rises_from k fs
-
-on_to : (k : List ℕ) (t : PlainType) (gs : Fields) → on (placed k t gs) ≡ true → (not (is_among k gs) && on gs) ≡ true
+on_to : (k : List ℕ) (t : PlainType) (gs : Fields) → fields_rise (placed k t gs) ≡ true → (not (is_among k gs) && fields_rise gs) ≡ true
 on_to k t NoField h = refl
 on_to k t (Field i v hs) h =
-    elim (is_below i k) as (λ b. is_below i k ≡ b → on (if b then Field i v (placed k t hs) else Field k t (Field i v hs)) ≡ true → (not (is_among k (Field i v hs)) && rises_from i hs) ≡ true) [
+    elim (is_below i k) as (λ b. is_below i k ≡ b → fields_rise (if b then Field i v (placed k t hs) else Field k t (Field i v hs)) ≡ true → (not (is_among k (Field i v hs)) && rises_from i hs) ≡ true) [
       | true ↦ λ e g.
           let more : Fits i k hs = rises_to i k t hs g in
           and_from (not (is_among k (Field i v hs))) (rises_from i hs) (not_from_false (is_among k (Field i v hs)) (or_from (pointwise nat_eq k i) (is_among k hs) (above_differs k i e) more.new)) more.rest
@@ -110,12 +67,12 @@ on_to k t (Field i v hs) h =
           and_from (not (is_among k (Field i v hs))) (rises_from i hs) (not_from_false (is_among k (Field i v hs)) (or_from (pointwise nat_eq k i) (is_among k hs) (below_differs k i up.0) (not_among k i hs up.0 up.1))) up.1
     ] refl h
 
-on_back : (k : List ℕ) (t : PlainType) (gs : Fields) → (not (is_among k gs) && on gs) ≡ true → on (placed k t gs) ≡ true
+on_back : (k : List ℕ) (t : PlainType) (gs : Fields) → (not (is_among k gs) && fields_rise gs) ≡ true → fields_rise (placed k t gs) ≡ true
 on_back k t NoField h = refl
 on_back k t (Field i v hs) h =
     let parts = and_parts (not (is_among k (Field i v hs))) (rises_from i hs) h in
     let other = or_parts (pointwise nat_eq k i) (is_among k hs) (not-true (is_among k (Field i v hs)) parts.0) in
-    elim (is_below i k) as (λ b. is_below i k ≡ b → on (if b then Field i v (placed k t hs) else Field k t (Field i v hs)) ≡ true) [
+    elim (is_below i k) as (λ b. is_below i k ≡ b → fields_rise (if b then Field i v (placed k t hs) else Field k t (Field i v hs)) ≡ true) [
       | true ↦ λ e. rises_back i k t hs (record { below = e; new = other.1; rest = parts.1 })
       | false ↦ λ e. and_from (is_below k i) (rises_from i hs) (below_or_above k i other.0 e) parts.1
     ] refl
@@ -139,16 +96,16 @@ among_ordered q NoField = refl
 among_ordered q (Field k t fs) =
     among_placed q k t (in_order fs) ∙ ap (λ (b : Bool). pointwise nat_eq q k || b) (among_ordered q fs)
 
-on_differ : (fs : Fields) → on (in_order fs) ≡ differ fs
+on_differ : (fs : Fields) → fields_rise (in_order fs) ≡ differ fs
 on_differ NoField = refl
 on_differ (Field k t fs) =
-    both_ways (on (placed k t (in_order fs))) (not (is_among k (in_order fs)) && on (in_order fs)) (on_to k t (in_order fs)) (on_back k t (in_order fs))
+    both_ways (fields_rise (placed k t (in_order fs))) (not (is_among k (in_order fs)) && fields_rise (in_order fs)) (on_to k t (in_order fs)) (on_back k t (in_order fs))
     ∙ (λ i. not (among_ordered k fs i) && on_differ fs i)
 
-rises_on : (k : List ℕ) (t : PlainType) (gs : Fields) → rises (placed k t gs) ≡ on (placed k t gs)
+rises_on : (k : List ℕ) (t : PlainType) (gs : Fields) → rises (placed k t gs) ≡ fields_rise (placed k t gs)
 rises_on k t NoField = refl
 rises_on k t (Field i v hs) =
-    elim (is_below i k) as (λ b. rises (if b then Field i v (placed k t hs) else Field k t (Field i v hs)) ≡ on (if b then Field i v (placed k t hs) else Field k t (Field i v hs))) [
+    elim (is_below i k) as (λ b. rises (if b then Field i v (placed k t hs) else Field k t (Field i v hs)) ≡ fields_rise (if b then Field i v (placed k t hs) else Field k t (Field i v hs))) [
       | true ↦ refl
       | false ↦ refl
     ]
@@ -158,7 +115,7 @@ rises_differ NoField h = absurd (true≢false (sym h))
 rises_differ (Field k t fs) h = rises_on k t (in_order fs) ∙ on_differ (Field k t fs)
 
 -- a row that rises is in order
-pub ordered_again : (fs : Fields) → on fs ≡ true → in_order fs ≡ fs
+pub ordered_again : (fs : Fields) → fields_rise fs ≡ true → in_order fs ≡ fs
 ordered_again NoField h = refl
 ordered_again (Field k t NoField) h = refl
 ordered_again (Field k t (Field j u fs)) h =
@@ -174,4 +131,29 @@ rising_again (Field k t fs) h = ordered_again (Field k t fs) h
 -- of keys that rise, none stands twice
 pub rising_differ : (fs : Fields) → rises fs ≡ true → differ fs ≡ true
 rising_differ NoField h = absurd (true≢false (sym h))
-rising_differ (Field k t fs) h = sym (on_differ (Field k t fs)) ∙ ap on (ordered_again (Field k t fs) h) ∙ h
+rising_differ (Field k t fs) h = sym (on_differ (Field k t fs)) ∙ ap fields_rise (ordered_again (Field k t fs) h) ∙ h
+
+-- ---- what rises stays so
+
+pub rising_fields : (fs : Fields) → rises fs ≡ true → fields_rise fs ≡ true
+rising_fields NoField h = refl
+rising_fields (Field k t fs) h = h
+
+-- fields above a key rise, and it isn't among them
+pub rise_above : (k : List ℕ) (fs : Fields) → rises_from k fs ≡ true → fields_rise fs ≡ true
+rise_above k NoField h = refl
+rise_above k (Field j t fs) h = (and_parts (is_below k j) (rises_from j fs) h).1
+
+pub absent_above : (k : List ℕ) (fs : Fields) → rises_from k fs ≡ true → is_among k fs ≡ false
+absent_above k NoField h = refl
+absent_above k (Field j t fs) h =
+    let both = and_parts (is_below k j) (rises_from j fs) h in
+    or_from (pointwise nat_eq k j) (is_among k fs) (below_differs k j both.0) (not_among k j fs both.0 both.1)
+
+-- another key isn't among fields where it wasn't
+pub absent_placed : (q k : List ℕ) (t : PlainType) (fs : Fields) → pointwise nat_eq q k ≡ false → is_among q fs ≡ false → is_among q (placed k t fs) ≡ false
+absent_placed q k t fs d n = among_placed q k t fs ∙ or_from (pointwise nat_eq q k) (is_among q fs) d n
+
+-- fields rise with a key more that wasn't among them
+pub placed_rises : (k : List ℕ) (t : PlainType) (fs : Fields) → is_among k fs ≡ false → fields_rise fs ≡ true → rises (placed k t fs) ≡ true
+placed_rises k t fs n h = rises_on k t fs ∙ on_back k t fs (and_from (not (is_among k fs)) (fields_rise fs) (not_from_false (is_among k fs) n) h)

@@ -62,6 +62,11 @@ abbrev pub rises : Fields → Bool
 rises NoField = false
 rises (Field k t fs) = rises_from k fs
 
+-- the same of fields, which may be none
+abbrev pub fields_rise : Fields → Bool
+fields_rise NoField = true
+fields_rise (Field k t fs) = rises_from k fs
+
 -- the keys of a tuple rise
 abbrev pub keys_rise : PlainType → Bool
 keys_rise (TupleType fs) = rises fs

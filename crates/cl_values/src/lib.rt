@@ -23,8 +23,9 @@ pub use examples::natives_by_example;
 pub use fault::DecodeRefusal;
 pub use inhabitants::inhabits;
 pub use laws::{
-    admission_keeps_values, items_and_values, no_type_has_none, one_spelling, read_back,
-    reads_only_spellings, size_is_greatest, size_is_length,
+    admission_keeps_values, depth_is_greatest, digests_have_lengths, items_and_values,
+    no_type_has_none, one_spelling, parts_are_values, read_back, reads_only_spellings,
+    sequences_have_entries, size_is_greatest, size_is_length, types_keep_limits,
 };
 pub use native::Native;
 pub use prefix::prefix_of;

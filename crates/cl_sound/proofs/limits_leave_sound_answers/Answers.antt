@@ -1,4 +1,4 @@
-use Rattle.cl_meaning.specs.Kept.{IsOf}
+use Rattle.cl_values.specs.Typed.{IsOf}
 use Rattle.cl_sound.specs.Sound.{Follows}
 use Rattle.cl_sound.proofs.UnderLimits.{fine_under, enough, deployed_under, deployed_within}
 use Rattle.cl_sound.proofs.limits_leave_sound_answers.Goals as goal
