@@ -1,10 +1,10 @@
--- Each native is found under its name, and under no other.
-use Rattle.std.proofs.Common.{◌≡◌, ℕ, Bool, true, false, List, [], ◌∷◌, Some, refl, sym, ap, ◌∙◌}
+-- Each native is found under its name, and under no other; each row that is found is that of its head.
+use Rattle.std.proofs.Common.{◌≡◌, ℕ, Bool, true, false, List, [], ◌∷◌, Option, Some, None, refl, sym, ap, ◌∙◌, subst}
 use Rattle.std.specs.Prelude.{map, if◌then◌else◌}
 use Rattle.std.specs.Str.{bytes_eq}
 use Rattle.std.proofs.lemmas.Option.{none-some}
 use Rattle.std.proofs.lemmas.Slice.Eq.{bytes_eq-Decides}
-use Rattle.cl_forms.specs.Heads.{Add, Subtract, Multiply, Divide, Modulo, Power, Xor, SquareRoot, Log2, ToInt, ToUint, Not, Less, AtMost, Greater, AtLeast, Same, Sha256, Sha512Of256, Sha512, MakeSome, MakeOk, MakeErr, IsSome, IsNone, IsOk, IsErr, DefaultTo, UnwrapPanic, UnwrapErrPanic, MakeList, Merge, Append, Concat, Len, ElementAt, IndexOf, MintFt, BurnFt, SendFt, MintNft, BurnNft, SendNft, SendStx, BurnStx, Head, OnValues, OnToken, TupleOf, AsMaxLen, Get, VarGet, VarSet, MapGet, MapSet, MapInsert, MapDelete, FtBalance, FtSupply, StxBalance, NftOwner, Print, If, Let, Begin, And, Or, Asserts, Unwrap, UnwrapErr, Try, Match, AsContract, Map, Filter, Fold, ContractCall, Row, table, row_in, native}
+use Rattle.cl_forms.specs.Heads.{Add, Subtract, Multiply, Divide, Modulo, Power, Xor, SquareRoot, Log2, ToInt, ToUint, Not, Less, AtMost, Greater, AtLeast, Same, Sha256, Sha512Of256, Sha512, MakeSome, MakeOk, MakeErr, IsSome, IsNone, IsOk, IsErr, DefaultTo, UnwrapPanic, UnwrapErrPanic, MakeList, Merge, Append, Concat, Len, ElementAt, IndexOf, MintFt, BurnFt, SendFt, MintNft, BurnNft, SendNft, SendStx, BurnStx, Head, OnValues, OnToken, TupleOf, AsMaxLen, Get, VarGet, VarSet, MapGet, MapSet, MapInsert, MapDelete, FtBalance, FtSupply, StxBalance, NftOwner, Print, If, Let, Begin, And, Or, Asserts, Unwrap, UnwrapErr, Try, Match, AsContract, Map, Filter, Fold, ContractCall, Row, row_of, table, row_in, native}
 use Rattle.cl_forms.specs.HeadNames.{name_of, head_of_row, head_of}
 
 pub found_by_name : (h : Head) → head_of (name_of h) ≡ Some h
@@ -84,27 +84,37 @@ found_by_name Filter = refl
 found_by_name Fold = refl
 found_by_name ContractCall = refl
 
--- the names that the natives of rows have, and those that stand in the rows
-abbrev own_names : List Row → List (List ℕ)
-own_names rows = map (λ row. name_of row.head) rows
+-- rows that are those of their heads
+abbrev own_rows : List Row → List Row
+own_rows rows = map (λ row. row_of row.head) rows
 
-abbrev written_names : List Row → List (List ℕ)
-written_names rows = map (λ row. row.name) rows
+some_row : (r row : Row) → Some r ≡ Some row → r ≡ row
+some_row r row e = cc
 
-some_same : (h g : Head) → Some h ≡ Some g → h ≡ g
-some_same h g e = cc
+row_or : (r : Row) (rows : List Row) → row_of r.head ≡ r → (name : List ℕ) (row : Row) → (row_in rows name ≡ Some row → (row ≡ row_of row.head) × (name ≡ row.name)) → (b : Bool) → bytes_eq r.name name ≡ b → (if b then Some r else row_in rows name) ≡ Some row → (row ≡ row_of row.head) × (name ≡ row.name)
+row_or r rows own name row later true same found =
+    subst (λ (q : Row). (q ≡ row_of q.head) × (name ≡ q.name)) (some_row r row found) (sym own, sym ((bytes_eq-Decides r.name name).0 same))
+row_or r rows own name row later false same found = later found
 
-row_or : (row : Row) (rows : List Row) → name_of row.head ≡ row.name → (name : List ℕ) (h : Head) → (head_of_row (row_in rows name) ≡ Some h → name ≡ name_of h) → (b : Bool) → bytes_eq row.name name ≡ b → head_of_row (if b then Some row else row_in rows name) ≡ Some h → name ≡ name_of h
-row_or row rows own name h later true same found = sym ((bytes_eq-Decides row.name name).0 same) ∙ (sym own ∙ ap name_of (some_same row.head h found))
-row_or row rows own name h later false same found = later found
+row_found : (rows : List Row) → own_rows rows ≡ rows → (name : List ℕ) (row : Row) → row_in rows name ≡ Some row → (row ≡ row_of row.head) × (name ≡ row.name)
+row_found [] own name row found = absurd (none-some row found)
+row_found (r ∷ rows) own name row found =
+    let first : row_of r.head ≡ r = cc in
+    let rest : own_rows rows ≡ rows = cc in
+    row_or r rows first name row (row_found rows rest name row) (bytes_eq r.name name) refl found
 
-row_named : (rows : List Row) → own_names rows ≡ written_names rows → (name : List ℕ) (h : Head) → head_of_row (row_in rows name) ≡ Some h → name ≡ name_of h
-row_named [] own name h found = absurd (none-some h found)
-row_named (row ∷ rows) own name h found =
-    let first : name_of row.head ≡ row.name = cc in
-    let rest : own_names rows ≡ written_names rows = cc in
-    row_or row rows first name h (row_named rows rest name h) (bytes_eq row.name name) refl found
+-- a row that is found by a name is that of its head, and has that name
+pub is_row : (name : List ℕ) (row : Row) → native name ≡ Some row → row ≡ row_of row.head
+unfolding native
+is_row name row found = (row_found table refl name row found).0
+
+is_named : (name : List ℕ) (o : Option Row) (h : Head) → ((row : Row) → o ≡ Some row → (row ≡ row_of row.head) × (name ≡ row.name)) → head_of_row o ≡ Some h → name ≡ name_of h
+is_named name None h rows found = absurd (none-some h found)
+is_named name (Some row) h rows found =
+    let same : row.head ≡ h = cc in
+    let both = rows row refl in
+    both.1 ∙ (ap (λ (r : Row). r.name) both.0 ∙ ap name_of same)
 
 pub named_alone : (name : List ℕ) (h : Head) → head_of name ≡ Some h → name ≡ name_of h
 unfolding native
-named_alone name h found = row_named table refl name h found
+named_alone name h found = is_named name (row_in table name) h (row_found table refl name) found

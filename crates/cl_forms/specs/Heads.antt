@@ -48,83 +48,100 @@ first name head arity cost = record { name = name; head = head; arity = arity; c
 abbrev pub first_starred : List ℕ → Head → Arity → CostName → Row
 first_starred name head arity cost = record { name = name; head = head; arity = arity; cost = cost; special = true; by_name = true }
 
+-- the row of each native
+abbrev pub row_of : Head → Row
+row_of (OnValues Add) = starred (codes "+") (OnValues Add) (OrMore 1) Arith
+row_of (OnValues Subtract) = starred (codes "-") (OnValues Subtract) (OrMore 1) Arith
+row_of (OnValues Multiply) = starred (codes "*") (OnValues Multiply) (OrMore 1) Arith
+row_of (OnValues Divide) = starred (codes "/") (OnValues Divide) (OrMore 1) Arith
+row_of (OnValues Modulo) = starred (codes "mod") (OnValues Modulo) (Exact 2) Arith
+row_of (OnValues Power) = starred (codes "pow") (OnValues Power) (Exact 2) Arith
+row_of (OnValues Xor) = starred (codes "xor") (OnValues Xor) (Exact 2) Arith
+row_of (OnValues SquareRoot) = starred (codes "sqrti") (OnValues SquareRoot) (Exact 1) Arith
+row_of (OnValues Log2) = starred (codes "log2") (OnValues Log2) (Exact 1) Arith
+row_of (OnValues ToInt) = starred (codes "to-int") (OnValues ToInt) (Exact 1) Arith
+row_of (OnValues ToUint) = starred (codes "to-uint") (OnValues ToUint) (Exact 1) Arith
+row_of (OnValues Not) = starred (codes "not") (OnValues Not) (Exact 1) Arith
+row_of (OnValues Less) = starred (codes "<") (OnValues Less) (Exact 2) Compare
+row_of (OnValues AtMost) = starred (codes "<=") (OnValues AtMost) (Exact 2) Compare
+row_of (OnValues Greater) = starred (codes ">") (OnValues Greater) (Exact 2) Compare
+row_of (OnValues AtLeast) = starred (codes ">=") (OnValues AtLeast) (Exact 2) Compare
+row_of (OnValues Same) = starred (codes "is-eq") (OnValues Same) (OrMore 1) Compare
+row_of (OnValues Sha256) = starred (codes "sha256") (OnValues Sha256) (Exact 1) Hash
+row_of (OnValues Sha512Of256) = starred (codes "sha512/256") (OnValues Sha512Of256) (Exact 1) Hash
+row_of (OnValues Sha512) = starred (codes "sha512") (OnValues Sha512) (Exact 1) Hash
+row_of (OnValues MakeSome) = starred (codes "some") (OnValues MakeSome) (Exact 1) Wrap
+row_of (OnValues MakeOk) = starred (codes "ok") (OnValues MakeOk) (Exact 1) Wrap
+row_of (OnValues MakeErr) = starred (codes "err") (OnValues MakeErr) (Exact 1) Wrap
+row_of (OnValues IsSome) = starred (codes "is-some") (OnValues IsSome) (Exact 1) Wrap
+row_of (OnValues IsNone) = starred (codes "is-none") (OnValues IsNone) (Exact 1) Wrap
+row_of (OnValues IsOk) = starred (codes "is-ok") (OnValues IsOk) (Exact 1) Wrap
+row_of (OnValues IsErr) = starred (codes "is-err") (OnValues IsErr) (Exact 1) Wrap
+row_of (OnValues DefaultTo) = plain (codes "default-to") (OnValues DefaultTo) (Exact 2) Wrap
+row_of (OnValues UnwrapPanic) = plain (codes "unwrap-panic") (OnValues UnwrapPanic) (Exact 1) Wrap
+row_of (OnValues UnwrapErrPanic) = plain (codes "unwrap-err-panic") (OnValues UnwrapErrPanic) (Exact 1) Wrap
+row_of (OnValues MakeList) = plain (codes "list") (OnValues MakeList) (OrMore 0) Make
+row_of TupleOf = plain (codes "tuple") TupleOf (OrMore 1) Make
+row_of (OnValues Merge) = plain (codes "merge") (OnValues Merge) (Exact 2) Make
+row_of (OnValues Append) = plain (codes "append") (OnValues Append) (Exact 2) Make
+row_of (OnValues Concat) = plain (codes "concat") (OnValues Concat) (Exact 2) Make
+row_of AsMaxLen = plain (codes "as-max-len?") AsMaxLen (Exact 2) Make
+row_of Get = plain (codes "get") Get (Exact 2) TakeCost
+row_of (OnValues Len) = starred (codes "len") (OnValues Len) (Exact 1) Scan
+row_of (OnValues ElementAt) = plain (codes "element-at") (OnValues ElementAt) (Exact 2) Scan
+row_of (OnValues IndexOf) = plain (codes "index-of") (OnValues IndexOf) (Exact 2) Scan
+row_of VarGet = plain (codes "var-get") VarGet (Exact 1) ReadVar
+row_of VarSet = plain (codes "var-set") VarSet (Exact 2) WriteVar
+row_of MapGet = plain (codes "map-get?") MapGet (Exact 2) ReadMap
+row_of MapSet = plain (codes "map-set") MapSet (Exact 3) WriteMap
+row_of MapInsert = plain (codes "map-insert") MapInsert (Exact 3) WriteMap
+row_of MapDelete = plain (codes "map-delete") MapDelete (Exact 2) WriteMap
+row_of FtBalance = plain (codes "ft-get-balance") FtBalance (Exact 2) ReadToken
+row_of FtSupply = plain (codes "ft-get-supply") FtSupply (Exact 1) ReadToken
+row_of StxBalance = plain (codes "stx-get-balance") StxBalance (Exact 1) ReadToken
+row_of NftOwner = plain (codes "nft-get-owner?") NftOwner (Exact 2) ReadToken
+row_of (OnToken MintFt) = plain (codes "ft-mint?") (OnToken MintFt) (Exact 3) WriteToken
+row_of (OnToken BurnFt) = plain (codes "ft-burn?") (OnToken BurnFt) (Exact 3) WriteToken
+row_of (OnToken SendFt) = plain (codes "ft-transfer?") (OnToken SendFt) (Exact 4) WriteToken
+row_of (OnToken MintNft) = plain (codes "nft-mint?") (OnToken MintNft) (Exact 3) WriteToken
+row_of (OnToken BurnNft) = plain (codes "nft-burn?") (OnToken BurnNft) (Exact 3) WriteToken
+row_of (OnToken SendNft) = plain (codes "nft-transfer?") (OnToken SendNft) (Exact 4) WriteToken
+row_of (OnToken SendStx) = plain (codes "stx-transfer?") (OnToken SendStx) (Exact 3) WriteToken
+row_of (OnToken BurnStx) = plain (codes "stx-burn?") (OnToken BurnStx) (Exact 2) WriteToken
+row_of Print = plain (codes "print") Print (Exact 1) EventCost
+row_of If = first (codes "if") If (Exact 3) Control
+row_of Let = first (codes "let") Let (OrMore 2) Control
+row_of Begin = first (codes "begin") Begin (OrMore 1) Control
+row_of And = first_starred (codes "and") And (OrMore 1) Control
+row_of Or = first_starred (codes "or") Or (OrMore 1) Control
+row_of Asserts = first (codes "asserts!") Asserts (Exact 2) Control
+row_of Unwrap = first (codes "unwrap!") Unwrap (Exact 2) Control
+row_of UnwrapErr = first (codes "unwrap-err!") UnwrapErr (Exact 2) Control
+row_of Try = first (codes "try!") Try (Exact 1) Control
+row_of Match = first (codes "match") Match (Either 4 5) Control
+row_of AsContract = first (codes "as-contract") AsContract (Exact 1) Control
+row_of Map = plain (codes "map") Map (OrMore 2) Iterate
+row_of Filter = plain (codes "filter") Filter (Exact 2) Iterate
+row_of Fold = plain (codes "fold") Fold (Exact 3) Iterate
+row_of ContractCall = plain (codes "contract-call?") ContractCall (OrMore 2) ContractCallCost
+
+abbrev pub heads : List Head
+heads =
+    OnValues Add ∷ OnValues Subtract ∷ OnValues Multiply ∷ OnValues Divide ∷ OnValues Modulo ∷ OnValues Power ∷
+    OnValues Xor ∷ OnValues SquareRoot ∷ OnValues Log2 ∷ OnValues ToInt ∷ OnValues ToUint ∷ OnValues Not ∷
+    OnValues Less ∷ OnValues AtMost ∷ OnValues Greater ∷ OnValues AtLeast ∷ OnValues Same ∷ OnValues Sha256 ∷
+    OnValues Sha512Of256 ∷ OnValues Sha512 ∷ OnValues MakeSome ∷ OnValues MakeOk ∷ OnValues MakeErr ∷ OnValues IsSome ∷
+    OnValues IsNone ∷ OnValues IsOk ∷ OnValues IsErr ∷ OnValues DefaultTo ∷ OnValues UnwrapPanic ∷
+    OnValues UnwrapErrPanic ∷ OnValues MakeList ∷ TupleOf ∷ OnValues Merge ∷ OnValues Append ∷ OnValues Concat ∷
+    AsMaxLen ∷ Get ∷ OnValues Len ∷ OnValues ElementAt ∷ OnValues IndexOf ∷ VarGet ∷ VarSet ∷ MapGet ∷ MapSet ∷
+    MapInsert ∷ MapDelete ∷ FtBalance ∷ FtSupply ∷ StxBalance ∷ NftOwner ∷ OnToken MintFt ∷ OnToken BurnFt ∷
+    OnToken SendFt ∷ OnToken MintNft ∷ OnToken BurnNft ∷ OnToken SendNft ∷ OnToken SendStx ∷ OnToken BurnStx ∷ Print ∷
+    If ∷ Let ∷ Begin ∷ And ∷ Or ∷ Asserts ∷ Unwrap ∷ UnwrapErr ∷ Try ∷ Match ∷ AsContract ∷ Map ∷ Filter ∷ Fold ∷
+    ContractCall ∷ []
+
+-- the rows, in the order of the documents of the language
 abbrev pub table : List Row
-table =
-    starred (codes "+") (OnValues Add) (OrMore 1) Arith
-    ∷ starred (codes "-") (OnValues Subtract) (OrMore 1) Arith
-    ∷ starred (codes "*") (OnValues Multiply) (OrMore 1) Arith
-    ∷ starred (codes "/") (OnValues Divide) (OrMore 1) Arith
-    ∷ starred (codes "mod") (OnValues Modulo) (Exact 2) Arith
-    ∷ starred (codes "pow") (OnValues Power) (Exact 2) Arith
-    ∷ starred (codes "xor") (OnValues Xor) (Exact 2) Arith
-    ∷ starred (codes "sqrti") (OnValues SquareRoot) (Exact 1) Arith
-    ∷ starred (codes "log2") (OnValues Log2) (Exact 1) Arith
-    ∷ starred (codes "to-int") (OnValues ToInt) (Exact 1) Arith
-    ∷ starred (codes "to-uint") (OnValues ToUint) (Exact 1) Arith
-    ∷ starred (codes "not") (OnValues Not) (Exact 1) Arith
-    ∷ starred (codes "<") (OnValues Less) (Exact 2) Compare
-    ∷ starred (codes "<=") (OnValues AtMost) (Exact 2) Compare
-    ∷ starred (codes ">") (OnValues Greater) (Exact 2) Compare
-    ∷ starred (codes ">=") (OnValues AtLeast) (Exact 2) Compare
-    ∷ starred (codes "is-eq") (OnValues Same) (OrMore 1) Compare
-    ∷ starred (codes "sha256") (OnValues Sha256) (Exact 1) Hash
-    ∷ starred (codes "sha512/256") (OnValues Sha512Of256) (Exact 1) Hash
-    ∷ starred (codes "sha512") (OnValues Sha512) (Exact 1) Hash
-    ∷ starred (codes "some") (OnValues MakeSome) (Exact 1) Wrap
-    ∷ starred (codes "ok") (OnValues MakeOk) (Exact 1) Wrap
-    ∷ starred (codes "err") (OnValues MakeErr) (Exact 1) Wrap
-    ∷ starred (codes "is-some") (OnValues IsSome) (Exact 1) Wrap
-    ∷ starred (codes "is-none") (OnValues IsNone) (Exact 1) Wrap
-    ∷ starred (codes "is-ok") (OnValues IsOk) (Exact 1) Wrap
-    ∷ starred (codes "is-err") (OnValues IsErr) (Exact 1) Wrap
-    ∷ plain (codes "default-to") (OnValues DefaultTo) (Exact 2) Wrap
-    ∷ plain (codes "unwrap-panic") (OnValues UnwrapPanic) (Exact 1) Wrap
-    ∷ plain (codes "unwrap-err-panic") (OnValues UnwrapErrPanic) (Exact 1) Wrap
-    ∷ plain (codes "list") (OnValues MakeList) (OrMore 0) Make
-    ∷ plain (codes "tuple") TupleOf (OrMore 1) Make
-    ∷ plain (codes "merge") (OnValues Merge) (Exact 2) Make
-    ∷ plain (codes "append") (OnValues Append) (Exact 2) Make
-    ∷ plain (codes "concat") (OnValues Concat) (Exact 2) Make
-    ∷ plain (codes "as-max-len?") AsMaxLen (Exact 2) Make
-    ∷ plain (codes "get") Get (Exact 2) TakeCost
-    ∷ starred (codes "len") (OnValues Len) (Exact 1) Scan
-    ∷ plain (codes "element-at") (OnValues ElementAt) (Exact 2) Scan
-    ∷ plain (codes "index-of") (OnValues IndexOf) (Exact 2) Scan
-    ∷ plain (codes "var-get") VarGet (Exact 1) ReadVar
-    ∷ plain (codes "var-set") VarSet (Exact 2) WriteVar
-    ∷ plain (codes "map-get?") MapGet (Exact 2) ReadMap
-    ∷ plain (codes "map-set") MapSet (Exact 3) WriteMap
-    ∷ plain (codes "map-insert") MapInsert (Exact 3) WriteMap
-    ∷ plain (codes "map-delete") MapDelete (Exact 2) WriteMap
-    ∷ plain (codes "ft-get-balance") FtBalance (Exact 2) ReadToken
-    ∷ plain (codes "ft-get-supply") FtSupply (Exact 1) ReadToken
-    ∷ plain (codes "stx-get-balance") StxBalance (Exact 1) ReadToken
-    ∷ plain (codes "nft-get-owner?") NftOwner (Exact 2) ReadToken
-    ∷ plain (codes "ft-mint?") (OnToken MintFt) (Exact 3) WriteToken
-    ∷ plain (codes "ft-burn?") (OnToken BurnFt) (Exact 3) WriteToken
-    ∷ plain (codes "ft-transfer?") (OnToken SendFt) (Exact 4) WriteToken
-    ∷ plain (codes "nft-mint?") (OnToken MintNft) (Exact 3) WriteToken
-    ∷ plain (codes "nft-burn?") (OnToken BurnNft) (Exact 3) WriteToken
-    ∷ plain (codes "nft-transfer?") (OnToken SendNft) (Exact 4) WriteToken
-    ∷ plain (codes "stx-transfer?") (OnToken SendStx) (Exact 3) WriteToken
-    ∷ plain (codes "stx-burn?") (OnToken BurnStx) (Exact 2) WriteToken
-    ∷ plain (codes "print") Print (Exact 1) EventCost
-    ∷ first (codes "if") If (Exact 3) Control
-    ∷ first (codes "let") Let (OrMore 2) Control
-    ∷ first (codes "begin") Begin (OrMore 1) Control
-    ∷ first_starred (codes "and") And (OrMore 1) Control
-    ∷ first_starred (codes "or") Or (OrMore 1) Control
-    ∷ first (codes "asserts!") Asserts (Exact 2) Control
-    ∷ first (codes "unwrap!") Unwrap (Exact 2) Control
-    ∷ first (codes "unwrap-err!") UnwrapErr (Exact 2) Control
-    ∷ first (codes "try!") Try (Exact 1) Control
-    ∷ first (codes "match") Match (Either 4 5) Control
-    ∷ first (codes "as-contract") AsContract (Exact 1) Control
-    ∷ plain (codes "map") Map (OrMore 2) Iterate
-    ∷ plain (codes "filter") Filter (Exact 2) Iterate
-    ∷ plain (codes "fold") Fold (Exact 3) Iterate
-    ∷ plain (codes "contract-call?") ContractCall (OrMore 2) ContractCallCost
-    ∷ []
+table = map row_of heads
 
 -- the first row of a name
 abbrev pub row_in : List Row → List ℕ → Option Row
