@@ -1,7 +1,7 @@
 -- Natives on values alone, tuples, parts of tuples, and sequences within a length. Each is charged after its arguments.
 use Rattle.std.specs.Prelude.{ℕ, List, [], ◌∷◌, length, map, zip}
 use Rattle.cl_shapes.specs.declared.name.CostName.{CostName}
-use Rattle.cl_shapes.specs.declared.name.CostName.TheVariants.{Arith, Make, Take as TakeCost}
+use Rattle.cl_shapes.specs.declared.name.CostName.TheVariants.{Arith, Control, Make, Take as TakeCost}
 use Rattle.cl_sexpr.specs.Tree.{Tree, LeafAt, Named, Unsigned}
 use Rattle.cl_values.specs.declared.native.Native.{Native}
 use Rattle.cl_values.specs.Tree.{Tree as Val, TupleV}
@@ -14,9 +14,10 @@ use Rattle.cl_events.specs.State.{State}
 use Rattle.cl_meaning.specs.Answers.{Answer, stop, give, wrong, charged, and_then, outcome_of}
 use Rattle.cl_meaning.specs.Scope.{Scope, Take, parts, sizes}
 
--- what a native on values is charged at: arithmetic by the number of its arguments, all else by the sum of their sizes
+-- what a native on values is charged at: arithmetic and control by the number of its arguments, all else by the sum of their sizes
 abbrev pub number_of : CostName → List Val → ℕ
 number_of Arith vs = length vs
+number_of Control vs = length vs
 number_of cost vs = sizes vs
 
 -- a native on these values, charged as its row says
