@@ -1,0 +1,13 @@
+pub mod Rulings
+pub mod Coming
+pub mod Supertypes
+pub mod Limits
+pub mod Numbers
+pub mod NumberRows
+pub mod ValueRows
+pub mod EntryRows
+pub mod Tuples
+pub mod EachNative
+pub mod OtherForms
+pub mod Charges
+pub mod ValuesFit
