@@ -1,11 +1,9 @@
 -- The rows of numbers: what natives on one or more numbers of one kind come to.
 use Rattle.std.proofs.Common.{◌≡◌, ℕ, suc, ◌<◌, ◌^◌, Bool, true, false, inl, inr, List, [], ◌∷◌, length, Option, Some, refl, sym, ap, subst, arith}
-use Rattle.std.specs.Prelude.{ℤ, pos, negsuc, FitsSigned, bit_xor}
-use Rattle.std.specs.Int.{w128, cast_unsigned}
+use Rattle.std.specs.Prelude.{ℤ, FitsSigned}
+use Rattle.std.specs.Int.{w128}
 use Rattle.std.specs.List.{list_all}
 use Rattle.std.proofs.lemmas.Bool.{and_parts, or_cases}
-use Rattle.std.proofs.lemmas.Nat.{xor_lt}
-use Rattle.std.proofs.Math.Facts.{sfits_to_z, Fits-of_lt}
 use Rattle.cl_types.specs.Types.{PlainType, IntType, UintType, BoolType}
 use Rattle.cl_types.specs.TypeKinds.{is_int, is_uint, are_numbers}
 use Rattle.cl_types.proofs.OfKind.{int_type, uint_type}

@@ -1,14 +1,11 @@
 -- Numbers of one kind, and what operations on them come to.
-use Rattle.std.proofs.Common.{◌≡◌, ℕ, suc, ◌-◌, ◌<◌, ◌≤◌, ◌^◌, Bool, true, false, List, [], ◌∷◌, length, Result, Ok, Err, refl, subst, ◌∙◌, arith}
-use Rattle.std.specs.Prelude.{ℤ, pos, negsuc, int_lt, nat_lt, if◌then◌else◌, FitsSigned}
-use Rattle.std.specs.Int.{w128}
-use Rattle.std.proofs.lemmas.Bool.{ltb-false}
+use Rattle.std.proofs.Common.{◌≡◌, ℕ, suc, Bool, true, false, List, [], ◌∷◌, length, Result, Ok, Err, refl, subst, ◌∙◌, arith}
+use Rattle.std.specs.Prelude.{ℤ}
 use Rattle.cl_types.specs.Types.{PlainType, IntType, UintType, BoolType}
 use Rattle.cl_arith.specs.declared.Num.{Num}
 use Rattle.cl_arith.specs.declared.Num.TheVariants.{Int, Uint}
 use Rattle.cl_arith.specs.declared.ArithRefusal.{ArithRefusal}
-use Rattle.cl_arith.specs.declared.ArithRefusal.TheVariants.{Overflow, Underflow}
-use Rattle.cl_arith.specs.Numbers.{Kind, IntKind, UintKind, kind_of, whole, in_range, int_number, uint_number}
+use Rattle.cl_arith.specs.Numbers.{Kind, IntKind, UintKind, kind_of, whole}
 use Rattle.cl_arith.specs.Ranges.{IsNumber, IsInRange}
 use Rattle.cl_arith.specs.Operations.{Operation, difference, tested, computed}
 use Rattle.cl_arith.proofs.Ranges.{its_kind, tested_fits}

@@ -9,7 +9,7 @@ use Rattle.cl_types.specs.Types.{PlainType, TupleType, OptionalType, Fields, NoF
 use Rattle.cl_types.specs.Sized.{is_below, is_among, rises_from as keys_from, rises as keys_rise, placed, fields_rise}
 use Rattle.cl_types.proofs.Lattice.{key_same}
 use Rattle.cl_types.proofs.Rising.{rising_fields, rise_above, absent_above, absent_placed, placed_rises}
-use Rattle.cl_values.specs.Tree.{Tree, TupleV, SomeV, Entries, NoEntry, Entry, NoneV}
+use Rattle.cl_values.specs.Tree.{Tree, TupleV, SomeV, Entries, NoEntry, Entry}
 use Rattle.cl_values.specs.Valid.{IsVal, EntriesInRange, has_rising_keys, has_good_texts, entries_have_rising_keys, entries_have_good_texts, rises_from, rises}
 use Rattle.cl_values.specs.Inhabits.{inhabits, entries_inhabit}
 use Rattle.cl_values.specs.Tuples.{value_at, is_among as entry_among, placed as entry_placed, merged as entries_merged, sorted_entries, merge, known, part_at}

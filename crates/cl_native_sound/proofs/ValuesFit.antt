@@ -1,6 +1,5 @@
 -- Values fit their types.
 use Rattle.std.proofs.Common.{Bool, refl}
-use Rattle.std.specs.Prelude.{zip}
 use Rattle.cl_types.specs.Types.{PlainType}
 use Rattle.cl_values.specs.Computed.{Computed, Gives, Fails, Panics, Undefined}
 use Rattle.cl_values.specs.Natives.{native_value}

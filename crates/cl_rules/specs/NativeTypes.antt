@@ -1,10 +1,9 @@
 -- The type half of the table of natives: for each native and the types of its arguments, the type that it gives, or the
 -- rules that are broken.
 use Rattle.std.specs.Prelude.{ℕ, ◌+◌, ◌&&◌, ◌||◌, not, nat_lt, nat_eq, Bool, true, false, List, [], ◌∷◌, length, if◌then◌else◌, Option, Some, None, Result, Ok, Err}
-use Rattle.std.specs.List.{list_all}
 use Rattle.std.specs.Cmp.Lexicographic.{pointwise}
-use Rattle.cl_types.specs.Types.{PlainType, NoType, IntType, UintType, BoolType, PrincipalType, BuffType, AsciiType, Utf8Type, ListType, TupleType, OptionalType, ResponseType, Fields, NoField, Field, admits, depth_of}
-use Rattle.cl_types.specs.TypeKinds.{is_int, is_uint, is_bool, is_principal, is_optional, is_response, is_undetermined, are_numbers, is_hashed, is_sequence, entry_of, resized}
+use Rattle.cl_types.specs.Types.{PlainType, NoType, IntType, UintType, BoolType, BuffType, AsciiType, Utf8Type, ListType, TupleType, OptionalType, ResponseType, Fields, NoField, Field, admits, depth_of}
+use Rattle.cl_types.specs.TypeKinds.{is_int, is_uint, is_bool, is_optional, is_response, are_numbers, is_hashed, is_sequence, entry_of, resized}
 use Rattle.cl_types.specs.Lattice.{least_supertype}
 use Rattle.cl_types.specs.declared.sized.TyRefusal.{TyRefusal}
 use Rattle.cl_types.specs.declared.sized.TyRefusal.TheVariants.{Differ}

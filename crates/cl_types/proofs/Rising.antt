@@ -1,14 +1,11 @@
 -- Keys put in order rise just where no key stands twice.
-use Rattle.std.proofs.Common.{◌≡◌, ℕ, List, Bool, true, false, not, ◌&&◌, ◌||◌, nat_eq, Ordering, Less, Equal, Greater, if◌then◌else◌, refl, ap, sym, ◌∙◌, true≢false}
-use Rattle.std.specs.Ordering.{nat_cmp, is_lt, is_eq, ordering_reverse}
-use Rattle.std.specs.Cmp.{IsStrictWeakOrder, both_ways, first_so}
-use Rattle.std.specs.Cmp.Lexicographic.{slice_cmp, pointwise, same_text, texts_ties}
-use Rattle.std.proofs.lemmas.Bool.{and_parts, and_from, or_from, or_parts, false_from_ne_true, true_from_ne_false, not-true, not_from_false}
-use Rattle.std.proofs.lemmas.Cmp.{nat_list_cmp_total}
-use Rattle.std.proofs.lemmas.List.Sorted.{ranks_by}
+use Rattle.std.proofs.Common.{◌≡◌, ℕ, List, Bool, true, false, not, ◌&&◌, ◌||◌, nat_eq, if◌then◌else◌, refl, ap, sym, ◌∙◌, true≢false}
+use Rattle.std.specs.Cmp.{both_ways, first_so}
+use Rattle.std.specs.Cmp.Lexicographic.{pointwise}
+use Rattle.std.proofs.lemmas.Bool.{and_parts, and_from, or_from, or_parts, not-true, not_from_false}
 use Rattle.cl_types.specs.Types.{PlainType, TupleType, Fields, NoField, Field}
 use Rattle.cl_types.specs.Sized.{has_key, is_among, differ, is_below, rises_from, rises, fields_rise, placed, in_order}
-use Rattle.cl_types.proofs.KeyOrder.{both_no, keys_ordered, below_below, below_differs, above_differs, below_or_above}
+use Rattle.cl_types.proofs.KeyOrder.{keys_ordered, below_below, below_differs, above_differs, below_or_above}
 
 -- a key below the first of a rising row isn't in it
 not_among : (k i : List ℕ) (gs : Fields) → is_below k i ≡ true → rises_from i gs ≡ true → is_among k gs ≡ false
