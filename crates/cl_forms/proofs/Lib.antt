@@ -8,3 +8,4 @@ pub mod Firsts
 pub mod Results
 pub mod Placing
 pub mod Weighing
+pub mod ExpressionsFit

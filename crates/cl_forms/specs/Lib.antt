@@ -16,3 +16,4 @@ pub mod Looks
 pub mod Placed
 pub mod Cycle
 pub mod Weights
+pub mod Fits

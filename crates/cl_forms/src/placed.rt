@@ -1,7 +1,9 @@
-//! Where the expressions of forms stand.
+//! Where the expressions of forms stand, and that their literals are within the limits.
 ghost use Rattle.std.specs.Prelude.{ℕ, List};
 ghost use Rattle.cl_sexpr.specs.Tree.{Tree, Forest};
 ghost use Rattle.cl_sexpr.specs.Placed.{ArePlaced};
+ghost use Rattle.cl_sexpr.specs.Fits.{AllFit};
+ghost use Rattle.cl_forms.specs.Fits.{FormsFit};
 ghost use Rattle.cl_forms.specs.Forms.{Form};
 ghost use Rattle.cl_forms.specs.FormBreaks.{AreForms};
 ghost use Rattle.cl_forms.specs.Shapes.{trees_of};
@@ -11,4 +13,9 @@ ghost use Rattle.cl_forms.specs.Placed.{AllPlaced, AreFormsPlaced};
 pub fn expressions_are_placed()
     ensures items { (low high : ℕ) (items : Forest) → ArePlaced low high items → AllPlaced (trees_of items) }
     ensures forms { (items : List Tree) (forms : List Form) → AllPlaced items → AreForms items forms → AreFormsPlaced forms }
+{}
+
+/// The names and literals in the expressions of forms are within the limits, where those of their items are.
+pub fn expressions_are_within_limits()
+    ensures { (items : Forest) (forms : List Form) → AllFit items → AreForms (trees_of items) forms → FormsFit forms }
 {}

@@ -9,3 +9,4 @@ pub mod Unique
 pub mod Laws
 pub mod Sizes
 pub mod Places
+pub mod LiteralsFit

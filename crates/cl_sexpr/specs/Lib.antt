@@ -12,3 +12,4 @@ pub mod Lexed
 pub mod Progress
 pub mod Advances
 pub mod Placed
+pub mod Fits

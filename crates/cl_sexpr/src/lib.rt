@@ -13,7 +13,7 @@ mod rule;
 mod run;
 mod sexpr;
 
-pub use order::items_stand_in_order;
+pub use order::{items_stand_in_order, literals_are_within_limits};
 pub use reader::{MOST_BYTES, one_reading, read};
 pub use rule::{Break, Refusal, Rule};
 pub use run::{are_digits, value_of};
