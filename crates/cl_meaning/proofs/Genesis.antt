@@ -15,7 +15,7 @@ use Rattle.cl_tokens.specs.Ledger.{Ledger, IsLedger, most_of, balance, minted}
 use Rattle.cl_tokens.proofs.Acts.{minted_sound, minted_moves}
 use Rattle.cl_events.specs.State.{holder, or_as_before, holdings, genesis}
 use Rattle.cl_events.proofs.Genesis.{holdings_ledger}
-use Rattle.cl_meaning.specs.Kept.{IsHolder, Kept}
+use Rattle.cl_meaning.specs.Kept.{IsHolder, Whole, Kept}
 
 -- each key of balances is a holder's
 abbrev AreHolders : Ledger → Type 0
@@ -77,16 +77,15 @@ holdings_uncapped (h ∷ hs) = uncapped_or (holdings hs) (minted h.1 (holder h.0
 nowhere : {W : Type 0} (c : W) → Contains [] c → ⊥
 nowhere c there = omega (arith, there.1)
 
-pub genesis_kept : (type : Principal → List ℕ → Option PlainType) (hs : List (Principal × ℕ)) → ByRecursion (λ h. IsPrincipal h.0) hs → Kept [] type (genesis hs)
-genesis_kept type hs valid = record {
-  variables_there = λ c x t e d. absurd (nowhere c d.there);
+pub genesis_kept : (hs : List (Principal × ℕ)) → ByRecursion (λ h. IsPrincipal h.0) hs → Kept [] Whole (genesis hs)
+genesis_kept hs valid = record {
+  variables_there = λ c x t e d now. absurd (nowhere c d.there);
   variables = λ key v e. absurd (none-some v e);
   entries = λ key v e. absurd (none-some v e);
-  fungibles_there = λ c x e d. absurd (nowhere c d.there);
+  fungibles_there = λ c x e d now. absurd (nowhere c d.there);
   fungibles = λ key l e. absurd (none-some l e);
-  nonfungibles_there = λ c x t d. absurd (nowhere c d.there);
+  nonfungibles_there = λ c x t d now. absurd (nowhere c d.there);
   nonfungibles = λ key o e. absurd (none-some o e);
   stx = record { ledger = holdings_ledger hs; holders = holdings_holders hs valid };
   uncapped = holdings_uncapped hs;
-  constants = λ c x e d. absurd (nowhere c d.there);
 }

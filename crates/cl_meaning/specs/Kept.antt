@@ -1,5 +1,5 @@
 -- States that are as their contracts say.
-use Rattle.std.specs.Prelude.{◌≡◌, ℕ, List, Contains, Option, Some, None}
+use Rattle.std.specs.Prelude.{◌≡◌, ◌⊎◌, ℕ, ◌<◌, ◌^◌, List, [], ◌∷◌, unwrap_or, Contains, Option, Some, None}
 use Rattle.cl_types.specs.Types.{PlainType}
 use Rattle.cl_c32.specs.declared.principal.Principal.{Principal}
 use Rattle.cl_sexpr.specs.Tree.{Tree}
@@ -8,11 +8,11 @@ use Rattle.cl_values.specs.Wire.{wire}
 use Rattle.cl_values.specs.Valid.{IsPrincipal}
 use Rattle.cl_values.specs.Typed.{IsOf}
 use Rattle.cl_maps.specs.Maps.{Map, get}
-use Rattle.cl_tokens.specs.Ledger.{Ledger, IsLedger}
+use Rattle.cl_tokens.specs.Ledger.{Ledger, IsLedger, most_of}
 use Rattle.cl_tokens.specs.Owners.{Owners}
-use Rattle.cl_forms.specs.Forms.{FormKind, ConstantForm, VariableForm, MapForm, FungibleForm, NonFungibleForm}
+use Rattle.cl_forms.specs.Forms.{Form, FormKind, VariableForm, MapForm, FungibleForm, NonFungibleForm, ExpressionForm}
 use Rattle.cl_events.specs.State.{State, holder, place, spot}
-use Rattle.cl_meaning.specs.Deployed.{Contract, Deployed, form_of, value_of}
+use Rattle.cl_meaning.specs.Deployed.{Contract, Deployed, form_of}
 
 -- a deployed contract defines a name in this way
 pub record Defines (W : Deployed) (c : Contract) (x : List ℕ) (kind : FormKind) : Type 0 where
@@ -63,7 +63,7 @@ pub record IsEntry (W : Deployed) (key : List ℕ) (v : Val) : Type 0 where
   pub key_typed : IsOf entry_key key_type
   pub typed : IsOf v value_type
 
--- the key is that of a fungible token
+-- the key is that of a fungible token, of which there can be no more than 128 bits count
 pub record IsFungible (W : Deployed) (key : List ℕ) (l : Ledger) : Type 0 where
   pub contract : Contract
   pub name : List ℕ
@@ -71,6 +71,7 @@ pub record IsFungible (W : Deployed) (key : List ℕ) (l : Ledger) : Type 0 wher
   pub defined : Defines W contract name (FungibleForm supply)
   pub place : key ≡ place contract.principal name
   pub held : IsHeld l
+  pub capped : most_of l.cap < 2 ^ 128
 
 -- the key is that of a non-fungible token
 pub record IsNonFungible (W : Deployed) (key : List ℕ) (owners : Owners) : Type 0 where
@@ -86,25 +87,40 @@ pub record Stands {A : Type 0} (m : Map A) (key : List ℕ) : Type 0 where
   pub value : A
   pub there : get key m ≡ Some value
 
--- a constant has a value, of the type that is told of it
-pub record IsConstant (type : Option PlainType) (value : Option Val) : Type 0 where
-  pub of_type : PlainType
-  pub told : type ≡ Some of_type
-  pub of_value : Val
-  pub there : value ≡ Some of_value
-  pub typed : IsOf of_value of_type
+-- ---- how far contracts are defined
 
--- A state is as the deployed contracts say: each variable and each token is there, nothing else is there, and all values, keys
--- and identifiers have their types; each constant has a value of its type, which is told by its contract and name; and balances
--- sum to their supply, which is within the cap.
-pub record Kept (W : Deployed) (constant_type : Principal → List ℕ → Option PlainType) (s : State) : Type 0 where
-  pub variables_there : (c : Contract) (x : List ℕ) (t : PlainType) (e : Tree) → Defines W c x (VariableForm t e) → Stands s.variables (place c.principal x)
+-- a definition, which has a name
+abbrev pub IsDefinition : FormKind → Type 0
+IsDefinition (ExpressionForm e) = ⊥
+IsDefinition kind = Unit {0}
+
+-- one of the forms defines the name
+abbrev pub IsAmong : List ℕ → List Form → Type 0
+IsAmong x [] = ⊥
+IsAmong x (form ∷ forms) = (IsDefinition form.kind × (unwrap_or form.name [] ≡ x)) ⊎ IsAmong x forms
+
+-- between deployments contracts are whole; in the middle of one these forms of the contract of a principal are evaluated
+pub data Stage : Type 0 where
+  Whole : Stage
+  Behind : Principal → List Form → Stage
+
+-- the name of the contract of a principal is defined so far
+abbrev pub IsSoFar : Stage → Principal → List ℕ → Type 0
+IsSoFar Whole q x = Unit {0}
+IsSoFar (Behind p forms) q x = q ≡ p → IsAmong x forms
+
+-- ---- states
+
+-- A state is as the deployed contracts say, as far as they are defined: each variable and each token that is defined so far is
+-- there, nothing stands in it but what the contracts define, and all values, keys and identifiers have their types; balances
+-- sum to their supply, which is at most the cap and has 128 bits.
+pub record Kept (W : Deployed) (stage : Stage) (s : State) : Type 0 where
+  pub variables_there : (c : Contract) (x : List ℕ) (t : PlainType) (e : Tree) → Defines W c x (VariableForm t e) → IsSoFar stage c.principal x → Stands s.variables (place c.principal x)
   pub variables : (key : List ℕ) (v : Val) → get key s.variables ≡ Some v → IsVariable W key v
   pub entries : (key : List ℕ) (v : Val) → get key s.entries ≡ Some v → IsEntry W key v
-  pub fungibles_there : (c : Contract) (x : List ℕ) (e : Option Tree) → Defines W c x (FungibleForm e) → Stands s.fungibles (place c.principal x)
+  pub fungibles_there : (c : Contract) (x : List ℕ) (e : Option Tree) → Defines W c x (FungibleForm e) → IsSoFar stage c.principal x → Stands s.fungibles (place c.principal x)
   pub fungibles : (key : List ℕ) (l : Ledger) → get key s.fungibles ≡ Some l → IsFungible W key l
-  pub nonfungibles_there : (c : Contract) (x : List ℕ) (t : PlainType) → Defines W c x (NonFungibleForm t) → Stands s.nonfungibles (place c.principal x)
+  pub nonfungibles_there : (c : Contract) (x : List ℕ) (t : PlainType) → Defines W c x (NonFungibleForm t) → IsSoFar stage c.principal x → Stands s.nonfungibles (place c.principal x)
   pub nonfungibles : (key : List ℕ) (owners : Owners) → get key s.nonfungibles ≡ Some owners → IsNonFungible W key owners
   pub stx : IsHeld s.stx
   pub uncapped : s.stx.cap ≡ None
-  pub constants : (c : Contract) (x : List ℕ) (e : Tree) → Defines W c x (ConstantForm e) → IsConstant (constant_type c.principal x) (value_of x c.constants)

@@ -19,7 +19,7 @@ ghost use Rattle.cl_meaning.specs.Calls.{call_form};
 ghost use Rattle.cl_meaning.specs.Meaning.{head_form, node, means, applied};
 ghost use Rattle.cl_meaning.specs.Limits.{Costs, cost_of, cost, Within, Passed, limit_on, limited, after, returned};
 ghost use Rattle.cl_meaning.specs.Trace.{trace_of};
-ghost use Rattle.cl_meaning.specs.Kept.{Kept};
+ghost use Rattle.cl_meaning.specs.Kept.{Kept, Whole};
 ghost use Rattle.cl_meaning.specs.Prefixes.{spent_after, IsWithin, IsFirstOver, claims_in};
 
 /// A meaning to a depth that is enough is the meaning to each greater depth.
@@ -84,6 +84,5 @@ pub fn traces_stop_there<A>()
 
 /// The first state of a node, before any contract is deployed, is kept.
 pub fn genesis_is_kept()
-    ensures { (constant_type : Principal → List ℕ → Option PlainType) (holders : List (Principal × ℕ)) →
-        All (λ h. IsPrincipal h.0) holders → Kept [] constant_type (genesis holders) }
+    ensures { (holders : List (Principal × ℕ)) → All (λ h. IsPrincipal h.0) holders → Kept [] Whole (genesis holders) }
 {}

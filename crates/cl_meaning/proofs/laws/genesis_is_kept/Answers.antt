@@ -4,4 +4,4 @@ use Rattle.cl_meaning.proofs.Genesis.{genesis_kept}
 use Rattle.cl_meaning.proofs.laws.genesis_is_kept.Goals as goal
 
 pub returns : goal.returns
-returns c type holders valid = genesis_kept type holders (recursion_from_All (λ h. IsPrincipal h.0) holders valid)
+returns c holders valid = genesis_kept holders (recursion_from_All (λ h. IsPrincipal h.0) holders valid)
