@@ -1,0 +1,13 @@
+pub mod Contexts
+pub mod Serving
+pub mod States
+pub mod Holdings
+pub mod Naming
+pub mod OfTexts
+pub mod Signed
+pub mod Functions
+pub mod UnderLimits
+pub mod Stage
+pub mod Deploying
+pub mod NextNode
+pub mod Texts

@@ -1,0 +1,222 @@
+-- Contexts of deployed contracts serve: constants, functions, and functions of other contracts.
+use Rattle.std.proofs.Common.{◌≡◌, ◌⊎◌, inl, inr, ℕ, Bool, true, false, List, [], ◌∷◌, ◌++◌, Option, Some, None, refl, sym, ap, subst, ◌∙◌, append-nil}
+use Rattle.std.specs.Prelude.{if◌then◌else◌, ◌&&◌, nat_eq, option_and_then, unwrap_or}
+use Rattle.std.proofs.lemmas.Bool.{eqb-true, eq-eqb}
+use Rattle.cl_types.specs.Types.{PlainType}
+use Rattle.cl_types.specs.declared.sized.Access.{Access}
+use Rattle.cl_types.specs.declared.sized.Access.TheVariants.{Public, ReadOnly, Private}
+use Rattle.cl_types.proofs.Lattice.{keys_equal, and_left, and_right, and_both, key_same}
+use Rattle.cl_c32.specs.declared.principal.Principal.{Principal}
+use Rattle.cl_values.specs.Tree.{PrincipalV}
+use Rattle.cl_values.specs.Valid.{IsPrincipal}
+use Rattle.cl_values.proofs.Spellings.{own_wire}
+use Rattle.cl_maps.proofs.MapLaws.{same_keys}
+use Rattle.cl_forms.specs.Forms.{Form, FormKind, ConstantForm, VariableForm, MapForm, FungibleForm, NonFungibleForm, FunctionForm, ExpressionForm}
+use Rattle.cl_events.specs.State.{holder, is_principal}
+use Rattle.cl_meaning.specs.Deployed.{Contract, Deployed, Function, contract_at, as_function, function_in, function_of, constant_of}
+use Rattle.cl_meaning.specs.Calls.{if_callable as function_callable, callable}
+use Rattle.cl_rules.specs.Context.{CostTable, Context, Known, Signature, same, same_part, same_principal, named_in, known_at, signature_in, if_callable, target_at}
+use Rattle.cl_rules.specs.Verdicts.{Found}
+use Rattle.cl_rules.specs.FormRules.{Defined, nothing_defined, context_after}
+use Rattle.cl_rules.specs.FormTyping.{form_typed, FormsTyped, no_more, one_more}
+use Rattle.cl_rules.specs.Acceptance.{known_of}
+use Rattle.cl_meaning.specs.Kept.{Stage}
+use Rattle.cl_expression_sound.specs.Sound.{IsServed, IsServedThere, IsServedAcross, deployed_world}
+use Rattle.cl_expression_sound.specs.Stages.{IsTypedAs, AreKnown, none_known, and_known, IsContext, IsThere}
+use Rattle.cl_expression_sound.proofs.Leaves.{principal_typed}
+use Rattle.cl_contract_sound.proofs.Contexts.{IsFunctionOf, stands_in, named_more}
+
+-- ---- principals
+
+-- two tests of principals agree
+part_equal : (p q : Option (List ℕ)) → same_part p q ≡ true → p ≡ q
+part_equal None None h = refl
+part_equal (Some x) (Some y) h = ap Some (keys_equal x y h)
+part_equal None (Some y) h = absurd cc
+part_equal (Some x) None h = absurd cc
+
+part_same : (p : Option (List ℕ)) → same_part p p ≡ true
+part_same None = refl
+part_same (Some x) = key_same x
+
+pub principal_equal : (p q : Principal) → same_principal p q ≡ true → p ≡ q
+principal_equal p q h =
+    let first = and_left (nat_eq p.address.version q.address.version && same p.address.hash q.address.hash) (same_part p.contract q.contract) h in
+    let version : p.address.version ≡ q.address.version = eqb-true p.address.version q.address.version (and_left (nat_eq p.address.version q.address.version) (same p.address.hash q.address.hash) first) in
+    let hash : p.address.hash ≡ q.address.hash = keys_equal p.address.hash q.address.hash (and_right (nat_eq p.address.version q.address.version) (same p.address.hash q.address.hash) first) in
+    let contract : p.contract ≡ q.contract = part_equal p.contract q.contract (and_right (nat_eq p.address.version q.address.version && same p.address.hash q.address.hash) (same_part p.contract q.contract) h) in
+    λ i. record { address = record { version = version i; hash = hash i }; contract = contract i }
+
+pub principal_same : (p : Principal) → same_principal p p ≡ true
+principal_same p = and_both _ _ (and_both _ _ (eq-eqb p.address.version p.address.version refl) (key_same p.address.hash)) (part_same p.contract)
+
+pub holders_apart : (p q : Principal) → IsPrincipal p → IsPrincipal q → is_principal p q ≡ true → p ≡ q
+holders_apart p q h k e = same_value p q (own_wire (PrincipalV p) (PrincipalV q) (principal_typed p h).valid (principal_typed q k).valid (same_keys (holder p) (holder q) e))
+  where
+    same_value : (p q : Principal) → PrincipalV p ≡ PrincipalV q → p ≡ q
+    same_value p q e = cc
+
+pub other_principal : (p q : Principal) → IsPrincipal p → IsPrincipal q → same_principal p q ≡ false → is_principal p q ≡ false
+other_principal p q h k e = by (is_principal p q) refl
+  where
+    by : (b : Bool) → is_principal p q ≡ b → b ≡ false
+    by true is = sym (subst (λ r. same_principal p r ≡ true) (holders_apart p q h k is) (principal_same p)) ∙ e
+    by false is = refl
+
+-- ---- what more forms define
+
+constants_more : (D E : Defined) (forms : List Form) (x : List ℕ) (t : PlainType) → FormsTyped D forms E → named_in x D.context.constants ≡ Some t → named_in x E.context.constants ≡ Some t
+constants_more D E [] x t (no_more e) h = subst (λ (E : Defined). named_in x E.context.constants ≡ Some t) e h
+constants_more D E (form ∷ forms) x t (one_more {E = F} (form_typed fs follows sound is) later) h =
+    constants_more F E forms x t later (subst (λ (F : Defined). named_in x F.context.constants ≡ Some t) is (by form.kind fs))
+  where
+    by : (kind : FormKind) (fs : List Found) → named_in x (context_after D.context (unwrap_or form.name []) kind fs).constants ≡ Some t
+    by (ConstantForm e) (f ∷ fs) = named_more x D.context.constants _ t h
+    by (ConstantForm e) [] = h
+    by (VariableForm u e) fs = h
+    by (MapForm k v) fs = h
+    by (FungibleForm supply) fs = h
+    by (NonFungibleForm u) fs = h
+    by (FunctionForm access params body) (f ∷ fs) = h
+    by (FunctionForm access params body) [] = h
+    by (ExpressionForm e) fs = h
+
+deployed_same : (D E : Defined) (forms : List Form) → FormsTyped D forms E → E.context.deployed ≡ D.context.deployed
+deployed_same D E [] (no_more e) = ap (λ (D : Defined). D.context.deployed) (sym e)
+deployed_same D E (form ∷ forms) (one_more {E = F} (form_typed fs follows sound is) later) =
+    deployed_same F E forms later ∙ ap (λ (F : Defined). F.context.deployed) (sym is) ∙ by form.kind fs
+  where
+    by : (kind : FormKind) (fs : List Found) → (context_after D.context (unwrap_or form.name []) kind fs).deployed ≡ D.context.deployed
+    by (ConstantForm e) (f ∷ fs) = refl
+    by (ConstantForm e) [] = refl
+    by (VariableForm u e) fs = refl
+    by (MapForm k v) fs = refl
+    by (FungibleForm supply) fs = refl
+    by (NonFungibleForm u) fs = refl
+    by (FunctionForm access params body) (f ∷ fs) = refl
+    by (FunctionForm access params body) [] = refl
+    by (ExpressionForm e) fs = refl
+
+-- ---- contracts that are known
+
+-- a contract that callers see, as evaluations see it
+pub record IsKnownAt (W : Deployed) (stage : Stage) (p : Principal) (k : Known) : Type 0 where
+  pub before : List Known
+  pub known : AreKnown W stage before
+  pub contract : Contract
+  pub defined : Defined
+  pub accepted : IsTypedAs stage before contract defined
+  pub there : contract_at contract.principal W ≡ Some contract
+  pub is : known_of contract.principal contract.source_length defined ≡ k
+  pub at : contract.principal ≡ p
+
+pub known_split : (p : Principal) (ks : List Known) (n k : Known) → known_at p (ks ++ n ∷ []) ≡ Some k → (known_at p ks ≡ Some k) ⊎ ((n.principal ≡ p) × (n ≡ k))
+known_split p [] n k h = by (same_principal n.principal p) refl h
+  where
+    same_value : (n k : Known) → Some n ≡ Some k → n ≡ k
+    same_value n k e = cc
+
+    by : (b : Bool) → same_principal n.principal p ≡ b → (if b then Some n else None) ≡ Some k → (None ≡ Some k) ⊎ ((n.principal ≡ p) × (n ≡ k))
+    by true e g = inr (principal_equal n.principal p e, same_value n k g)
+    by false e g = absurd cc
+known_split p (l ∷ ks) n k h = by (same_principal l.principal p) h (known_split p ks n k)
+  where
+    by : (b : Bool) → (if b then Some l else known_at p (ks ++ n ∷ [])) ≡ Some k → (known_at p (ks ++ n ∷ []) ≡ Some k → (known_at p ks ≡ Some k) ⊎ ((n.principal ≡ p) × (n ≡ k))) → ((if b then Some l else known_at p ks) ≡ Some k) ⊎ ((n.principal ≡ p) × (n ≡ k))
+    by true g more = inl g
+    by false g more = more g
+
+module _ (W : Deployed) (stage : Stage) where
+  pub known_there : (ks : List Known) → AreKnown W stage ks → (p : Principal) (k : Known) → known_at p ks ≡ Some k → IsKnownAt W stage p k
+  known_there ks (none_known e) p k h = none_at (ap (known_at p) (sym e) ∙ h)
+    where
+      none_at : None ≡ Some k → IsKnownAt W stage p k
+      none_at e = absurd cc
+  known_there after (and_known {ks = ks} c E known accepted there is) p k h = by (known_split p ks (known_of c.principal c.source_length E) k (ap (known_at p) (sym is) ∙ h)) (known_there ks known p k)
+    where
+      by : (known_at p ks ≡ Some k) ⊎ ((c.principal ≡ p) × (known_of c.principal c.source_length E ≡ k)) → (known_at p ks ≡ Some k → IsKnownAt W stage p k) → IsKnownAt W stage p k
+      by (inl g) more = more g
+      by (inr g) more = record { before = ks; known = known; contract = c; defined = E; accepted = accepted; there = there; is = g.1; at = g.0 }
+
+module _ (costs : CostTable) (W : Deployed) (stage : Stage) where
+  -- ---- constants
+
+  pub constants_serve : (G : Context) → IsContext W stage G → (x : List ℕ) (t : PlainType) → named_in x G.constants ≡ Some t → IsThere (constant_of x (contract_at G.principal W)) t
+  constants_serve G I x t h =
+      let S = stands_in W stage G I in
+      let before : named_in x I.so_far.context.constants ≡ Some t = ap (λ (G : Context). named_in x G.constants) I.context ∙ h in
+      subst (λ o. IsThere (constant_of x o) t) (sym (ap (λ p. contract_at p W) S.home ∙ I.there))
+      (I.accepted.constants x t (constants_more I.so_far I.defined I.rest x t I.more before))
+
+  -- ---- functions
+
+  pub as_served : (c : Contract) (x : List ℕ) (g : Signature) → IsFunctionOf W stage c x g → (fn : Function) × (function_in x c.forms ≡ Some fn) × IsServed (deployed_world costs W stage) c.principal g fn
+  as_served c x g f = (
+    record { name = x; access = f.access; params = f.params; body = f.body },
+    ap (option_and_then (as_function x)) f.form,
+    record { inner = f.inner; good = f.good; home = f.home; found = f.found; typed = f.typed; sound = f.sound; signature = f.signature },
+  )
+
+  pub functions_serve : (G : Context) → IsContext W stage G → (x : List ℕ) (g : Signature) → signature_in x G.functions ≡ Some g → IsServedThere (deployed_world costs W stage) G.principal x g
+  functions_serve G I x g h =
+      let S = stands_in W stage G I in
+      let f = as_served I.contract x g (S.functions x g h) in
+      record {
+        function = f.0;
+        there = ap (λ p. function_of x (contract_at p W)) S.home ∙ ap (function_of x) I.there ∙ f.1;
+        served = subst (λ p. IsServed (deployed_world costs W stage) p g f.0) (sym S.home) f.2;
+      }
+
+  -- ---- functions of other contracts
+
+  callable_is : (o : Option Signature) (g : Signature) → if_callable o ≡ Some g → (o ≡ Some g) × ((fn : Function) → fn.access ≡ g.access → callable fn ≡ Some fn)
+  callable_is None g h = absurd cc
+  callable_is (Some f) g h = by f.access refl h
+    where
+      same_value : (f g : Signature) → Some f ≡ Some g → f ≡ g
+      same_value f g e = cc
+
+      by : (a : Access) → f.access ≡ a → elim a [ Public ↦ Some f | ReadOnly ↦ Some f | Private ↦ None ] ≡ Some g → (Some f ≡ Some g) × ((fn : Function) → fn.access ≡ g.access → callable fn ≡ Some fn)
+      by Public e h = (h, λ fn k. ap (function_callable fn) (k ∙ sym (ap (λ (g : Signature). g.access) (same_value f g h)) ∙ e))
+      by ReadOnly e h = (h, λ fn k. ap (function_callable fn) (k ∙ sym (ap (λ (g : Signature). g.access) (same_value f g h)) ∙ e))
+      by Private e h = absurd cc
+
+  other_is : (b : Bool) (o : Option Known) (k : Known) → (if b then None else o) ≡ Some k → (b ≡ false) × (o ≡ Some k)
+  other_is true o k h = absurd cc
+  other_is false o k h = (refl, h)
+
+  pub across_serve : (G : Context) → IsContext W stage G → (p : Principal) (k : Known) → target_at G p ≡ Some k → (x : List ℕ) (g : Signature) → if_callable (signature_in x k.functions) ≡ Some g → IsServedAcross (deployed_world costs W stage) G p k x g
+  across_serve G I p k h x g j =
+      let S = stands_in W stage G I in
+      let o = other_is (same_principal p G.principal) (known_at p G.deployed) k h in
+      let deployed : I.before ≡ G.deployed = sym (deployed_same (nothing_defined I.before I.contract.principal I.contract.source_length) I.so_far I.done I.typed) ∙ ap (λ (G : Context). G.deployed) I.context in
+      let a = known_there W stage I.before I.known p k (ap (known_at p) deployed ∙ o.1) in
+      let inside : IsContext W stage a.defined.context = record {
+        before = a.before;
+        known = a.known;
+        contract = a.contract;
+        defined = a.defined;
+        accepted = a.accepted;
+        there = a.there;
+        so_far = a.defined;
+        done = a.accepted.order;
+        rest = [];
+        order = sym (append-nil a.accepted.order);
+        typed = a.accepted.typed;
+        more = no_more refl;
+        context = refl;
+      } in
+      let there_g = callable_is (signature_in x k.functions) g j in
+      let T = stands_in W stage a.defined.context inside in
+      let f = as_served a.contract x g (T.functions x g (ap (λ (k : Known). signature_in x k.functions) a.is ∙ there_g.0)) in
+      record {
+        contract = a.contract;
+        another = other_principal p G.principal (subst IsPrincipal a.at a.accepted.valid) (subst IsPrincipal (sym S.home) I.accepted.valid) o.0;
+        there = ap (λ p. contract_at p W) (sym a.at) ∙ a.there;
+        length = ap (λ (k : Known). k.length) a.is;
+        function = f.0;
+        callable_there = ap (option_and_then callable) f.1 ∙ there_g.1 f.0 (ap (λ (g : Signature). g.access) f.2.signature);
+        inner = a.defined.context;
+        home = T.home;
+        valid = a.accepted.valid;
+        served = subst (λ p. IsServed (deployed_world costs W stage) p g f.0) (sym T.home) f.2;
+      }

@@ -1,0 +1,4 @@
+pub mod Fitted
+pub mod Stages
+pub mod Sound
+pub mod Laws
