@@ -1,3 +1,4 @@
+pub mod Examples
 pub mod Rows
 pub mod Distinct
 pub mod Parts
