@@ -1,3 +1,4 @@
+mod Examples
 mod Mapped
 mod Parts
 pub mod Functions
