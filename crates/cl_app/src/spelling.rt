@@ -7,6 +7,7 @@ ghost use Rattle.cl_app.specs.Spelling.{refused_answer, line_answer, digits_in, 
 ghost use Rattle.cl_app.specs.Answer.{IsWireAnswer};
 ghost use Rattle.cl_app.specs.Top.{IsOwnStatus};
 ghost use Rattle.cl_text.specs.Parsed.{Stands, outcome_of};
+ghost use Rattle.cl_text.specs.Printed.{printed};
 
 use crate::pieces::{Reply, fixed_line, joined, one_piece, whole_piece};
 use cl_codec::{decode, encode};
@@ -56,13 +57,29 @@ fn fault_text(alloc: Global, fault: DecodeRefusal) -> Result<String, AllocError>
     }
 }
 
+/// The text of a value.
+fn value_line(alloc: Global, value: &Val) -> Result<Reply, NoMemory>
+    ensures { IfOk result (λ reply. answer_of reply ≡ line_answer (printed value.now)) }
+{
+    let text = print_value(alloc, value)?;
+    Ok(line(alloc, text)?)
+}
+
+/// The reply to bytes that spell no value, by their fault.
+fn no_wire(alloc: Global, fault: DecodeRefusal) -> Result<Reply, AllocError>
+    ensures { IfOk result (λ reply. answer_of reply ≡ refused_answer (fault_text fault)) }
+{
+    let text = fault_text(alloc, fault)?;
+    refused(alloc, text.as_str())
+}
+
 /// The text of the value that bytes spell, or why they spell none.
 fn bytes_reply(alloc: Global, bytes: &[u8]) -> Result<Reply, NoMemory>
     ensures { IfOk result (λ reply. answer_of reply ≡ bytes_answer (decoded bytes.now)) }
 {
     match decode(alloc, bytes) {
-        Ok(value) => Ok(line(alloc, print_value(alloc, &value)?)?),
-        Err(Fault::Refused(fault)) => Ok(refused(alloc, fault_text(alloc, fault)?.as_str())?),
+        Ok(value) => value_line(alloc, &value),
+        Err(Fault::Refused(fault)) => Ok(no_wire(alloc, fault)?),
         Err(Fault::NoMemory) => Err(NoMemory),
     }
 }
