@@ -1,13 +1,12 @@
 -- Numbers one after another.
-use Rattle.std.specs.Prelude.{◌≡◌, List, Option, Some, None, Result, Ok, Err}
+use Rattle.std.specs.Prelude.{◌≡◌, List, Result, Ok, Err}
 use Rattle.cl_arith.specs.declared.Num.{Num}
-use Rattle.cl_arith.specs.declared.Num.TheVariants.{Int, Uint}
 use Rattle.cl_arith.specs.declared.ArithRefusal.{ArithRefusal}
-use Rattle.cl_arith.specs.Numbers.{Kind, IntKind, UintKind, kind_of}
+use Rattle.cl_arith.specs.Numbers.{Kind, kind_of}
 use Rattle.cl_arith.specs.Operations.{Operation, sum, difference, product, computed}
-use Rattle.cl_values.specs.Tree.{Tree, IntV, UintV}
 use Rattle.cl_values.specs.Computed.{Computed}
 use Rattle.cl_values.specs.Arithmetic.{number_or_abort, work_on}
+pub use Rattle.cl_values.specs.Arithmetic.{number_of, number_in}
 use Rattle.cl_eval.specs.declared.numbers.Operation.{Operation as OperationOfCode}
 use Rattle.cl_eval.specs.declared.numbers.Operation.TheVariants.{Sum, Difference, Product}
 
@@ -15,17 +14,6 @@ abbrev pub operation_of : OperationOfCode → Operation
 operation_of Sum = sum
 operation_of Difference = difference
 operation_of Product = product
-
-abbrev pub number_of : Tree → Option Num
-number_of (IntV z) = Some (Int z)
-number_of (UintV n) = Some (Uint n)
-number_of v = None
-
--- the number of a kind that a value is
-abbrev pub number_in : Kind → Tree → Option Num
-number_in IntKind (IntV z) = Some (Int z)
-number_in UintKind (UintV n) = Some (Uint n)
-number_in kind v = None
 
 abbrev pub next_of : Operation → Result Num ArithRefusal → Num → Result Num ArithRefusal
 next_of operation (Ok a) b = computed operation a b

@@ -1,12 +1,11 @@
 -- Answers of an evaluation: an outcome, the state after it, and the log of the charges and of the nodes that ended; and how
 -- answers follow one another.
-use Rattle.std.specs.Prelude.{ℕ, ◌&&◌, nat_le, if◌then◌else◌, Bool, List, [], ◌∷◌, ◌++◌, Option, Some, None}
+use Rattle.std.specs.Prelude.{ℕ, if◌then◌else◌, List, [], ◌∷◌, ◌++◌, Option, Some, None}
 use Rattle.cl_arith.specs.declared.ArithRefusal.{ArithRefusal}
 use Rattle.cl_shapes.specs.declared.name.CostName.{CostName}
 use Rattle.cl_sexpr.specs.declared.sexpr.Span.{Span}
-use Rattle.cl_values.specs.Tree.{Tree as Val, depth_of}
-use Rattle.cl_values.specs.Wire.{size_of}
-use Rattle.cl_values.specs.Computed.{Computed, Gives, Fails, Panics, Undefined}
+use Rattle.cl_values.specs.Tree.{Tree as Val}
+use Rattle.cl_values.specs.Computed.{Computed, Gives, Fails, Panics, Undefined, is_within}
 use Rattle.cl_events.specs.State.{State}
 
 -- why an evaluation aborts: by arithmetic (A1 to A4), by a panic (A5), or by a supply above its cap (A6)
@@ -78,10 +77,6 @@ returned_outcome o = o
 -- an early return is a return
 unfoldable pub returning : Answer Val → Answer Val
 returning a = record { outcome = returned_outcome a.outcome; state = a.state; log = a.log }
-
--- a value is no deeper and no larger than values may be
-abbrev pub is_within : Val → Bool
-is_within v = nat_le (depth_of v) 32 && nat_le (size_of v) 1048576
 
 -- the outcome that a native's value is; beyond the limits of values it has none
 abbrev pub outcome_of : Computed → Outcome Val

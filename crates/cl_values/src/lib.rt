@@ -10,6 +10,7 @@ mod keys;
 mod laws;
 mod leaves;
 mod native;
+mod no_value;
 mod order;
 mod prefix;
 mod refusal;
@@ -18,7 +19,7 @@ mod texts;
 mod val;
 mod value;
 
-pub use comparing::{compare, equal};
+pub use comparing::{are_alike, compare, equal};
 pub use examples::natives_by_example;
 pub use fault::DecodeRefusal;
 pub use inhabitants::inhabits;
@@ -27,7 +28,8 @@ pub use laws::{
     no_type_has_none, one_spelling, parts_are_values, read_back, reads_only_spellings,
     sequences_have_entries, size_is_greatest, size_is_length, types_keep_limits,
 };
-pub use native::Native;
+pub use native::{Arity, Native};
+pub use no_value::NoValue;
 pub use prefix::prefix_of;
 pub use refusal::ValueRefusal;
 pub use size::characters_size;
