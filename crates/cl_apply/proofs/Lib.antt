@@ -1,0 +1,4 @@
+pub mod NumberLaws
+pub mod HashLaws
+pub mod RowLaws
+pub mod EntryLaws

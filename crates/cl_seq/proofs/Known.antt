@@ -1,0 +1,39 @@
+-- Two sequences of one kind are refused one behind the other only where they are beyond the limits.
+use Rattle.std.proofs.Common.{◌≡◌, ◌≢◌, ◌++◌, Bool, true, false, [], ◌∷◌, Err, if◌then◌else◌}
+use Rattle.cl_types.specs.declared.fault.Fault.TheVariants.{Refused}
+use Rattle.cl_values.specs.declared.no_value.NoValue.{NoValue}
+use Rattle.cl_values.specs.declared.no_value.NoValue.TheVariants.{Arith, Panic, Undefined as NotDefined}
+use Rattle.cl_arith.specs.declared.ArithRefusal.{ArithRefusal}
+use Rattle.cl_values.specs.Tree.{Tree, items_of, ListV, BuffV, AsciiV, Utf8V}
+use Rattle.cl_values.specs.Computed.{Computed, Gives, Fails, Panics, Undefined, kept, is_within}
+use Rattle.cl_values.specs.Applied.{Applied}
+use Rattle.cl_values.specs.Sequences.{concat, values_of}
+
+-- refused only as undefined
+abbrev IsPlain : Computed → Type 0
+IsPlain c = (why : NoValue) → Applied c (Err (Refused why)) → kept c ≢ Undefined → ⊥
+
+never_panics : (b : Bool) (t : Tree) → (if b then Gives t else Undefined) ≡ Panics → ⊥
+never_panics true t h = absurd cc
+never_panics false t h = absurd cc
+
+never_fails : (b : Bool) (t : Tree) (why : ArithRefusal) → (if b then Gives t else Undefined) ≡ Fails why → ⊥
+never_fails true t why h = absurd cc
+never_fails false t why h = absurd cc
+
+gives_plain : (t : Tree) → IsPlain (Gives t)
+gives_plain t NotDefined h n = n h
+gives_plain t Panic h n = never_panics (is_within t) t h
+gives_plain t (Arith why) h n = never_fails (is_within t) t why h
+
+undefined_plain : IsPlain Undefined
+undefined_plain NotDefined h n = n h
+undefined_plain Panic h n = absurd cc
+undefined_plain (Arith why) h n = absurd cc
+
+pub concat_refused : (v w : Tree) → IsPlain (concat (v ∷ w ∷ []))
+concat_refused (ListV vs) (ListV ws) = gives_plain (ListV (items_of (values_of vs ++ values_of ws)))
+concat_refused (BuffV xs) (BuffV ys) = gives_plain (BuffV (xs ++ ys))
+concat_refused (AsciiV xs) (AsciiV ys) = gives_plain (AsciiV (xs ++ ys))
+concat_refused (Utf8V xs) (Utf8V ys) = gives_plain (Utf8V (xs ++ ys))
+concat_refused v w = undefined_plain

@@ -1,0 +1,9 @@
+pub mod Entries
+pub mod Characters
+pub mod Singles
+pub mod FirstPlaces
+pub mod Alike
+pub mod Merging
+pub mod Rows
+pub mod Keys
+pub mod Known

@@ -1,0 +1,24 @@
+//! Values made of values, and the calls on sequences. No value is walked again.
+#![tactic(auto)]
+
+mod calls;
+mod finding;
+mod joining;
+mod listing;
+mod making;
+mod parts;
+mod places;
+mod sequences;
+mod tuples;
+
+pub use calls::{append, concat, element_at, index_of, len, within};
+pub use finding::try_index_of;
+pub use joining::{try_append, try_concat};
+pub use listing::list_of;
+pub use making::{
+    bool_value, buff, int_value, made, none, number_value, response, some, uint_value,
+};
+pub use parts::try_get;
+pub use places::{try_element_at, try_entry};
+pub use sequences::{try_len, try_within};
+pub use tuples::{try_merge, tuple_of};
