@@ -21,7 +21,7 @@ use Rattle.cl_sexpr.specs.Tree.{Tree}
 use Rattle.cl_sexpr.specs.Fits.{Fits}
 use Rattle.cl_expression_sound.proofs.Fitting.{is_fitted}
 use Rattle.cl_expression_sound.specs.Sound.{World, IsWorld, IsSound, IsAsFound, IsFrame, IsServed, AreBound, scope, NoThrow, types_of_params, deployed_world}
-use Rattle.cl_expression_sound.specs.Stages.{AreDistinct, AreKnown, IsContext}
+use Rattle.cl_expression_sound.specs.Stages.{AreDistinct, IsContext}
 use Rattle.cl_contract_sound.specs.Nodes.{AreContracts}
 use Rattle.cl_contract_sound.specs.Laws.{Answers, IsSoundFunction}
 use Rattle.cl_expression_sound.proofs.Calls.{is_return}

@@ -1,6 +1,6 @@
 -- Contracts of accepted texts are typed, and evaluations find no contract that callers don't see.
-use Rattle.std.proofs.Common.{◌≡◌, ℕ, Bool, true, false, List, [], ◌∷◌, ◌++◌, length, Option, Some, None, refl, sym, ap, subst, ◌∙◌}
-use Rattle.std.specs.Prelude.{if◌then◌else◌, Contains, IsSome}
+use Rattle.std.proofs.Common.{◌≡◌, ℕ, Bool, true, false, List, [], ◌∷◌, ◌++◌, Option, Some, None, refl, sym, ap, subst, ◌∙◌}
+use Rattle.std.specs.Prelude.{if◌then◌else◌, IsSome}
 use Rattle.cl_c32.specs.declared.principal.Principal.{Principal}
 use Rattle.cl_sexpr.proofs.LiteralsFit.{items_fit}
 use Rattle.cl_values.specs.Valid.{IsPrincipal}
@@ -14,7 +14,7 @@ use Rattle.cl_meaning.specs.Deployed.{Contract, Deployed, contract_at}
 use Rattle.cl_meaning.specs.Deploying.{forms_at}
 use Rattle.cl_meaning.specs.Kept.{Whole}
 use Rattle.cl_rules.specs.Context.{CostTable, Known, same_principal, known_at}
-use Rattle.cl_rules.specs.FormRules.{Defined, nothing_defined}
+use Rattle.cl_rules.specs.FormRules.{nothing_defined}
 use Rattle.cl_rules.specs.FormTyping.{FormsTyped}
 use Rattle.cl_rules.specs.Acceptance.{Accepted, known_of}
 use Rattle.cl_expression_sound.specs.Stages.{AreForms, IsTypedAs, AreKnown, none_known, and_known}

@@ -1,11 +1,8 @@
 -- Each function that evaluations find in a contract of an accepted text has a signature, which callers see.
 use Rattle.std.proofs.Common.{◌≡◌, ◌⊎◌, inl, inr, ℕ, Bool, true, false, List, [], ◌∷◌, ◌++◌, Option, Some, None, refl, sym, ap, subst, ◌∙◌}
 use Rattle.std.specs.Prelude.{if◌then◌else◌, option_and_then, unwrap_or, IsSome}
-use Rattle.cl_types.specs.Types.{PlainType}
-use Rattle.cl_types.specs.declared.sized.Access.{Access}
 use Rattle.cl_types.proofs.Lattice.{key_same}
 use Rattle.cl_c32.specs.declared.principal.Principal.{Principal}
-use Rattle.cl_sexpr.specs.Tree.{Tree}
 use Rattle.cl_values.specs.Valid.{IsPrincipal}
 use Rattle.cl_forms.specs.Forms.{Form, FormKind, ConstantForm, VariableForm, MapForm, FungibleForm, NonFungibleForm, FunctionForm, ExpressionForm}
 use Rattle.cl_forms.specs.Order.{IsGoodOrder}
@@ -15,12 +12,11 @@ use Rattle.cl_order.proofs.Good.{order_good}
 use Rattle.cl_meaning.specs.Deployed.{Contract, Deployed, Function, contract_at, form_of, as_function, function_in}
 use Rattle.cl_meaning.specs.Deploying.{forms_at}
 use Rattle.cl_meaning.specs.Kept.{IsAmong}
-use Rattle.cl_rules.specs.Context.{CostTable, Context, Known, Signature, same, known_at, signature_in}
+use Rattle.cl_rules.specs.Context.{CostTable, Known, Signature, same, known_at, signature_in}
 use Rattle.cl_rules.specs.Verdicts.{Found}
 use Rattle.cl_rules.specs.Typing.{Follows, ends, part}
-use Rattle.cl_rules.specs.FormRules.{Defined, nothing_defined, form_plan, signature_of, context_after}
+use Rattle.cl_rules.specs.FormRules.{Defined, form_plan, signature_of, context_after}
 use Rattle.cl_rules.specs.FormTyping.{form_typed, FormsTyped, no_more, one_more}
-use Rattle.cl_rules.specs.Acceptance.{known_of}
 use Rattle.cl_contract_sound.specs.Nodes.{IsOfText, AreOfTexts, none_yet, and_one, AreContracts}
 use Rattle.cl_contract_sound.specs.Deployments.{AreItsForms}
 use Rattle.cl_contract_sound.specs.Laws.{IsSigned}

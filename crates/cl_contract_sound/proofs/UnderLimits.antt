@@ -1,17 +1,19 @@
 -- What a limit leaves of sound answers.
-use Rattle.std.proofs.Common.{◌≡◌}
+use Rattle.std.proofs.Common.{◌≡◌, List, [], ◌∷◌, ◌++◌, refl, sym, ap, subst, ◌∙◌, append_assoc}
 use Rattle.cl_shapes.specs.declared.cost.Cost5.{Cost5}
-use Rattle.cl_shapes.specs.Costs.{plus, IsAtMost}
+use Rattle.cl_shapes.specs.Costs.{plus, zero_cost, IsAtMost}
 use Rattle.cl_shapes.specs.Limits.{Purse}
 use Rattle.cl_values.specs.Tree.{Tree as Val}
 use Rattle.cl_events.specs.State.{State}
-use Rattle.cl_meaning.specs.Answers.{Outcome, Given, Thrown, Aborted, Wrong, Deeper, Answer}
+use Rattle.cl_meaning.specs.Answers.{Outcome, Given, Thrown, Aborted, Wrong, Deeper, Answer, Note, Charged}
 use Rattle.cl_meaning.specs.Deployed.{Contract}
-use Rattle.cl_meaning.specs.Limits.{Paid, Within, Past, pay, cost, limit_on, limited}
-use Rattle.cl_meaning.proofs.Stops.{enough_within, limited_within}
+use Rattle.cl_meaning.specs.Limits.{charges_of, cost_sum, cost, Paid, Within, Past, pay, Limited, Gave, Threw, AbortedBy, Passed, Lost, limit_on, limited}
+use Rattle.cl_meaning.specs.Prefixes.{spent_after}
+use Rattle.cl_meaning.proofs.Prefixes.{IsPaid, paid_is}
+use Rattle.cl_meaning.proofs.Stops.{enough_within, limited_within, spent_after-append}
 use Rattle.cl_rules.specs.Context.{CostTable}
 use Rattle.cl_expression_sound.specs.Sound.{World, IsKept, IsFine, IsSound, NoThrow}
-use Rattle.cl_expression_sound.proofs.Costs.{same_cost, at_most, more_of_both}
+use Rattle.cl_expression_sound.proofs.Costs.{same_cost, at_most, more_of_both, and_more, none_at_most, turned, and_nothing}
 use Rattle.cl_contract_sound.specs.Laws.{IsFineUnder}
 use Rattle.cl_contract_sound.specs.Deployments.{IsFineEnd, IsFineEndUnder}
 
@@ -45,3 +47,47 @@ unfolding cost
 enough costs bound a within p low =
     limited_within costs p a
     (enough_within costs p a.log (at_most (plus p.spent (cost costs a)) (plus p.spent bound) p.limit (more_of_both p.spent p.spent (cost costs a) bound (same_cost p.spent) within) low))
+
+-- ---- what is charged under a limit
+
+-- what was spent, or the first sum that is above the limit
+abbrev pub charged : {A : Type 0} → Limited A → Cost5
+charged (Gave a s p) = p.spent
+charged (Threw v s p) = p.spent
+charged (AbortedBy why p) = p.spent
+charged (Passed over p) = over.attempted
+charged (Lost p) = p.spent
+
+abbrev paid : Paid → Cost5
+paid (Within p) = p.spent
+paid (Past over p) = over.attempted
+
+-- a first part of a log costs no more than the whole
+paid_low : (costs : CostTable) (p : Purse) (log : List Note) (r : Paid) → IsPaid costs p log r → IsAtMost (paid r) (spent_after costs p log)
+paid_low costs p log (Within q) h = subst (λ c. IsAtMost c (spent_after costs p log)) (ap (λ (q : Purse). q.spent) (sym h.0)) (same_cost (spent_after costs p log))
+paid_low costs p log (Past over q) first =
+    let front : List Note = first.front ++ Charged first.name first.number ∷ [] in
+    let whole : spent_after costs p log ≡ plus (spent_after costs p front) (cost_sum costs (charges_of first.back)) =
+    ap (spent_after costs p) (first.order ∙ sym (append_assoc first.front (Charged first.name first.number ∷ []) first.back)) ∙ spent_after-append costs p front first.back in
+    subst (IsAtMost over.attempted) (sym whole)
+    (subst (λ c. IsAtMost c (plus (spent_after costs p front) (cost_sum costs (charges_of first.back)))) (sym first.sum)
+    (and_more (spent_after costs p front) (spent_after costs p front) (cost_sum costs (charges_of first.back)) (same_cost (spent_after costs p front))))
+
+paid_on : {A : Type 0} (r : Paid) (o : Outcome A) (s : State) → paid r ≡ charged (limit_on r o s)
+paid_on (Past over p) o s = refl
+paid_on (Within p) (Given a) s = refl
+paid_on (Within p) (Thrown v) s = refl
+paid_on (Within p) (Aborted why) s = refl
+paid_on (Within p) Wrong s = refl
+paid_on (Within p) Deeper s = refl
+
+-- what is charged is at most the whole cost, where nothing was spent before
+pub charged_low : {A : Type 0} (costs : CostTable) (limit : Cost5) (a : Answer A) → IsAtMost (charged (limited costs (record { limit = limit; spent = zero_cost }) a)) (cost costs a)
+unfolding limited cost
+charged_low costs limit a =
+    let p : Purse = record { limit = limit; spent = zero_cost } in
+    let sum : Cost5 = cost_sum costs (charges_of a.log) in
+    let r : Paid = pay costs (Within p) a.log in
+    subst (λ c. IsAtMost c sum) (paid_on r a.outcome a.state)
+    (at_most (paid r) (plus zero_cost sum) sum (paid_low costs p a.log r (paid_is costs p a.log (none_at_most limit)))
+    (at_most (plus zero_cost sum) (plus sum zero_cost) sum (turned zero_cost sum) (and_nothing sum)))

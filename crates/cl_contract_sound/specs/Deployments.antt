@@ -1,16 +1,16 @@
 -- Deployments of accepted contracts are sound.
-use Rattle.std.specs.Prelude.{◌≡◌, ◌⊎◌, ℕ, ◌<◌, ◌^◌, List, [], ◌∷◌, ◌++◌, length, unwrap_or, Some, None}
+use Rattle.std.specs.Prelude.{◌≡◌, ℕ, ◌<◌, ◌^◌, List, [], ◌∷◌, ◌++◌, length, Some, None}
 use Rattle.cl_c32.specs.declared.principal.Principal.{Principal}
 use Rattle.cl_shapes.specs.declared.cost.Cost5.{Cost5}
 use Rattle.cl_shapes.specs.Costs.{plus, IsAtMost}
 use Rattle.cl_shapes.specs.Limits.{Purse}
 use Rattle.cl_values.specs.Tree.{Tree as Val}
 use Rattle.cl_values.specs.Valid.{IsPrincipal}
-use Rattle.cl_forms.specs.Forms.{Form, FormKind}
+use Rattle.cl_forms.specs.Forms.{Form}
 use Rattle.cl_events.specs.State.{State, genesis}
 use Rattle.std.specs.List.{All}
 use Rattle.cl_meaning.specs.Answers.{Outcome, Given, Thrown, Aborted, Wrong, Deeper, Answer}
-use Rattle.cl_meaning.specs.Deployed.{Contract, Deployed, contract_at, form_of}
+use Rattle.cl_meaning.specs.Deployed.{Contract, Deployed, contract_at}
 use Rattle.cl_meaning.specs.Deploying.{in_order, deployment}
 use Rattle.cl_meaning.specs.Limits.{cost, Within, Limited, Gave, Threw, AbortedBy, Passed, Lost, limit_on, limited}
 use Rattle.cl_meaning.specs.Scope.{Frame}
@@ -18,7 +18,7 @@ use Rattle.cl_rules.specs.Context.{CostTable, Known, known_at}
 use Rattle.cl_rules.specs.FormRules.{Defined, nothing_defined}
 use Rattle.cl_rules.specs.FormTyping.{FormsTyped}
 use Rattle.cl_rules.specs.Acceptance.{Accepted, known_of}
-use Rattle.cl_meaning.specs.Kept.{Stage, Whole, Behind, Kept, IsDefinition, IsAmong}
+use Rattle.cl_meaning.specs.Kept.{Whole, Behind, Kept, IsDefinition}
 use Rattle.cl_forms.specs.Fits.{KindFits}
 use Rattle.cl_expression_sound.specs.Sound.{AreBound}
 use Rattle.cl_expression_sound.specs.Stages.{IsDefining, AreDistinct, AreKnown}

@@ -1,6 +1,6 @@
 -- Ways to go on by a value; and rulings that are made of least supertypes and of parts.
 use Rattle.std.proofs.Common.{◌≡◌, ◌<◌, Bool, true, false, List, [], ◌∷◌, length, Result, Ok, Err, refl, sym, subst, arith}
-use Rattle.std.specs.Prelude.{◌||◌, not}
+use Rattle.std.specs.Prelude.{not}
 use Rattle.cl_types.specs.Types.{PlainType, NoType, OptionalType, ResponseType}
 use Rattle.cl_types.specs.Lattice.{least_supertype}
 use Rattle.cl_types.specs.declared.sized.TyRefusal.{TyRefusal}

@@ -8,7 +8,6 @@ use Rattle.cl_shapes.specs.declared.name.CostName.TheVariants.{Make, Take as Tak
 use Rattle.cl_sexpr.specs.declared.sexpr.Span.{Span}
 use Rattle.cl_sexpr.specs.Tree.{Tree, LeafAt, ListAt, Named, Unsigned, Forest, Empty, Then, Pairs, NoPair, Pair}
 use Rattle.cl_values.specs.declared.native.Native.{Native}
-use Rattle.cl_values.specs.declared.native.Native.TheVariants.{Add, Subtract, Multiply, Divide, Modulo, Power, Xor, SquareRoot, Log2, ToInt, ToUint, Not}
 use Rattle.cl_values.specs.Tree.{Tree as Val, TupleV}
 use Rattle.cl_values.specs.Computed.{Gives}
 use Rattle.cl_values.specs.Tuples.{sorted_entries, part_at}

@@ -1,8 +1,8 @@
 -- Forms all of whose parts are taken, and then charged.
-use Rattle.std.proofs.Common.{◌≡◌, inl, ℕ, suc, ◌≤◌, Bool, true, false, List, [], ◌∷◌, length, Option, refl, ap, arith}
-use Rattle.std.specs.Prelude.{◌&&◌, nat_le, if◌then◌else◌}
+use Rattle.std.proofs.Common.{◌≡◌, inl, ℕ, ◌≤◌, Bool, true, false, List, [], ◌∷◌, Option}
+use Rattle.std.specs.Prelude.{nat_le, if◌then◌else◌}
 use Rattle.std.proofs.lemmas.Bool.{le-leb}
-use Rattle.cl_types.specs.Types.{PlainType, size_of as type_size}
+use Rattle.cl_types.specs.Types.{PlainType}
 use Rattle.cl_shapes.specs.declared.name.CostName.{CostName}
 use Rattle.cl_shapes.specs.Costs.{plus, zero_cost}
 use Rattle.cl_sexpr.specs.Tree.{Tree, LeafAt, Named}
@@ -12,11 +12,11 @@ use Rattle.cl_values.specs.Wire.{size_of}
 use Rattle.cl_values.specs.Computed.{Computed, Gives, Fails, Panics, Undefined}
 use Rattle.cl_events.specs.State.{State}
 use Rattle.cl_meaning.specs.Answers.{Given, Wrong, Answer, stop, charged, and_then, is_within, outcome_of}
-use Rattle.cl_meaning.specs.Scope.{parts, sizes}
+use Rattle.cl_meaning.specs.Scope.{parts}
 use Rattle.cl_rules.specs.Faults.{type_rules}
 use Rattle.cl_rules.specs.NativeTypes.{Ruled}
 use Rattle.cl_rules.specs.Context.{Bound as Weight, charge, both}
-use Rattle.cl_rules.specs.Verdicts.{Found, types_of, highest, sum_of, sizes_of, concluded}
+use Rattle.cl_rules.specs.Verdicts.{Found, types_of, highest, sum_of, concluded}
 use Rattle.cl_rules.specs.Shapes.{parts as all_parts, first_named, is_no_name}
 use Rattle.cl_expression_sound.specs.Fitted.{Fitted, Follows}
 use Rattle.cl_expression_sound.specs.Sound.{World, IsFine, IsSound, IsAsFound, IsKept}
@@ -26,8 +26,6 @@ use Rattle.cl_expression_sound.proofs.Thrown.{MayThrow}
 use Rattle.cl_expression_sound.proofs.Stands.{Stands, here, part_sound, parts_sound, concluded_sound}
 use Rattle.cl_values.specs.Typed.{IsOf, AreOf}
 use Rattle.cl_native_sound.specs.ValuesFit.{IsComputed}
-use Rattle.cl_values.proofs.OfTypes.{no_larger}
-use Rattle.cl_native_sound.proofs.Charges.{sizes_within, as_many}
 use Rattle.cl_types.proofs.Lattice.{and_both}
 
 -- ---- values

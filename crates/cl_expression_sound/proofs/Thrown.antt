@@ -1,14 +1,12 @@
 -- Values of types, and what may be thrown.
-use Rattle.std.proofs.Common.{◌≡◌, ◌⊎◌, inl, inr, ℕ, ◌≤◌, Bool, true, false, List, [], ◌∷◌, ◌++◌, map, Option, Some, None, Result, Ok, Err, refl}
-use Rattle.std.specs.Prelude.{◌||◌}
-use Rattle.cl_types.specs.Types.{PlainType, NoType, admits, size_of as type_size}
+use Rattle.std.proofs.Common.{◌≡◌, ◌⊎◌, inl, inr, ℕ, false, List, [], ◌∷◌, ◌++◌, map, Option, Some, None, Result, Ok, Err, refl}
+use Rattle.cl_types.specs.Types.{PlainType, NoType}
 use Rattle.cl_types.specs.Lattice.{least_supertype}
 use Rattle.cl_types.specs.declared.sized.TyRefusal.{TyRefusal}
 use Rattle.cl_types.specs.declared.sized.TyRefusal.TheVariants.{Differ, TooLarge, TooDeep, EmptyTuple, KeyTwice}
 use Rattle.cl_types.proofs.LatticeAnswers.{ok_least}
 use Rattle.cl_values.specs.Tree.{Tree as Val}
-use Rattle.cl_values.specs.Wire.{size_of}
-use Rattle.cl_values.proofs.Admitted.{admitted, bounded, no_inhabitant}
+use Rattle.cl_values.proofs.Admitted.{no_inhabitant}
 use Rattle.cl_rules.specs.Faults.{type_rules}
 use Rattle.cl_rules.specs.NativeTypes.{Ruled}
 use Rattle.cl_rules.specs.Context.{Bound}
@@ -16,7 +14,7 @@ use Rattle.cl_rules.specs.Verdicts.{Found, Thrown, and_throws, thrown_after, thr
 use Rattle.cl_expression_sound.specs.Sound.{IsThrown}
 use Rattle.cl_expression_sound.proofs.Rules.{AreFineTypes, fine_types, no_type_rules, or_left, or_right}
 use Rattle.cl_values.specs.Typed.{IsOf}
-use Rattle.cl_values.proofs.OfTypes.{raised_of, no_larger}
+use Rattle.cl_values.proofs.OfTypes.{raised_of}
 
 -- ---- values of types
 

@@ -3,7 +3,6 @@ use Rattle.std.proofs.Common.{◌≡◌, ℕ, ◌<◌, Bool, true, false, List, 
 use Rattle.std.specs.Prelude.{◌+◌, ◌==◌, nat_lt, Contains, Result, Ok, Err, if◌then◌else◌}
 use Rattle.std.specs.List.{AllByRecursion as ByRecursion}
 use Rattle.std.proofs.lemmas.Option.{none-some}
-use Rattle.cl_types.specs.Types.{PlainType}
 use Rattle.cl_c32.specs.declared.principal.Principal.{Principal}
 use Rattle.cl_values.specs.Valid.{IsPrincipal}
 use Rattle.cl_maps.specs.Maps.{Map, get, or_zero}

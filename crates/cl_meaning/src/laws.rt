@@ -1,6 +1,5 @@
 //! What holds of meanings and of what a limit leaves of them: each function here is a law, and does nothing.
-ghost use Rattle.std.specs.Prelude.{◌≡◌, ◌≢◌, ℕ, suc, ◌+◌, List, [], All, Option, Some, None, Ok, Err};
-ghost use Rattle.cl_types.specs.Types.{PlainType};
+ghost use Rattle.std.specs.Prelude.{◌≡◌, ◌≢◌, ℕ, suc, ◌+◌, List, [], All, Some, None, Ok, Err};
 ghost use Rattle.cl_c32.specs.declared.principal.Principal.{Principal};
 ghost use Rattle.cl_shapes.specs.declared.limit.Over.{Over};
 ghost use Rattle.cl_shapes.specs.Costs.{plus, IsAtMost};
