@@ -1,0 +1,4 @@
+pub mod SameContracts
+pub mod Calling
+pub mod Deploying
+pub mod Entries

@@ -1,0 +1,36 @@
+-- Sound nodes: each contract stands for one accepted text, the state is kept, and nothing was told or moved.
+use Rattle.std.specs.Prelude.{◌≡◌, ℕ, ◌<◌, ◌^◌, List, [], Some}
+use Rattle.std.specs.List.{All}
+use Rattle.cl_c32.specs.Address.{IsAddress}
+use Rattle.cl_c32.specs.ContractName.{IsContractName}
+use Rattle.cl_c32.specs.declared.principal.Principal.{Principal}
+use Rattle.cl_shapes.specs.declared.cost.Cost5.{Cost5}
+use Rattle.cl_shapes.specs.Costs.{IsAtMost}
+use Rattle.cl_values.specs.Valid.{IsVal, IsPrincipal}
+use Rattle.cl_meaning.specs.Kept.{Whole, Kept}
+use Rattle.cl_meaning.specs.Limits.{Costs}
+use Rattle.cl_rules.specs.Context.{Known, Signature, known_at, signature_in}
+use Rattle.cl_contract_sound.specs.Nodes.{AreContracts}
+use Rattle.cl_tx.specs.declared.entry.Entry.{Entry}
+use Rattle.cl_tx.specs.declared.entry.Entry.TheVariants.{Deploy, Call}
+use Rattle.cl_tx.specs.Nodes.{NodeSeen}
+
+pub record IsSoundNode (costs : Costs) (node : NodeSeen) : Type 0 where
+  pub contracts : AreContracts costs node.contracts node.known
+  pub kept : Kept node.contracts Whole node.state
+  pub height : node.height < 2 ^ 128
+  pub no_events : node.state.events ≡ []
+  pub no_moves : node.state.moves ≡ []
+
+-- a cost is at most the bound of the function that callers see under this name
+pub record IsWithinBound (costs : Costs) (ks : List Known) (p : Principal) (x : List ℕ) (cost : Cost5) : Type 0 where
+  pub known : Known
+  pub signature : Signature
+  pub there : known_at p ks ≡ Some known
+  pub told : signature_in x known.functions ≡ Some signature
+  pub low : IsAtMost cost (signature.bound costs)
+
+-- principals and values of an entry are within the limits, as the types of the code keep them
+abbrev pub HasParts : Entry → Type 0
+HasParts (Deploy common name source) = IsAddress common.sender × IsContractName name
+HasParts (Call common contract function args) = IsAddress common.sender × IsPrincipal contract × All IsVal args
