@@ -2,10 +2,12 @@
 #![tactic(auto)]
 
 mod held;
+mod history;
 mod keys;
 mod laws;
+mod ledgers;
+mod note;
 mod place;
-mod tables;
 mod world;
 
 pub use laws::{places_have_own_keys, variables_are_looked_up};

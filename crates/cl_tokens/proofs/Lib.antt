@@ -3,3 +3,4 @@ pub mod Slots
 pub mod Balances
 pub mod Acts
 pub mod AssetActs
+pub mod Backs

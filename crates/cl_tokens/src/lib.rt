@@ -1,6 +1,7 @@
 //! Ledgers of tokens: balances that sum to the supply, and assets that have one owner each.
 #![tactic(auto)]
 
+mod act;
 mod fungible;
 mod key;
 mod laws;
@@ -8,6 +9,7 @@ mod non_fungible;
 mod refusal;
 mod table;
 
+pub use act::Act;
 pub use fungible::Fungible;
 pub use key::Key;
 pub use laws::{acts_keep_ledgers, acts_move_amounts, transfers_keep_supply};
