@@ -1,0 +1,18 @@
+//! Calls with ample memory of what no command reaches yet, and of the adapters over real files and output. A contract lets want
+//! of memory through, so that a call can succeed is tried here; what it answers then is proved.
+#![tactic(auto)]
+
+#[cfg(test)]
+mod costs;
+#[cfg(test)]
+mod files;
+#[cfg(test)]
+mod orders;
+#[cfg(test)]
+mod principals;
+#[cfg(test)]
+mod texts;
+#[cfg(test)]
+mod tokens;
+#[cfg(test)]
+mod world;

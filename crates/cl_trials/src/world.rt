@@ -1,0 +1,139 @@
+//! The world of a node: entries of maps, printed values, holders of STX.
+use cl_c32::{Address, ContractName, Principal};
+use cl_state::{Place, World};
+use cl_types::{Name, NoMemory};
+use cl_values::{Kind, Val, Value, ValueRefusal};
+use std::alloc::Global;
+use std::test::Fail;
+
+fn int(number: i128) -> Result<Val, ValueRefusal> {
+    let kind = Kind::Int(number);
+    Val::make(Value { kind })
+}
+
+fn place(contract: &str, name: &str) -> Option<Place> {
+    let address = Address::new(22, &[7; 20]);
+    let contract = ContractName::make(contract.as_bytes())?;
+    let name = Name::make(name.as_bytes())?;
+    Some(Place {
+        contract: Principal {
+            address,
+            contract: Some(contract),
+        },
+        name,
+    })
+}
+
+fn is_int(found: &Option<Val>, number: i128) -> bool {
+    match found {
+        Some(value) => match &value.value().kind {
+            Kind::Int(other) => *other == number,
+            _ => false,
+        },
+        None => false,
+    }
+}
+
+fn stands(world: &World, at: &Place, key: &Val, number: i128) -> Result<bool, NoMemory> {
+    let found = world.entry(at, key)?;
+    Ok(is_int(&found, number))
+}
+
+fn holds(world: &World, at: &Place, number: i128) -> Result<bool, NoMemory> {
+    let found = world.variable(at)?;
+    Ok(is_int(&found, number))
+}
+
+fn number_of_variables(world: &World) -> Result<usize, NoMemory> {
+    let rows = world.variables()?;
+    Ok(rows.len())
+}
+
+// A world with holders, of whom one is there twice.
+fn genesis(alloc: Global) -> Result<World, Fail> {
+    let mut holders = Vec::new(alloc);
+    for (version, amount) in [(22, 1_000), (26, 0), (26, u128::MAX - 1_000)] {
+        let address = Address::new(version, &[1; 20]);
+        let contract = None;
+        holders.push((Principal { address, contract }, amount))?;
+    }
+    Ok(World::genesis(holders)?)
+}
+
+fn has_told_nothing(alloc: Global) -> Result<bool, Fail> {
+    let world = genesis(alloc)?;
+    Ok(world.layers() == 0 && world.events().is_empty() && world.moves().is_empty())
+}
+
+#[test]
+fn genesis_has_told_nothing(rt: HostRuntime) -> Result<(), Fail> {
+    assert!(rt; has_told_nothing(rt.alloc())?);
+    Ok(())
+}
+
+// Puts an entry under a key of the map, and another in a layer, where it is taken off again.
+fn put_and_remove(world: &mut World, at: &Place, key: &Val) -> Result<bool, Fail> {
+    world.put_entry(at, key, int(4)?)?;
+    world.push_layer()?;
+    world.put_entry(at, key, int(5)?)?;
+    let first = stands(world, at, key, 5)?;
+    let removed = world.remove_entry(at, key)?;
+    let again = world.remove_entry(at, key)?;
+    Ok(first && removed && !again)
+}
+
+fn entry_is_back(world: &mut World, at: &Place) -> Result<bool, Fail> {
+    let key = int(1)?;
+    if !put_and_remove(world, at, &key)? || world.layers() == 0 {
+        return Ok(false);
+    }
+    world.drop_layer();
+    Ok(stands(world, at, &key, 4)?)
+}
+
+fn entries_stand(alloc: Global) -> Result<bool, Fail> {
+    let at = place("main", "a").ok_or("a place")?;
+    let mut world = World::genesis(Vec::new(alloc))?;
+    entry_is_back(&mut world, &at)
+}
+
+#[test]
+fn entries_of_a_map(rt: HostRuntime) -> Result<(), Fail> {
+    assert!(rt; entries_stand(rt.alloc())?);
+    Ok(())
+}
+
+// Prints a value and writes a variable in a layer on another, and keeps both.
+fn print_and_keep(world: &mut World, at: &Place) -> Result<bool, Fail> {
+    world.push_layer()?;
+    world.push_layer()?;
+    world.print(&at.contract, int(1)?)?;
+    world.put_variable(at, int(2)?)?;
+    if world.layers() == 0 {
+        return Ok(false);
+    }
+    world.keep_layer()?;
+    Ok(world.layers() == 1)
+}
+
+fn is_committed(world: &mut World, at: &Place) -> Result<bool, NoMemory> {
+    let told = world.events().len();
+    if world.layers() != 1 {
+        return Ok(false);
+    }
+    world.commit()?;
+    let variables = number_of_variables(world)?;
+    Ok(told == 1 && world.events().is_empty() && variables == 1 && holds(world, at, 2)?)
+}
+
+fn print_is_told(alloc: Global) -> Result<bool, Fail> {
+    let at = place("main", "a").ok_or("a place")?;
+    let mut world = World::genesis(Vec::new(alloc))?;
+    Ok(print_and_keep(&mut world, &at)? && is_committed(&mut world, &at)?)
+}
+
+#[test]
+fn a_printed_value(rt: HostRuntime) -> Result<(), Fail> {
+    assert!(rt; print_is_told(rt.alloc())?);
+    Ok(())
+}
