@@ -1,5 +1,6 @@
 -- Calls of functions, of the contract and of others, and their applications.
-use Rattle.std.proofs.Common.{◌≡◌, inl, inr, ℕ, suc, ◌≤◌, true, false, List, [], ◌∷◌, ◌++◌, map, length, Option, Some, None, Result, Ok, Err, refl, sym, ap, subst, ◌∙◌, arith, append_assoc, append-nil}
+use Rattle.std.proofs.Common.{◌≡◌, inl, inr, ℕ, suc, ◌≤◌, true, false, List, [], ◌∷◌, ◌++◌, map, length, Option, Some, None, Result, Ok, Err, refl, sym, subst, ◌∙◌, arith, append_assoc, append-nil}
+use Rattle.std.proofs.lemmas.List.{length-map}
 use Rattle.std.specs.Prelude.{unwrap_or}
 use Rattle.std.proofs.lemmas.Bool.{ltb-false}
 use Rattle.cl_types.specs.Types.{PlainType, NoType, ResponseType, size_of as type_size}
@@ -130,10 +131,6 @@ is_return access f h = is_return_by access f (return_of f).type refl h (by f.thr
 
 -- ---- applications
 
-as_many_params : (ps : Names) → length (map (λ (p : List ℕ × PlainType). p.1) ps) ≡ length ps
-as_many_params [] = refl
-as_many_params (p ∷ ps) = ap suc (as_many_params ps)
-
 opened_form : (K : World) (take : Take) (F : Frame) (B : Values) (fn : Function) (vs : List Val) (s : State) (P : Val → Type 0) (c : Cost5) → IsSound K P NoThrow c (charged Call (length vs) (bound_to (body_in take (scope K F B) fn) [] fn.params vs s)) → IsSound K P NoThrow c (function_form take (scope K F B) fn vs s)
 unfolding function_form
 opened_form K take F B fn vs s P c h = h
@@ -188,7 +185,7 @@ module _ (K : World) (take : Take) (depth : ℕ) (T : TakesSound K take depth) w
       called_sound : served.found.height ≤ depth → AreOf vs (map (λ (p : List ℕ × PlainType). p.1) fn.params) → IsSound K (λ v. IsOf v (unwrap_or (return_of served.found).type NoType)) NoThrow (application fn.params served.found K.costs) (charged Call (length vs) (bound_to (body_in take (scope K F B) fn) [] fn.params vs s))
       called_sound low i =
           subst (λ m. IsSound K (λ v. IsOf v (unwrap_or (return_of served.found).type NoType)) NoThrow (plus (charge Call m K.costs) (plus (binds (map (λ (p : List ℕ × PlainType). p.1) fn.params) K.costs) (served.found.bound K.costs))) (charged Call (length vs) (bound_to (body_in take (scope K F B) fn) [] fn.params vs s)))
-          (as_many (map (λ (p : List ℕ × PlainType). p.1) fn.params) vs i ∙ as_many_params fn.params)
+          (as_many (map (λ (p : List ℕ × PlainType). p.1) fn.params) vs i ∙ length-map fn.params (λ (p : List ℕ × PlainType). p.1))
           (sound_charged K Call (length vs) _ _
           (bound_sound (body_in take (scope K F B) fn) (served.found.bound K.costs) s fn.params vs [] [] tt i
           (λ E are. body_sound served.inner fn served.found served.good served.typed served.sound low F inside E B are s n)))

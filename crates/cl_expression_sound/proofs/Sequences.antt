@@ -1,5 +1,6 @@
 -- map, filter and fold.
 use Rattle.std.proofs.Common.{◌≡◌, ℕ, suc, Bool, true, false, List, [], ◌∷◌, map, drop, length, refl, sym, ap, subst, ◌∙◌, arith}
+use Rattle.std.proofs.lemmas.List.{length-map}
 use Rattle.std.specs.Prelude.{◌&&◌, not, if◌then◌else◌}
 use Rattle.std.specs.List.{list_all}
 use Rattle.std.proofs.lemmas.Bool.{eqb-true}
@@ -100,10 +101,6 @@ two_admit [] x t e h k = absurd (omega (arith, e))
 two_admit (p ∷ []) x t e h k = absurd (omega (arith, e))
 two_admit (p ∷ q ∷ o ∷ ps) x t e h k = absurd (omega (arith, e))
 
-as_many_types : (ps : List (List ℕ × PlainType)) → length (map (λ (p : List ℕ × PlainType). p.1) ps) ≡ length ps
-as_many_types [] = refl
-as_many_types (p ∷ ps) = ap suc (as_many_types ps)
-
 function_fold : (f : Signature) (s i : PlainType) → takes_values (AFunction f) 2 ≡ true → type_rules (fold_function f s i).faults ≡ [] → IsFold (AFunction f) s i
 function_fold f s i count h =
     let make = λ (t : PlainType). of_kind (admits_first (drop 1 (param_types f)) t) t in
@@ -111,7 +108,7 @@ function_fold f s i count h =
     let l = lub_is (least_supertype i f.returns) make a.1 in
     let same : (fold_function f s i).type ≡ l.type = ap (λ (r : Ruled). r.type) l.made in
     let fine_m = fine_types (make l.type).faults (subst (λ (r : Ruled). type_rules r.faults ≡ []) l.made a.1) in
-    let two : length (param_types f) ≡ 2 = as_many_types f.params ∙ sym (eqb-true 2 (length f.params) count) in
+    let two : length (param_types f) ≡ 2 = length-map f.params (λ (p : List ℕ × PlainType). p.1) ∙ sym (eqb-true 2 (length f.params) count) in
     let all = two_admit (param_types f) (entry_of s) l.type two (rest_true (is_sequence s) _ a.0) (not_false (admits_first (drop 1 (param_types f)) l.type) fine_m.argument_kind) in
     record {
       sequence = first_true (is_sequence s) _ a.0;

@@ -1,5 +1,6 @@
 -- Contracts in another order: a contract at the end is one in front.
 use Rattle.std.proofs.Common.{◌≡◌, ◌⊎◌, inl, inr, ℕ, Bool, true, false, List, [], ◌∷◌, ◌++◌, Option, Some, refl, sym, ap, subst, ◌∙◌, arith}
+use Rattle.cl_contract_sound.proofs.States.{some_contract}
 use Rattle.std.specs.Prelude.{if◌then◌else◌, Contains}
 use Rattle.std.proofs.lemmas.List.Elements.{Contains-append_left, Contains-append_right, Contains-append_cases, Contains-push, Contains-push_cases}
 use Rattle.cl_c32.specs.declared.principal.Principal.{Principal}
@@ -74,9 +75,6 @@ at_end p c [] h = refl
 at_end p c (d ∷ W) h =
     ap (λ o. if is_principal d.principal p then Some d else o) (at_end p c W (λ b i. h b (Contains-append_right (d ∷ []) W b i)))
     ∙ if_both (is_principal d.principal p) (is_principal c.principal p) d c (contract_at p W) (h d (Contains-append_left (d ∷ []) W d (Contains-push [] d)))
-
-some_contract : (c d : Contract) → Some c ≡ Some d → c ≡ d
-some_contract c d e = cc
 
 first_found : (p : Principal) (c : Contract) (W : Deployed) → is_principal c.principal p ≡ true → contract_at p (c ∷ W) ≡ Some c
 first_found p c W h = by (is_principal c.principal p) h
