@@ -1,4 +1,4 @@
-//! Values made of values, and the calls on sequences. No value is walked again.
+//! Values made of values, sequences and tuples. What is owned is moved.
 #![tactic(auto)]
 
 mod calls;
