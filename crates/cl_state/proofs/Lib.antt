@@ -6,4 +6,3 @@ pub mod Past
 pub mod PlaceKeys
 pub mod Rows
 pub mod StxActs
-pub mod Numbered

@@ -5,7 +5,6 @@ mod held;
 mod history;
 mod keys;
 mod laws;
-mod ledgers;
 mod note;
 mod place;
 mod world;
