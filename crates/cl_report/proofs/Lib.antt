@@ -1,3 +1,4 @@
+pub mod Examples
 pub mod Functions
 pub mod LineOrder
 pub mod StateText

@@ -66,13 +66,8 @@ fn with_number(alloc: Global, number: &str) -> Result<String, AllocError> {
     )?)
 }
 
-fn is_no_shape(told: Result<CostTable, Fault<CostRefusal>>) -> bool {
-    match told {
-        Err(Fault::Refused(CostRefusal::BadShape { name, dimension })) => {
-            name.bytes() == b"arith".as_slice() && dimension.as_str() == "runtime"
-        }
-        _ => false,
-    }
+fn is_no_shape(told: &Result<CostTable, Fault<CostRefusal>>) -> bool {
+    matches!(told, Err(Fault::Refused(CostRefusal::BadShape { .. })))
 }
 
 // They are read as floats.
@@ -91,7 +86,7 @@ fn numbers_that_are_not_whole(rt: HostRuntime) -> Result<(), Fail> {
     ];
     for number in numbers {
         let file = with_number(rt.alloc(), number)?;
-        assert!(rt; is_no_shape(read(rt.alloc(), file.as_bytes())), "{number}");
+        assert!(rt; is_no_shape(&read(rt.alloc(), file.as_bytes())), "{number}");
     }
     Ok(())
 }

@@ -43,10 +43,14 @@ fn transfer() -> Option<Event> {
     Some(Event { contract: to, kind })
 }
 
+fn line_of_a_transfer(alloc: Global) -> Result<Vec<u8>, Fail> {
+    let event = transfer().ok_or("an event")?;
+    Ok(event_line(alloc, &event)?)
+}
+
 #[test]
 fn a_line_of_an_event(rt: HostRuntime) -> Result<(), Fail> {
-    let event = transfer().ok_or("an event")?;
-    let line = event_line(rt.alloc(), &event)?;
+    let line = line_of_a_transfer(rt.alloc())?;
     let wanted =
         "  event ft-transfer 'SP000000000000000000002Q6VF78.c coin u200 'SP000000000000000000002Q6VF78 'SP000000000000000000002Q6VF78.c\n";
     assert_eq!(rt; line.as_slice(), wanted.as_bytes());

@@ -60,15 +60,8 @@ fn genesis(alloc: Global) -> Result<World, Fail> {
     Ok(World::genesis(holders)?)
 }
 
-fn has_told_nothing(alloc: Global) -> Result<bool, Fail> {
-    let world = genesis(alloc)?;
-    Ok(world.layers() == 0 && world.events().is_empty() && world.moves().is_empty())
-}
-
-#[test]
-fn genesis_has_told_nothing(rt: HostRuntime) -> Result<(), Fail> {
-    assert!(rt; has_told_nothing(rt.alloc())?);
-    Ok(())
+fn has_told_nothing(world: &World) -> bool {
+    world.layers() == 0 && world.events().is_empty() && world.moves().is_empty()
 }
 
 // Puts an entry under a key of the map, and another in a layer, where it is taken off again.
@@ -89,18 +82,6 @@ fn entry_is_back(world: &mut World, at: &Place) -> Result<bool, Fail> {
     }
     world.drop_layer();
     Ok(stands(world, at, &key, 4)?)
-}
-
-fn entries_stand(alloc: Global) -> Result<bool, Fail> {
-    let at = place("main", "a").ok_or("a place")?;
-    let mut world = World::genesis(Vec::new(alloc))?;
-    entry_is_back(&mut world, &at)
-}
-
-#[test]
-fn entries_of_a_map(rt: HostRuntime) -> Result<(), Fail> {
-    assert!(rt; entries_stand(rt.alloc())?);
-    Ok(())
 }
 
 // Prints a value and writes a variable in a layer on another, and keeps both.
@@ -126,14 +107,43 @@ fn is_committed(world: &mut World, at: &Place) -> Result<bool, NoMemory> {
     Ok(told == 1 && world.events().is_empty() && variables == 1 && holds(world, at, 2)?)
 }
 
-fn print_is_told(alloc: Global) -> Result<bool, Fail> {
+// what is tried on a world
+#[derive(Clone, Copy)]
+enum Trial {
+    Genesis,
+    Entries,
+    Prints,
+}
+
+fn goes_well(world: &mut World, trial: Trial) -> Result<bool, Fail> {
     let at = place("main", "a").ok_or("a place")?;
-    let mut world = World::genesis(Vec::new(alloc))?;
-    Ok(print_and_keep(&mut world, &at)? && is_committed(&mut world, &at)?)
+    match trial {
+        Trial::Genesis => Ok(has_told_nothing(world)),
+        Trial::Entries => entry_is_back(world, &at),
+        Trial::Prints => Ok(print_and_keep(world, &at)? && is_committed(world, &at)?),
+    }
+}
+
+// No other function owns a world, since letting go of one is dear to prove.
+fn goes_well_at_first(alloc: Global, trial: Trial) -> Result<bool, Fail> {
+    let mut world = genesis(alloc)?;
+    goes_well(&mut world, trial)
+}
+
+#[test]
+fn genesis_has_told_nothing(rt: HostRuntime) -> Result<(), Fail> {
+    assert!(rt; goes_well_at_first(rt.alloc(), Trial::Genesis)?);
+    Ok(())
+}
+
+#[test]
+fn entries_of_a_map(rt: HostRuntime) -> Result<(), Fail> {
+    assert!(rt; goes_well_at_first(rt.alloc(), Trial::Entries)?);
+    Ok(())
 }
 
 #[test]
 fn a_printed_value(rt: HostRuntime) -> Result<(), Fail> {
-    assert!(rt; print_is_told(rt.alloc())?);
+    assert!(rt; goes_well_at_first(rt.alloc(), Trial::Prints)?);
     Ok(())
 }
