@@ -19,29 +19,29 @@ use Rattle.cl_costs.specs.CostFile.{all_shapes, function_in, function_at, functi
 
 -- no JSON, or no object; with a byte order mark, in UTF-16, no UTF-8, half a character
 no_files : map table_of (
-        []
-        ∷ codes "costs"
-        ∷ codes "{\"literal\": {},}"
-        ∷ codes "{} {}"
-        ∷ (239 ∷ 187 ∷ 191 ∷ 123 ∷ 125 ∷ [])
-        ∷ (123 ∷ 0 ∷ 34 ∷ 0 ∷ 97 ∷ 0 ∷ 34 ∷ 0 ∷ 58 ∷ 0 ∷ 49 ∷ 0 ∷ 125 ∷ 0 ∷ [])
-        ∷ (123 ∷ 34 ∷ 255 ∷ 34 ∷ 58 ∷ 32 ∷ 49 ∷ 125 ∷ [])
-        ∷ codes "{\"\\ud800\": 1}"
-        ∷ codes "[]"
-        ∷ codes "\"literal\""
-        ∷ codes "7"
-        ∷ codes "null"
-        ∷ []) ≡ replicate 12 (Err NotJson)
+    []
+    ∷ codes "costs"
+    ∷ codes "{\"literal\": {},}"
+    ∷ codes "{} {}"
+    ∷ (239 ∷ 187 ∷ 191 ∷ 123 ∷ 125 ∷ [])
+    ∷ (123 ∷ 0 ∷ 34 ∷ 0 ∷ 97 ∷ 0 ∷ 34 ∷ 0 ∷ 58 ∷ 0 ∷ 49 ∷ 0 ∷ 125 ∷ 0 ∷ [])
+    ∷ (123 ∷ 34 ∷ 255 ∷ 34 ∷ 58 ∷ 32 ∷ 49 ∷ 125 ∷ [])
+    ∷ codes "{\"\\ud800\": 1}"
+    ∷ codes "[]"
+    ∷ codes "\"literal\""
+    ∷ codes "7"
+    ∷ codes "null"
+    ∷ []) ≡ replicate 12 (Err NotJson)
 unfolding json_of is_utf8 chars lib.Utf8.encode code_unit short_escape content after_number word lex punctuate json.items json.members json.value number_of scan_numeral table_in
 no_files = refl
 
 files_without_names : map table_of (
-        codes "{}"
-        ∷ (32 ∷ 9 ∷ 13 ∷ 10 ∷ codes "{ } ")
-        ∷ codes "{\"b\": 1, \"a\": 2, \"literal\": 3}"
-        ∷ (codes "{\"" ++ 195 ∷ 169 ∷ codes "\": 1, \"Literal\": 2}")
-        ∷ codes "{\"\\u00e9\": 1, \"literal\": 2}"
-        ∷ []) ≡
+    codes "{}"
+    ∷ (32 ∷ 9 ∷ 13 ∷ 10 ∷ codes "{ } ")
+    ∷ codes "{\"b\": 1, \"a\": 2, \"literal\": 3}"
+    ∷ (codes "{\"" ++ 195 ∷ 169 ∷ codes "\": 1, \"Literal\": 2}")
+    ∷ codes "{\"\\u00e9\": 1, \"literal\": 2}"
+    ∷ []) ≡
     Err (Missing (codes "literal"))
     ∷ Err (Missing (codes "literal"))
     ∷ Err (Unknown (codes "a"))
@@ -56,82 +56,82 @@ abbrev arith : List ℕ → Option (Result CostFn CostRefusal)
 arith text = option_map (function_in Arith) (json_of text)
 
 faults_of_a_function : map arith (
-        codes "[]"
-        ∷ codes "null"
-        ∷ codes "7"
-        ∷ codes "{\"runtime\": null}"
-        ∷ codes "{\"runtime\": \"constant\"}"
-        ∷ codes "{\"runtime\": {\"constant\": 1}}"
-        ∷ codes "{\"runtime\": []}"
-        ∷ codes "{\"runtime\": [\"constant\"]}"
-        ∷ codes "{\"runtime\": [\"constant\", 1, 2]}"
-        ∷ codes "{\"runtime\": [\"constant\", \"1\"]}"
-        ∷ codes "{\"runtime\": [\"constant\", [1]]}"
-        ∷ codes "{\"runtime\": [\"Constant\", 1]}"
-        ∷ codes "{\"runtime\": [1, \"constant\"]}"
-        ∷ codes "{\"runtime\": [\"linear\", 1]}"
-        ∷ codes "{\"runtime\": [\"linear\", 1, 2, 3]}"
-        ∷ codes "{\"runtime\": [\"logn\", 1, null]}"
-        ∷ codes "{\"runtime\": [\"nlogn\", null, 1]}"
-        ∷ codes "{\"runtime\": [\"quadratic\", 1, 2]}"
-        ∷ codes "{\"write_length\": 1, \"read_count\": 2}"
-        ∷ codes "{\"read_length\": 1, \"read_count\": 2}"
-        ∷ codes "{\"write_count\": 1, \"read_length\": 2}"
-        ∷ codes "{\"write_length\": 1, \"write_count\": 2}"
-        ∷ codes "{\"write_length\": 1, \"runtime\": [\"constant\", 0]}"
-        ∷ codes "{\"speed\": 1, \"heat\": 2}"
-        ∷ codes "{\"a\": 1, \"Z\": 2}"
-        ∷ codes "{\"heat\": [\"constant\", 1]}"
-        ∷ codes "{\"heat\": 1, \"write_length\": 2}"
-        ∷ codes "{\"\\u00e9\": 1}"
-        ∷ codes "{\"runtime\": [\"constant\", 4294967296], \"write_length\": 1}"
-        ∷ codes "{\"runtime\": [\"constant\", 4294967296], \"heat\": 1}"
-        ∷ codes "{\"write_length\": [\"linear\", 0, 4294967296]}"
-        ∷ codes "{\"read_count\": [\"logn\", 4294967296, 0]}"
-        ∷ codes "{\"write_count\": [\"nlogn\", 4294967296, 4294967296]}"
-        ∷ codes "{\"runtime\": [\"linear\", 4294967296, -1]}"
-        ∷ codes "{\"runtime\": [\"quadratic\", 4294967296, 1]}"
-        ∷ codes "{\"runtime\": [\"linear\", 4294967296]}"
-        ∷ codes "{\"runtime\": [\"constant\", 1], \"runtime\": 7}"
-        ∷ []) ≡ map (λ (why : CostRefusal). Some (Err why)) (
-        BadShape (codes "arith") (codes "runtime")
-        ∷ BadShape (codes "arith") (codes "runtime")
-        ∷ BadShape (codes "arith") (codes "runtime")
-        ∷ BadShape (codes "arith") (codes "runtime")
-        ∷ BadShape (codes "arith") (codes "runtime")
-        ∷ BadShape (codes "arith") (codes "runtime")
-        ∷ BadShape (codes "arith") (codes "runtime")
-        ∷ BadShape (codes "arith") (codes "runtime")
-        ∷ BadShape (codes "arith") (codes "runtime")
-        ∷ BadShape (codes "arith") (codes "runtime")
-        ∷ BadShape (codes "arith") (codes "runtime")
-        ∷ BadShape (codes "arith") (codes "runtime")
-        ∷ BadShape (codes "arith") (codes "runtime")
-        ∷ BadShape (codes "arith") (codes "runtime")
-        ∷ BadShape (codes "arith") (codes "runtime")
-        ∷ BadShape (codes "arith") (codes "runtime")
-        ∷ BadShape (codes "arith") (codes "runtime")
-        ∷ BadShape (codes "arith") (codes "runtime")
-        ∷ BadShape (codes "arith") (codes "read_count")
-        ∷ BadShape (codes "arith") (codes "read_count")
-        ∷ BadShape (codes "arith") (codes "read_length")
-        ∷ BadShape (codes "arith") (codes "write_count")
-        ∷ BadShape (codes "arith") (codes "write_length")
-        ∷ BadShape (codes "arith") (codes "heat")
-        ∷ BadShape (codes "arith") (codes "Z")
-        ∷ BadShape (codes "arith") (codes "heat")
-        ∷ BadShape (codes "arith") (codes "write_length")
-        ∷ BadShape (codes "arith") (233 ∷ [])
-        ∷ BadShape (codes "arith") (codes "write_length")
-        ∷ BadShape (codes "arith") (codes "heat")
-        ∷ TooBig (codes "arith")
-        ∷ TooBig (codes "arith")
-        ∷ TooBig (codes "arith")
-        ∷ BadShape (codes "arith") (codes "runtime")
-        ∷ BadShape (codes "arith") (codes "runtime")
-        ∷ BadShape (codes "arith") (codes "runtime")
-        ∷ BadShape (codes "arith") (codes "runtime")
-        ∷ [])
+    codes "[]"
+    ∷ codes "null"
+    ∷ codes "7"
+    ∷ codes "{\"runtime\": null}"
+    ∷ codes "{\"runtime\": \"constant\"}"
+    ∷ codes "{\"runtime\": {\"constant\": 1}}"
+    ∷ codes "{\"runtime\": []}"
+    ∷ codes "{\"runtime\": [\"constant\"]}"
+    ∷ codes "{\"runtime\": [\"constant\", 1, 2]}"
+    ∷ codes "{\"runtime\": [\"constant\", \"1\"]}"
+    ∷ codes "{\"runtime\": [\"constant\", [1]]}"
+    ∷ codes "{\"runtime\": [\"Constant\", 1]}"
+    ∷ codes "{\"runtime\": [1, \"constant\"]}"
+    ∷ codes "{\"runtime\": [\"linear\", 1]}"
+    ∷ codes "{\"runtime\": [\"linear\", 1, 2, 3]}"
+    ∷ codes "{\"runtime\": [\"logn\", 1, null]}"
+    ∷ codes "{\"runtime\": [\"nlogn\", null, 1]}"
+    ∷ codes "{\"runtime\": [\"quadratic\", 1, 2]}"
+    ∷ codes "{\"write_length\": 1, \"read_count\": 2}"
+    ∷ codes "{\"read_length\": 1, \"read_count\": 2}"
+    ∷ codes "{\"write_count\": 1, \"read_length\": 2}"
+    ∷ codes "{\"write_length\": 1, \"write_count\": 2}"
+    ∷ codes "{\"write_length\": 1, \"runtime\": [\"constant\", 0]}"
+    ∷ codes "{\"speed\": 1, \"heat\": 2}"
+    ∷ codes "{\"a\": 1, \"Z\": 2}"
+    ∷ codes "{\"heat\": [\"constant\", 1]}"
+    ∷ codes "{\"heat\": 1, \"write_length\": 2}"
+    ∷ codes "{\"\\u00e9\": 1}"
+    ∷ codes "{\"runtime\": [\"constant\", 4294967296], \"write_length\": 1}"
+    ∷ codes "{\"runtime\": [\"constant\", 4294967296], \"heat\": 1}"
+    ∷ codes "{\"write_length\": [\"linear\", 0, 4294967296]}"
+    ∷ codes "{\"read_count\": [\"logn\", 4294967296, 0]}"
+    ∷ codes "{\"write_count\": [\"nlogn\", 4294967296, 4294967296]}"
+    ∷ codes "{\"runtime\": [\"linear\", 4294967296, -1]}"
+    ∷ codes "{\"runtime\": [\"quadratic\", 4294967296, 1]}"
+    ∷ codes "{\"runtime\": [\"linear\", 4294967296]}"
+    ∷ codes "{\"runtime\": [\"constant\", 1], \"runtime\": 7}"
+    ∷ []) ≡ map (λ (why : CostRefusal). Some (Err why)) (
+    BadShape (codes "arith") (codes "runtime")
+    ∷ BadShape (codes "arith") (codes "runtime")
+    ∷ BadShape (codes "arith") (codes "runtime")
+    ∷ BadShape (codes "arith") (codes "runtime")
+    ∷ BadShape (codes "arith") (codes "runtime")
+    ∷ BadShape (codes "arith") (codes "runtime")
+    ∷ BadShape (codes "arith") (codes "runtime")
+    ∷ BadShape (codes "arith") (codes "runtime")
+    ∷ BadShape (codes "arith") (codes "runtime")
+    ∷ BadShape (codes "arith") (codes "runtime")
+    ∷ BadShape (codes "arith") (codes "runtime")
+    ∷ BadShape (codes "arith") (codes "runtime")
+    ∷ BadShape (codes "arith") (codes "runtime")
+    ∷ BadShape (codes "arith") (codes "runtime")
+    ∷ BadShape (codes "arith") (codes "runtime")
+    ∷ BadShape (codes "arith") (codes "runtime")
+    ∷ BadShape (codes "arith") (codes "runtime")
+    ∷ BadShape (codes "arith") (codes "runtime")
+    ∷ BadShape (codes "arith") (codes "read_count")
+    ∷ BadShape (codes "arith") (codes "read_count")
+    ∷ BadShape (codes "arith") (codes "read_length")
+    ∷ BadShape (codes "arith") (codes "write_count")
+    ∷ BadShape (codes "arith") (codes "write_length")
+    ∷ BadShape (codes "arith") (codes "heat")
+    ∷ BadShape (codes "arith") (codes "Z")
+    ∷ BadShape (codes "arith") (codes "heat")
+    ∷ BadShape (codes "arith") (codes "write_length")
+    ∷ BadShape (codes "arith") (233 ∷ [])
+    ∷ BadShape (codes "arith") (codes "write_length")
+    ∷ BadShape (codes "arith") (codes "heat")
+    ∷ TooBig (codes "arith")
+    ∷ TooBig (codes "arith")
+    ∷ TooBig (codes "arith")
+    ∷ BadShape (codes "arith") (codes "runtime")
+    ∷ BadShape (codes "arith") (codes "runtime")
+    ∷ BadShape (codes "arith") (codes "runtime")
+    ∷ BadShape (codes "arith") (codes "runtime")
+    ∷ [])
 unfolding json_of is_utf8 chars lib.Utf8.encode code_unit short_escape content after_number word lex punctuate json.items json.members json.value number_of scan_numeral function_in all_shapes
 faults_of_a_function = refl
 
@@ -182,16 +182,16 @@ file place text =
     codes "{" ++ joined (take place members ++ text ∷ drop (suc place) members) ++ codes "}"
 
 faults_in_order : map table_of (
-        file 3 (codes "\"literal\": {}")
-        ∷ file 23 (codes "\"literal\": {}")
-        ∷ file 0 (codes "\"define\": {\"runtime\": 1}")
-        ∷ file 5 (codes "\"literal\": {\"runtime\": 1}")
-        ∷ file 9 (codes "\"literal\": {\"read_length\": [\"nlogn\", 0, 4294967296]}")
-        ∷ file 2 (codes "\"literal\": {\"heat\": 1}, \"lookup\": {\"runtime\": [\"constant\", 4294967296]}")
-        ∷ file 2 (codes "\"lookup\": {\"runtime\": [\"constant\", 4294967296]}, \"call\": 7")
-        ∷ file 4 (codes "\"literal\": 7, \"zz\": 1")
-        ∷ file 4 (codes "\"zz\": 1, \"ZZ\": 1")
-        ∷ []) ≡
+    file 3 (codes "\"literal\": {}")
+    ∷ file 23 (codes "\"literal\": {}")
+    ∷ file 0 (codes "\"define\": {\"runtime\": 1}")
+    ∷ file 5 (codes "\"literal\": {\"runtime\": 1}")
+    ∷ file 9 (codes "\"literal\": {\"read_length\": [\"nlogn\", 0, 4294967296]}")
+    ∷ file 2 (codes "\"literal\": {\"heat\": 1}, \"lookup\": {\"runtime\": [\"constant\", 4294967296]}")
+    ∷ file 2 (codes "\"lookup\": {\"runtime\": [\"constant\", 4294967296]}, \"call\": 7")
+    ∷ file 4 (codes "\"literal\": 7, \"zz\": 1")
+    ∷ file 4 (codes "\"zz\": 1, \"ZZ\": 1")
+    ∷ []) ≡
     Err (Missing (codes "control"))
     ∷ Err (Missing (codes "define"))
     ∷ Err (Missing (codes "literal"))

@@ -12,27 +12,27 @@ use Rattle.serde_json.specs.Find.{as_object, get, as_number}
 use Rattle.cl_json.specs.Json.{json_of, is_known, unknown_member}
 
 json_texts : map (λ bytes. is_some (json_of bytes)) (
-        codes "0"
-        ∷ codes " [1, null, true] "
-        ∷ codes "{\"a\": {\"b\": \"\\u00e9\"}}"
-        ∷ codes "\"\\ud83d\\ude00\""
-        ∷ (34 ∷ 195 ∷ 169 ∷ 34 ∷ [])
-        ∷ []) ≡ replicate 5 true
+    codes "0"
+    ∷ codes " [1, null, true] "
+    ∷ codes "{\"a\": {\"b\": \"\\u00e9\"}}"
+    ∷ codes "\"\\ud83d\\ude00\""
+    ∷ (34 ∷ 195 ∷ 169 ∷ 34 ∷ [])
+    ∷ []) ≡ replicate 5 true
 unfolding json_of is_utf8 chars lib.Utf8.encode code_unit short_escape content after_number word lex punctuate json.items json.members json.value number_of scan_numeral
 json_texts = refl
 
 no_json_texts : map json_of (
-        []
-        ∷ codes "1 2"
-        ∷ codes "[1,]"
-        ∷ codes "{a: 1}"
-        ∷ codes "01"
-        ∷ codes "\"\\ud800\""
-        ∷ (34 ∷ 255 ∷ 34 ∷ [])
-        ∷ codes "\"\n\""
-        ∷ (239 ∷ 187 ∷ 191 ∷ 49 ∷ [])
-        ∷ codes "// nothing\n1"
-        ∷ []) ≡ replicate 10 None
+    []
+    ∷ codes "1 2"
+    ∷ codes "[1,]"
+    ∷ codes "{a: 1}"
+    ∷ codes "01"
+    ∷ codes "\"\\ud800\""
+    ∷ (34 ∷ 255 ∷ 34 ∷ [])
+    ∷ codes "\"\n\""
+    ∷ (239 ∷ 187 ∷ 191 ∷ 49 ∷ [])
+    ∷ codes "// nothing\n1"
+    ∷ []) ≡ replicate 10 None
 unfolding json_of is_utf8 chars lib.Utf8.encode code_unit short_escape content after_number word lex punctuate json.items json.members json.value number_of scan_numeral
 no_json_texts = refl
 
@@ -49,12 +49,12 @@ abbrev unknown : List (List ℕ) → Option (List ℕ)
 unknown known = option_and_then (λ d. option_and_then (unknown_member known) (as_object d)) (json_of text)
 
 unknown_names : map unknown (
-        []
-        ∷ (codes "c" ∷ codes "B" ∷ [])
-        ∷ (codes "a" ∷ codes "B" ∷ [])
-        ∷ (codes "ab" ∷ codes "a" ∷ codes "B" ∷ codes "d" ∷ [])
-        ∷ (codes "ab" ∷ codes "a" ∷ codes "B" ∷ codes "c" ∷ [])
-        ∷ []) ≡ Some (codes "B") ∷ Some (codes "a") ∷ Some (codes "ab") ∷ Some (codes "c") ∷ None ∷ []
+    []
+    ∷ (codes "c" ∷ codes "B" ∷ [])
+    ∷ (codes "a" ∷ codes "B" ∷ [])
+    ∷ (codes "ab" ∷ codes "a" ∷ codes "B" ∷ codes "d" ∷ [])
+    ∷ (codes "ab" ∷ codes "a" ∷ codes "B" ∷ codes "c" ∷ [])
+    ∷ []) ≡ Some (codes "B") ∷ Some (codes "a") ∷ Some (codes "ab") ∷ Some (codes "c") ∷ None ∷ []
 unfolding json_of is_utf8 chars lib.Utf8.encode code_unit short_escape content after_number word lex punctuate json.items json.members json.value number_of scan_numeral
 unknown_names = refl
 

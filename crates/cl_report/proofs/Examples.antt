@@ -31,10 +31,10 @@ use Rattle.cl_report.specs.Events.{amount_text, word_of, details, event_line}
 use Rattle.cl_report.specs.Lines.{outcome_text, entry_text, entry_line, lines_of}
 
 outcomes : map outcome_text (
-        Done ∷ Good (BoolV true) ∷ Bad (UintV 1) ∷ Plain (ResponseV true (UintV 0))
-        ∷ Aborted Overflow ∷ Aborted Underflow ∷ Aborted DivideByZero ∷ Aborted NegativeArgument ∷ Aborted Panic ∷ Aborted SupplyOverflow ∷ Aborted EarlyTop
-        ∷ Aborted (CostLimit (record { dimension = WriteLength; attempted = cost5 6 0 1 2 17; limit = 16 }))
-        ∷ []) ≡
+    Done ∷ Good (BoolV true) ∷ Bad (UintV 1) ∷ Plain (ResponseV true (UintV 0))
+    ∷ Aborted Overflow ∷ Aborted Underflow ∷ Aborted DivideByZero ∷ Aborted NegativeArgument ∷ Aborted Panic ∷ Aborted SupplyOverflow ∷ Aborted EarlyTop
+    ∷ Aborted (CostLimit (record { dimension = WriteLength; attempted = cost5 6 0 1 2 17; limit = 16 }))
+    ∷ []) ≡
     codes "done" ∷ codes "ok true" ∷ codes "err u1" ∷ codes "value (ok u0)"
     ∷ codes "aborted A1 Overflow" ∷ codes "aborted A2 Underflow" ∷ codes "aborted A3 DivideByZero" ∷ codes "aborted A4 NegativeArgument"
     ∷ codes "aborted A5 Panic" ∷ codes "aborted A6 SupplyOverflow" ∷ codes "aborted A7 EarlyTop" ∷ codes "aborted A8 CostLimit write_length 17 16" ∷ []
@@ -115,12 +115,12 @@ abbrev deployment : Entry
 deployment = Deploy (record { sender = address }) (codes "c") []
 
 with_its_bounds : lines_of 0 deployment (record {
-      outcome = Done;
-      cost = Some (cost5 5 0 1 2 164);
-      bounds = Some (record { deploy = cost5 6 0 1 2 165; functions = (codes "put", cost5 9 0 1 2 17) ∷ (codes "no", cost5 7 0 1 2 0) ∷ [] });
-      types = IntType ∷ BuffType 34 ∷ [];
-      events = []
-    }) ≡ codes "0 deploy 'SP000000000000000000002Q6VF78.c done\n  cost 5 0 1 2 164\n  deploy-bound 6 0 1 2 165\n  bound put 9 0 1 2 17 int\n  bound no 7 0 1 2 0 (buff 34)\n"
+  outcome = Done;
+  cost = Some (cost5 5 0 1 2 164);
+  bounds = Some (record { deploy = cost5 6 0 1 2 165; functions = (codes "put", cost5 9 0 1 2 17) ∷ (codes "no", cost5 7 0 1 2 0) ∷ [] });
+  types = IntType ∷ BuffType 34 ∷ [];
+  events = [];
+}) ≡ codes "0 deploy 'SP000000000000000000002Q6VF78.c done\n  cost 5 0 1 2 164\n  deploy-bound 6 0 1 2 165\n  bound put 9 0 1 2 17 int\n  bound no 7 0 1 2 0 (buff 34)\n"
 unfolding digits lines_of entry_line entry_text outcome_text cost_text bound_line address_text alphabet checksum_of regrouped_digits digits_in digits_within sha256 first_words schedule rounds compress hash_after digest_bytes
 with_its_bounds = refl
 
