@@ -9,9 +9,9 @@ use Rattle.cl_sexpr.specs.Tree.{Tree, LeafAt, Named}
 use Rattle.cl_sexpr.specs.declared.sexpr.Span.{Span}
 use Rattle.cl_values.specs.Tree.{Tree as Val, depth_of}
 use Rattle.cl_values.specs.Wire.{size_of}
-use Rattle.cl_values.specs.Computed.{Computed, Gives, Fails, Panics, Undefined}
+use Rattle.cl_values.specs.Computed.{Computed, Gives, Fails, Panics, Undefined, is_within}
 use Rattle.cl_events.specs.State.{State}
-use Rattle.cl_meaning.specs.Answers.{Given, Wrong, Answer, stop, charged, and_then, is_within, outcome_of}
+use Rattle.cl_meaning.specs.Answers.{Given, Wrong, Answer, stop, charged, and_then, outcome_of}
 use Rattle.cl_meaning.specs.Scope.{parts}
 use Rattle.cl_rules.specs.Faults.{type_rules}
 use Rattle.cl_rules.specs.NativeTypes.{Ruled}

@@ -7,6 +7,8 @@ mod costs;
 #[cfg(test)]
 mod files;
 #[cfg(test)]
+mod natives;
+#[cfg(test)]
 mod orders;
 #[cfg(test)]
 mod principals;

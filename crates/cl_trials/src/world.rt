@@ -1,7 +1,8 @@
 //! The world of a node: entries of maps, printed values, holders of STX.
 use cl_c32::{Address, ContractName, Principal};
 use cl_state::{Place, World};
-use cl_types::{Name, NoMemory};
+use cl_tokens::TokenRefusal;
+use cl_types::{Fault, Name, NoMemory};
 use cl_values::{Kind, Val, Value, ValueRefusal};
 use std::alloc::Global;
 use std::test::Fail;
@@ -107,12 +108,26 @@ fn is_committed(world: &mut World, at: &Place) -> Result<bool, NoMemory> {
     Ok(told == 1 && world.events().is_empty() && variables == 1 && holds(world, at, 2)?)
 }
 
+// Pays 300 of the 1,000 that a holder has, in a layer that has room, and then one more than are left.
+fn pays(world: &mut World, payee: &Principal) -> Result<bool, Fail> {
+    let address = Address::new(22, &[1; 20]);
+    let contract = None;
+    let payer = Principal { address, contract };
+    world.reserve_layer()?;
+    world.push_layer()?;
+    let paid = world.transfer_stx(payee, 300, &payer, payee);
+    let refused = world.transfer_stx(payee, 701, &payer, payee);
+    let is_refused = matches!(refused, Err(Fault::Refused(TokenRefusal::Code(1))));
+    Ok(paid.is_ok() && is_refused && world.events().len() == 1 && world.moves().len() == 1)
+}
+
 // what is tried on a world
 #[derive(Clone, Copy)]
 enum Trial {
     Genesis,
     Entries,
     Prints,
+    Pays,
 }
 
 fn goes_well(world: &mut World, trial: Trial) -> Result<bool, Fail> {
@@ -121,6 +136,7 @@ fn goes_well(world: &mut World, trial: Trial) -> Result<bool, Fail> {
         Trial::Genesis => Ok(has_told_nothing(world)),
         Trial::Entries => entry_is_back(world, &at),
         Trial::Prints => Ok(print_and_keep(world, &at)? && is_committed(world, &at)?),
+        Trial::Pays => pays(world, &at.contract),
     }
 }
 
@@ -145,5 +161,11 @@ fn entries_of_a_map(rt: HostRuntime) -> Result<(), Fail> {
 #[test]
 fn a_printed_value(rt: HostRuntime) -> Result<(), Fail> {
     assert!(rt; goes_well_at_first(rt.alloc(), Trial::Prints)?);
+    Ok(())
+}
+
+#[test]
+fn stx_is_paid(rt: HostRuntime) -> Result<(), Fail> {
+    assert!(rt; goes_well_at_first(rt.alloc(), Trial::Pays)?);
     Ok(())
 }
