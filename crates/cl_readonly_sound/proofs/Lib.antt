@@ -1,3 +1,5 @@
 pub mod Logic
 pub mod Quiet
 pub mod Evaluations
+pub mod Calling
+pub mod TypedQuiet

@@ -1,0 +1,199 @@
+-- A typed expression is quiet where no call in it writes: each kind of expression, and the induction.
+use Rattle.std.proofs.Common.{◌≡◌, ◌⊎◌, inl, inr, ℕ, Bool, true, false, List, [], ◌∷◌, ◌++◌, length, map, take, drop, Option, Some, None, refl, sym, ap, subst, ◌∙◌, arith, eqb-true}
+use Rattle.std.specs.Prelude.{filter_map, codes, is_some, not, nat_eq, ◌||◌}
+use Rattle.std.specs.List.{list_any}
+use Rattle.cl_types.specs.Types.{PlainType, OptionalType, ResponseType, NoType}
+use Rattle.cl_c32.specs.declared.principal.Principal.{Principal}
+use Rattle.cl_sexpr.specs.Tree.{Tree, LeafAt, ListAt, TupleAt, Leaf, Named, Forest, Empty, Then, Pairs, NoPair, Pair}
+use Rattle.cl_forms.specs.declared.head.TokenNative.TheVariants.{MintFt, BurnFt, SendFt, MintNft, BurnNft, SendNft, SendStx, BurnStx}
+use Rattle.cl_forms.specs.declared.head.Head.{Head}
+use Rattle.cl_forms.specs.declared.head.Head.TheVariants.{OnValues, OnToken, TupleOf, AsMaxLen, Get, VarGet, VarSet, MapGet, MapSet, MapInsert, MapDelete, FtBalance, FtSupply, StxBalance, NftOwner, Print, If, Let, Begin, And, Or, Asserts, Unwrap, UnwrapErr, Try, Match, AsContract, Map, Filter, Fold, ContractCall}
+use Rattle.cl_forms.specs.Heads.{Row, row_of, native}
+use Rattle.cl_forms.specs.HeadNames.{name_of, head_of_row}
+use Rattle.cl_forms.specs.Names.{same}
+use Rattle.cl_forms.specs.Shapes.{trees_of, binding_of, bindings_of, pairs_of}
+use Rattle.cl_forms.specs.Writes.{Call, calls_in, calls_behind, calls_of_pairs}
+use Rattle.cl_forms.proofs.Found.{is_row, named_alone}
+use Rattle.cl_meaning.specs.Deployed.{Deployed, Function, contract_at, function_of}
+use Rattle.cl_rules.specs.Faults.{shape_rules, type_rules}
+use Rattle.cl_rules.specs.Context.{Context, Names, Signature, Bound, bind, charge, signature_in, named_in, same as same_name}
+use Rattle.cl_rules.specs.Verdicts.{Found}
+use Rattle.cl_rules.specs.Shapes.{Plan, Ends, Part, Gives, parts}
+use Rattle.cl_rules.specs.ControlShapes.{let_with, let_shape, optional_plan, response_plan, match_plan, match_verdict, match_shape}
+use Rattle.cl_rules.specs.DataShapes.{if_fungible}
+use Rattle.cl_rules.specs.CallShapes.{call_shape}
+use Rattle.cl_rules.specs.Table.{head_shape, operator_shape, shape}
+use Rattle.cl_rules.specs.Typing.{Typed, typed, Follows, ends, part, gives, broken_shape, broken_types}
+use Rattle.cl_expression_sound.proofs.Rules.{fine_shape, not_false}
+use Rattle.cl_readonly_sound.proofs.Quiet.{Way, Plain, AtBindings, AtPairs, way_of_head, way_of, IsQuietHead, IsQuietCall, IsQuiet, AreQuietBehind, AreQuietPairs, AllQuiet}
+use Rattle.cl_readonly_sound.proofs.Calling.{is_tuple, tuple_alone, tuple_is_native, AllCalls, all_front, all_back, EachCalls, behind_each, list_each, CallsAreQuiet, PlanQuiet, parts_quiet, plain_quiet, pairs_quiet, named_quiet, used_quiet, max_len_quiet, across_quiet, tuple_quiet, let_quiet}
+
+four_or_five : (P : List Tree → Type 0) → ((a b c d : Tree) → P (a ∷ b ∷ c ∷ d ∷ [])) → ((a b c d e : Tree) → P (a ∷ b ∷ c ∷ d ∷ e ∷ [])) → (es : List Tree) → (length es ≡ 4) ⊎ (length es ≡ 5) → P es
+four_or_five P h k (a ∷ b ∷ c ∷ d ∷ []) o = h a b c d
+four_or_five P h k (a ∷ b ∷ c ∷ d ∷ e ∷ []) o = k a b c d e
+four_or_five P h k [] (inl e) = absurd (omega (arith, e))
+four_or_five P h k [] (inr e) = absurd (omega (arith, e))
+four_or_five P h k (a ∷ []) (inl e) = absurd (omega (arith, e))
+four_or_five P h k (a ∷ []) (inr e) = absurd (omega (arith, e))
+four_or_five P h k (a ∷ b ∷ []) (inl e) = absurd (omega (arith, e))
+four_or_five P h k (a ∷ b ∷ []) (inr e) = absurd (omega (arith, e))
+four_or_five P h k (a ∷ b ∷ c ∷ []) (inl e) = absurd (omega (arith, e))
+four_or_five P h k (a ∷ b ∷ c ∷ []) (inr e) = absurd (omega (arith, e))
+four_or_five P h k (a ∷ b ∷ c ∷ d ∷ e ∷ f ∷ es) (inl g) = absurd (omega (arith, g))
+four_or_five P h k (a ∷ b ∷ c ∷ d ∷ e ∷ f ∷ es) (inr g) = absurd (omega (arith, g))
+
+either_count : (n : ℕ) → not (nat_eq n 4 || nat_eq n 5) ≡ false → (n ≡ 4) ⊎ (n ≡ 5)
+either_count n h = by (nat_eq n 4) (nat_eq n 5) refl refl (not_false (nat_eq n 4 || nat_eq n 5) h)
+  where
+    by : (b c : Bool) → nat_eq n 4 ≡ b → nat_eq n 5 ≡ c → (b || c) ≡ true → (n ≡ 4) ⊎ (n ≡ 5)
+    by true c e g h = inl (eqb-true n 4 e)
+    by false true e g h = inr (eqb-true n 5 g)
+    by false false e g h = absurd cc
+
+module _ (W : Deployed) (Q : Principal → Function → Type 0) (p : Principal) (G : Context) (NW : Call → Type 0) where
+  -- ---- match
+
+  -- the branches of an optional: where the input is none, the verdict breaks a rule
+  optional_quiet : (B : Names) (x : List ℕ) (a b : Tree) (own : Bound) (f : Found) (t : PlainType) → f.type ≡ t → (fs : List Found) → PlanQuiet W Q p G NW (optional_plan B x a b t) fs → type_rules (match_verdict true own (f ∷ fs)).faults ≡ [] → AllCalls NW (calls_in a) → AllCalls NW (calls_in b) → IsQuiet W Q p a × IsQuiet W Q p b
+  optional_quiet B x a b own f (OptionalType t) is (fa ∷ fb ∷ fs) q types h k = (q.0 h, q.1.0 k)
+  optional_quiet B x a b own f (OptionalType t) is (fa ∷ []) q types h k = absurd q.1
+  optional_quiet B x a b own f (OptionalType t) is [] q types h k = absurd q
+  optional_quiet B x a b own f t is (fb ∷ []) q types h k = absurd cc
+  optional_quiet B x a b own f t is (fb ∷ fc ∷ fs) q types h k = absurd q.1
+  optional_quiet B x a b own f t is [] q types h k = absurd q
+
+  response_quiet : (B : Names) (x : List ℕ) (a : Tree) (y : List ℕ) (b : Tree) (own : Bound) (f : Found) (t : PlainType) → f.type ≡ t → (fs : List Found) → PlanQuiet W Q p G NW (response_plan B x a y b t) fs → type_rules (match_verdict false own (f ∷ fs)).faults ≡ [] → AllCalls NW (calls_in a) → AllCalls NW (calls_in b) → IsQuiet W Q p a × IsQuiet W Q p b
+  response_quiet B x a y b own f (ResponseType t u) is (fa ∷ fb ∷ fs) q types h k = (q.0 h, q.1.0 k)
+  response_quiet B x a y b own f (ResponseType t u) is (fa ∷ []) q types h k = absurd q.1
+  response_quiet B x a y b own f (ResponseType t u) is [] q types h k = absurd q
+  response_quiet B x a y b own f t is [] q types h k = absurd cc
+  response_quiet B x a y b own f t is (fb ∷ fs) q types h k = absurd q
+
+  abbrev IsMatchQuiet : Names → List Tree → Type 0
+  IsMatchQuiet B es = (fs : List Found) → shape_rules (match_shape (row_of Match) G B es).faults ≡ [] → type_rules ((match_shape (row_of Match) G B es).verdict fs).faults ≡ [] → PlanQuiet W Q p G NW (match_plan B es) fs → EachCalls NW es → AllQuiet W Q p es
+
+  match_four : (B : Names) (i x a b : Tree) → IsMatchQuiet B (i ∷ x ∷ a ∷ b ∷ [])
+  match_four B i (LeafAt (Named x) at) a b [] rules types q h = absurd q
+  match_four B i (LeafAt (Named x) at) a b (f ∷ fs) rules types q h =
+      let both = optional_quiet B x a b _ f f.type refl fs q.1 types h.1.1.0 h.1.1.1.0 in
+      (q.0 h.0, (tt, (both.0, (both.1, tt))))
+  match_four B i x a b fs rules types q h = let bad = (fine_shape (match_shape (row_of Match) G B (i ∷ x ∷ a ∷ b ∷ [])).faults rules).bad_binding in absurd cc
+
+  match_five : (B : Names) (i x a y b : Tree) → IsMatchQuiet B (i ∷ x ∷ a ∷ y ∷ b ∷ [])
+  match_five B i (LeafAt (Named x) at) a (LeafAt (Named y) at') b [] rules types q h = absurd q
+  match_five B i (LeafAt (Named x) at) a (LeafAt (Named y) at') b (f ∷ fs) rules types q h =
+      let both = response_quiet B x a y b _ f f.type refl fs q.1 types h.1.1.0 h.1.1.1.1.0 in
+      (q.0 h.0, (tt, (both.0, (tt, (both.1, tt)))))
+  match_five B i (LeafAt (Named x) at) a y b fs rules types q h = let bad = (fine_shape (match_shape (row_of Match) G B (i ∷ LeafAt (Named x) at ∷ a ∷ y ∷ b ∷ [])).faults rules).bad_binding in absurd cc
+  match_five B i x a y b fs rules types q h = let bad = (fine_shape (match_shape (row_of Match) G B (i ∷ x ∷ a ∷ y ∷ b ∷ [])).faults rules).bad_binding in absurd cc
+
+  match_quiet : (B : Names) (es : List Tree) → IsMatchQuiet B es
+  match_quiet B es fs rules = four_or_five (IsMatchQuiet B) (match_four B) (match_five B) es (either_count (length es) (fine_shape (match_shape (row_of Match) G B es).faults rules).argument_count) fs rules
+
+  -- ---- let
+
+  let_shape_quiet : (B : Names) (es : Forest) (fs : List Found) → shape_rules (let_shape (row_of Let) G B (trees_of es)).faults ≡ [] → PlanQuiet W Q p G NW (let_shape (row_of Let) G B (trees_of es)).plan fs → AllCalls NW (calls_behind false es) → AreQuietBehind W Q p AtBindings es
+  let_shape_quiet B Empty fs rules q h = tt
+  let_shape_quiet B (Then (ListAt bs at) body) fs rules q h =
+      let fine = fine_shape (let_with (row_of Let) G B (trees_of bs) (trees_of body)).faults rules in
+      let are = not_false (is_some (bindings_of (trees_of bs))) fine.bad_binding in
+      let both = let_quiet W Q p G NW (trees_of body) (trees_of bs) B B fs are fine.shadowed_name q (list_each NW bs are (all_front NW (calls_in (ListAt bs at)) (calls_behind false body) h)) (behind_each NW body (all_back NW (calls_in (ListAt bs at)) (calls_behind false body) h)) in
+      (pairs_quiet W Q p G NW bs both.0, plain_quiet W Q p G NW body both.1)
+  let_shape_quiet B (Then (LeafAt leaf at) body) fs rules q h = let bad = (fine_shape (let_shape (row_of Let) G B (trees_of (Then (LeafAt leaf at) body))).faults rules).bad_binding in absurd cc
+  let_shape_quiet B (Then (TupleAt ps at) body) fs rules q h = let bad = (fine_shape (let_shape (row_of Let) G B (trees_of (Then (TupleAt ps at) body))).faults rules).bad_binding in absurd cc
+
+  module _ (C : CallsAreQuiet W Q p G NW) where
+    -- ---- natives
+
+    abbrev IsHeadQuiet : Head → Names → Forest → Type 0
+    IsHeadQuiet head B es =
+        (fs : List Found) → shape_rules (head_shape head (row_of head) G B (trees_of es)).faults ≡ [] → type_rules ((head_shape head (row_of head) G B (trees_of es)).verdict fs).faults ≡ [] → PlanQuiet W Q p G NW (head_shape head (row_of head) G B (trees_of es)).plan fs →
+        NW (record { operator = name_of head; parts = es }) → AllCalls NW (calls_behind (is_tuple head) es) → IsQuietHead W Q p head es × AreQuietBehind W Q p (way_of_head head) es
+
+    head_quiet : (head : Head) (B : Names) (es : Forest) → IsHeadQuiet head B es
+    unfolding head_shape
+    head_quiet (OnToken MintFt) B es fs rules types q call h = absurd (C.natives (name_of (OnToken MintFt)) es call refl)
+    head_quiet (OnToken BurnFt) B es fs rules types q call h = absurd (C.natives (name_of (OnToken BurnFt)) es call refl)
+    head_quiet (OnToken SendFt) B es fs rules types q call h = absurd (C.natives (name_of (OnToken SendFt)) es call refl)
+    head_quiet (OnToken MintNft) B es fs rules types q call h = absurd (C.natives (name_of (OnToken MintNft)) es call refl)
+    head_quiet (OnToken BurnNft) B es fs rules types q call h = absurd (C.natives (name_of (OnToken BurnNft)) es call refl)
+    head_quiet (OnToken SendNft) B es fs rules types q call h = absurd (C.natives (name_of (OnToken SendNft)) es call refl)
+    head_quiet (OnToken SendStx) B es fs rules types q call h = absurd (C.natives (name_of (OnToken SendStx)) es call refl)
+    head_quiet (OnToken BurnStx) B es fs rules types q call h = absurd (C.natives (name_of (OnToken BurnStx)) es call refl)
+    head_quiet VarSet B es fs rules types q call h = absurd (C.natives (name_of VarSet) es call refl)
+    head_quiet MapSet B es fs rules types q call h = absurd (C.natives (name_of MapSet) es call refl)
+    head_quiet MapInsert B es fs rules types q call h = absurd (C.natives (name_of MapInsert) es call refl)
+    head_quiet MapDelete B es fs rules types q call h = absurd (C.natives (name_of MapDelete) es call refl)
+    head_quiet TupleOf B es fs rules types q call h =
+        (tt, tuple_quiet W Q p G NW es B fs (not_false (is_some (bindings_of (trees_of es))) (fine_shape (head_shape TupleOf (row_of TupleOf) G B (trees_of es)).faults rules).bad_binding) q h)
+    head_quiet AsMaxLen B es fs rules types q call h =
+        let fine = fine_shape (head_shape AsMaxLen (row_of AsMaxLen) G B (trees_of es)).faults rules in
+        (tt, plain_quiet W Q p G NW es (max_len_quiet W Q p G NW (trees_of es) fine.argument_count fine.literal_expected B fs q (behind_each NW es h)))
+    head_quiet Get B es fs rules types q call h =
+        (tt, plain_quiet W Q p G NW es (named_quiet W Q p G NW (λ x. Some x) (trees_of es) (fine_shape (head_shape Get (row_of Get) G B (trees_of es)).faults rules).bad_binding B fs q (behind_each NW es h)))
+    head_quiet VarGet B es fs rules types q call h =
+        (tt, plain_quiet W Q p G NW es (named_quiet W Q p G NW (λ x. named_in x G.variables) (trees_of es) (fine_shape (head_shape VarGet (row_of VarGet) G B (trees_of es)).faults rules).bad_binding B fs q (behind_each NW es h)))
+    head_quiet MapGet B es fs rules types q call h =
+        (tt, plain_quiet W Q p G NW es (named_quiet W Q p G NW (λ x. named_in x G.maps) (trees_of es) (fine_shape (head_shape MapGet (row_of MapGet) G B (trees_of es)).faults rules).bad_binding B fs q (behind_each NW es h)))
+    head_quiet FtBalance B es fs rules types q call h =
+        (tt, plain_quiet W Q p G NW es (named_quiet W Q p G NW (λ x. if_fungible (list_any (same_name x) G.fungibles)) (trees_of es) (fine_shape (head_shape FtBalance (row_of FtBalance) G B (trees_of es)).faults rules).bad_binding B fs q (behind_each NW es h)))
+    head_quiet FtSupply B es fs rules types q call h =
+        (tt, plain_quiet W Q p G NW es (named_quiet W Q p G NW (λ x. if_fungible (list_any (same_name x) G.fungibles)) (trees_of es) (fine_shape (head_shape FtSupply (row_of FtSupply) G B (trees_of es)).faults rules).bad_binding B fs q (behind_each NW es h)))
+    head_quiet NftOwner B es fs rules types q call h =
+        (tt, plain_quiet W Q p G NW es (named_quiet W Q p G NW (λ x. named_in x G.nonfungibles) (trees_of es) (fine_shape (head_shape NftOwner (row_of NftOwner) G B (trees_of es)).faults rules).bad_binding B fs q (behind_each NW es h)))
+    head_quiet Let B es fs rules types q call h = (tt, let_shape_quiet B es fs rules q h)
+    head_quiet Match B es fs rules types q call h = (tt, plain_quiet W Q p G NW es (match_quiet B (trees_of es) fs rules types q (behind_each NW es h)))
+    head_quiet Map B es fs rules types q call h =
+        (C.uses (name_of Map) es call refl, plain_quiet W Q p G NW es (used_quiet W Q p G NW (trees_of es) (fine_shape (head_shape Map (row_of Map) G B (trees_of es)).faults rules).not_a_function B fs q (behind_each NW es h)))
+    head_quiet Filter B es fs rules types q call h =
+        (C.uses (name_of Filter) es call refl, plain_quiet W Q p G NW es (used_quiet W Q p G NW (trees_of es) (fine_shape (head_shape Filter (row_of Filter) G B (trees_of es)).faults rules).not_a_function B fs q (behind_each NW es h)))
+    head_quiet Fold B es fs rules types q call h =
+        (C.uses (name_of Fold) es call refl, plain_quiet W Q p G NW es (used_quiet W Q p G NW (trees_of es) (fine_shape (head_shape Fold (row_of Fold) G B (trees_of es)).faults rules).not_a_function B fs q (behind_each NW es h)))
+    head_quiet ContractCall B es fs rules types q call h =
+        let fine = fine_shape (head_shape ContractCall (row_of ContractCall) G B (trees_of es)).faults rules in
+        (C.across B es rules call, plain_quiet W Q p G NW es (across_quiet W Q p G NW (trees_of es) fine.literal_expected fine.bad_binding B fs q (behind_each NW es h)))
+    head_quiet head B es fs rules types q call h = (tt, plain_quiet W Q p G NW es (parts_quiet W Q p G NW B (trees_of es) fs q (behind_each NW es h)))
+
+    -- ---- nodes
+
+    row_quiet : (x : List ℕ) (row : Row) → native x ≡ Some row → (B : Names) (es : Forest) (fs : List Found) → shape_rules (head_shape row.head row G B (trees_of es)).faults ≡ [] → type_rules ((head_shape row.head row G B (trees_of es)).verdict fs).faults ≡ [] → PlanQuiet W Q p G NW (head_shape row.head row G B (trees_of es)).plan fs →
+        NW (record { operator = x; parts = es }) → AllCalls NW (calls_behind (same x (codes "tuple")) es) → IsQuietHead W Q p row.head es × AreQuietBehind W Q p (way_of_head row.head) es
+    row_quiet x row found B es fs rules types q call h =
+        let name : x ≡ name_of row.head = named_alone x row.head (ap head_of_row found) in
+        let own : row ≡ row_of row.head = is_row x row found in
+        subst (λ (r : Row). shape_rules (head_shape row.head r G B (trees_of es)).faults ≡ [] → type_rules ((head_shape row.head r G B (trees_of es)).verdict fs).faults ≡ [] → PlanQuiet W Q p G NW (head_shape row.head r G B (trees_of es)).plan fs → IsQuietHead W Q p row.head es × AreQuietBehind W Q p (way_of_head row.head) es) (sym own)
+        (λ rules types q. head_quiet row.head B es fs rules types q (subst (λ x. NW (record { operator = x; parts = es })) name call) (subst (λ b. AllCalls NW (calls_behind b es)) (ap (λ x. same x (codes "tuple")) name ∙ tuple_alone row.head) h)) rules types q
+
+    call_quiet : (f : Option Signature) (B : Names) (es : Forest) (fs : List Found) → shape_rules (call_shape f B (trees_of es)).faults ≡ [] → PlanQuiet W Q p G NW (call_shape f B (trees_of es)).plan fs → AllCalls NW (calls_behind false es) → AreQuietBehind W Q p Plain es
+    call_quiet (Some f) B es fs rules q h = plain_quiet W Q p G NW es (parts_quiet W Q p G NW B (trees_of es) fs q (behind_each NW es h))
+    call_quiet None B es fs rules q h = absurd cc
+
+    operator_quiet : (x : List ℕ) (o : Option Row) → native x ≡ o → (f : Option Signature) (B : Names) (es : Forest) (fs : List Found) → shape_rules (operator_shape o f G B (trees_of es)).faults ≡ [] → type_rules ((operator_shape o f G B (trees_of es)).verdict fs).faults ≡ [] → PlanQuiet W Q p G NW (operator_shape o f G B (trees_of es)).plan fs →
+        NW (record { operator = x; parts = es }) → AllCalls NW (calls_behind (same x (codes "tuple")) es) → IsQuietCall W Q p o x es × AreQuietBehind W Q p (way_of o) es
+    operator_quiet x (Some row) found f B es fs rules types q call h = row_quiet x row found B es fs rules types q call h
+    operator_quiet x None found f B es fs rules types q call h =
+        (C.functions x es call, call_quiet f B es fs rules q (subst (λ b. AllCalls NW (calls_behind b es)) (tuple_is_native x found) h))
+
+    pairs_parts : (ps : Pairs) → AllCalls NW (calls_of_pairs ps) → EachCalls NW (map (λ (b : List ℕ × Tree). b.1) (pairs_of ps))
+    pairs_parts NoPair h = tt
+    pairs_parts (Pair k e ps) h = (all_front NW (calls_in e) (calls_of_pairs ps) h, pairs_parts ps (all_back NW (calls_in e) (calls_of_pairs ps) h))
+
+    all_pairs : (ps : Pairs) → AllQuiet W Q p (map (λ (b : List ℕ × Tree). b.1) (pairs_of ps)) → AreQuietPairs W Q p ps
+    all_pairs NoPair q = tt
+    all_pairs (Pair k e ps) q = (q.0, all_pairs ps q.1)
+
+    node_quiet : (B : Names) (e : Tree) (fs : List Found) → broken_shape G B e ≡ [] → broken_types G B e fs ≡ [] → PlanQuiet W Q p G NW (shape G B e).plan fs → AllCalls NW (calls_in e) → IsQuiet W Q p e
+    unfolding shape
+    node_quiet B (LeafAt leaf at) fs rules types q h = tt
+    node_quiet B (TupleAt ps at) fs rules types q h = all_pairs ps (parts_quiet W Q p G NW B _ fs q (pairs_parts ps h))
+    node_quiet B (ListAt (Then (LeafAt (Named x) at') es) at) fs rules types q h = operator_quiet x (native x) refl (signature_in x G.functions) B es fs rules types q h.0 h.1
+    node_quiet B (ListAt es at) fs rules types q h = absurd cc
+
+    mutual
+      pub typed_quiet : {B : Names} {e : Tree} {f : Found} → Typed G B e f → AllCalls NW (calls_in e) → IsQuiet W Q p e
+      typed_quiet {B = B} {e = e} (typed fs rules follows types is) h = node_quiet B e fs rules types (plan_quiet follows) h
+
+      pub plan_quiet : {plan : Plan} {fs : List Found} → Follows G plan fs → PlanQuiet W Q p G NW plan fs
+      plan_quiet ends = tt
+      plan_quiet (part t ts) = (λ h. typed_quiet t h, plan_quiet ts)
+      plan_quiet (gives t ts) = (λ h. typed_quiet t h, plan_quiet ts)
