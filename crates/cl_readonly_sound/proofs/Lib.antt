@@ -3,3 +3,4 @@ pub mod Quiet
 pub mod Evaluations
 pub mod Calling
 pub mod TypedQuiet
+pub mod Bodies
