@@ -4,3 +4,4 @@ pub mod Evaluations
 pub mod Calling
 pub mod TypedQuiet
 pub mod Bodies
+pub mod Deployed

@@ -1,0 +1,284 @@
+-- Functions of accepted contracts that don't write are quiet, and what their bodies call is quiet.
+use Rattle.std.proofs.Common.{◌≡◌, ◌⊎◌, inl, inr, ℕ, Bool, true, false, List, [], ◌∷◌, ◌++◌, Option, Some, None, refl, sym, ap, subst, ◌∙◌, append-nil}
+use Rattle.std.specs.Prelude.{if◌then◌else◌, option_and_then, codes, Contains, IsSome}
+use Rattle.std.proofs.lemmas.List.Elements.{Contains-push, Contains-append_left, Contains-append_right}
+use Rattle.cl_types.specs.declared.sized.Access.{Access}
+use Rattle.cl_types.specs.declared.sized.Access.TheVariants.{Public, ReadOnly, Private}
+use Rattle.cl_c32.specs.declared.principal.Principal.{Principal}
+use Rattle.cl_sexpr.specs.Tree.{Tree, LeafAt, ListAt, TupleAt, Leaf, Named, Signed, Unsigned, Bytes, Ascii, Unicode, Standing, Local, Forest, Empty, Then}
+use Rattle.cl_sexpr.specs.declared.sexpr.Span.{Span}
+use Rattle.cl_values.specs.Tree.{Tree as Val}
+use Rattle.cl_values.specs.Valid.{IsPrincipal}
+use Rattle.cl_forms.specs.declared.head.Head.TheVariants.{ContractCall}
+use Rattle.cl_forms.specs.Heads.{row_of}
+use Rattle.cl_forms.specs.Forms.{Form, FunctionForm}
+use Rattle.cl_forms.specs.Shapes.{trees_of, beside}
+use Rattle.cl_forms.specs.Writes.{writing_natives, applying_natives, is_one_of, Call, calls_in, Defines, Writes, WritesIn, has_writing_body, by_native, by_function, by_name, by_contract}
+use Rattle.cl_events.specs.State.{State, is_principal}
+use Rattle.cl_meaning.specs.Deployed.{Contract, Deployed, Function, contract_at, function_in, function_of}
+use Rattle.cl_meaning.specs.Scope.{Frame, Bound, OwnFunction}
+use Rattle.cl_meaning.specs.Calls.{callable, target_of, other_contract}
+use Rattle.cl_meaning.specs.Kept.{Whole}
+use Rattle.cl_rules.specs.Faults.{shape_rules}
+use Rattle.cl_rules.specs.Context.{CostTable, Context, Known, Names, Signature, signature_in, known_at, another_at, same_principal, target_at, if_callable}
+use Rattle.cl_rules.specs.Shapes.{There, NoName, NoSuch, there_or_not, is_no_name, is_no_such}
+use Rattle.cl_rules.specs.CallShapes.{contract_literal, contract_call_shape, target_or_not, target_of as rule_target, function_of as rule_function}
+use Rattle.cl_rules.specs.FormTyping.{no_more}
+use Rattle.cl_rules.specs.Acceptance.{is_public, is_public_there, is_public_in, is_public_at, calls_public, WritesWrongly}
+use Rattle.cl_expression_sound.proofs.Rules.{fine_shape}
+use Rattle.cl_expression_sound.specs.Stages.{IsContext}
+use Rattle.cl_contract_sound.specs.Nodes.{IsOfText, AreOfTexts, none_yet, and_one, AreContracts}
+use Rattle.cl_contract_sound.proofs.Contexts.{stands_in}
+use Rattle.cl_contract_sound.proofs.OfTexts.{are_known, found_principal}
+use Rattle.cl_contract_sound.proofs.Serving.{known_split, known_there, as_served, holders_apart}
+use Rattle.cl_contract_sound.proofs.States.{at_contains, some_contract}
+use Rattle.cl_readonly_sound.specs.Laws.{DoesNotWrite}
+use Rattle.cl_readonly_sound.proofs.Quiet.{scope, IsQuietOne, IsQuietUse, IsQuietAcross, IsQuiet}
+use Rattle.cl_readonly_sound.proofs.Calling.{AllCalls, CallsAreQuiet}
+use Rattle.cl_readonly_sound.proofs.TypedQuiet.{typed_quiet}
+use Rattle.cl_readonly_sound.proofs.Bodies.{form_there, function_there, IsBody, body_typed}
+
+-- ---- calls that don't write
+
+-- what a call would be that doesn't write
+record IsApart (forms : List Form) (public : Leaf → List ℕ → Bool) (call : Call) : Type 0 where
+  natives : is_one_of writing_natives call.operator ≡ true → ⊥
+  functions : Writes forms public call.operator → ⊥
+  uses : (g : List ℕ) (at : Span) (es : Forest) → call.parts ≡ Then (LeafAt (Named g) at) es → is_one_of applying_natives call.operator ≡ true → Writes forms public g → ⊥
+  across : (leaf : Leaf) (g : List ℕ) (at at' : Span) (es : Forest) → call.parts ≡ Then (LeafAt leaf at) (Then (LeafAt (Named g) at') es) → call.operator ≡ codes "contract-call?" → public leaf g ≡ true → ⊥
+
+call_apart : (forms : List Form) (public : Leaf → List ℕ → Bool) (e : Tree) → (WritesIn forms public e → ⊥) → (call : Call) → Contains (calls_in e) call → IsApart forms public call
+call_apart forms public e h call there = record {
+  natives = λ w. h (by_native {x = call.operator} {parts = call.parts} there w);
+  functions = λ w. h (by_function {x = call.operator} {parts = call.parts} there w);
+  uses = λ g at es is applies w. h (by_name {x = call.operator} {f = g} {parts = es} at (subst (λ parts. Contains (calls_in e) (record { operator = call.operator; parts = parts })) is there) applies w);
+  across = λ leaf g at at' es is named w. h (by_contract {x = call.operator} {f = g} {contract = leaf} {parts = es} at at' (subst (λ parts. Contains (calls_in e) (record { operator = call.operator; parts = parts })) is there) named w);
+}
+
+all_apart : (NW : Call → Type 0) (calls : List Call) → ((call : Call) → Contains calls call → NW call) → AllCalls NW calls
+all_apart NW [] h = tt
+all_apart NW (c ∷ cs) h = (h c (Contains-append_left (c ∷ []) cs c (Contains-push [] c)), all_apart NW cs (λ call there. h call (Contains-append_right (c ∷ []) cs call there)))
+
+-- ---- contracts that are deployed
+
+-- what callers see at a principal stands for an accepted text
+record IsTextAt (costs : CostTable) (W : Deployed) (q : Principal) (k : Known) : Type 0 where
+  before : List Known
+  contract : Contract
+  earlier : AreOfTexts costs W before
+  of_text : IsOfText costs before contract k
+  there : contract_at contract.principal W ≡ Some contract
+  home : contract.principal ≡ q
+
+text_at : (costs : CostTable) (W : Deployed) (ks : List Known) → AreOfTexts costs W ks → (q : Principal) (k : Known) → known_at q ks ≡ Some k → IsTextAt costs W q k
+text_at costs W ks (none_yet e) q k h = none_at (ap (known_at q) (sym e) ∙ h)
+  where
+    none_at : None ≡ Some k → IsTextAt costs W q k
+    none_at e = absurd cc
+text_at costs W after (and_one {before = before} c n texts new h there is) q k e = by (known_split q before n k (ap (known_at q) (sym is) ∙ e)) (text_at costs W before texts q k)
+  where
+    by : (known_at q before ≡ Some k) ⊎ ((n.principal ≡ q) × (n ≡ k)) → (known_at q before ≡ Some k → IsTextAt costs W q k) → IsTextAt costs W q k
+    by (inl g) more = more g
+    by (inr g) more = record { before = before; contract = c; earlier = texts; of_text = subst (IsOfText costs before c) g.1 h; there = there; home = sym (ap (λ (k : Known). k.principal) h.known) ∙ g.0 }
+
+-- a read-only function of an accepted contract doesn't write
+read_only_apart : (costs : CostTable) (W : Deployed) (q : Principal) (k : Known) (t : IsTextAt costs W q k) (x : List ℕ) (f : Function) → function_in x t.contract.forms ≡ Some f → f.access ≡ ReadOnly → DoesNotWrite costs W q x
+read_only_apart costs W q k t x f there access =
+    let h = t.of_text in
+    let is = function_there x t.contract.forms f there in
+    let form = form_there x t.contract.forms (FunctionForm f.access f.params f.body) is.form in
+    record {
+      before = t.before;
+      contract = t.contract;
+      known = k;
+      earlier = t.earlier;
+      of_text = h;
+      there = ap (λ q. contract_at q W) (sym t.home) ∙ t.there;
+      home = t.home;
+      apart = λ w. h.accepted.none_writes form.form (subst (λ forms. Contains forms form.form) h.forms form.there) (record {
+        name = x;
+        params = f.params;
+        body = f.body;
+        named = form.named;
+        read_only = form.is ∙ ap (λ access. FunctionForm access f.params f.body) access;
+        writes = subst (λ forms. Writes forms (calls_public t.before t.contract.principal) x) h.forms (subst (λ q. Writes t.contract.forms (calls_public t.before q) x) (sym t.home) w);
+      });
+    }
+
+-- the access that callers see is the function's
+access_told : (costs : CostTable) (W : Deployed) (before : List Known) → AreOfTexts costs W before → (q : Principal) (k : Known) → known_at q before ≡ Some k → (c : Contract) → contract_at q W ≡ Some c → (x : List ℕ) (g : Signature) → signature_in x k.functions ≡ Some g → (f : Function) → function_in x c.forms ≡ Some f → g.access ≡ f.access
+access_told costs W before texts q k at c there x g told f is =
+    let a = known_there W Whole before (are_known costs W before texts) q k at in
+    let inside : IsContext W Whole a.defined.context = record {
+      before = a.before;
+      known = a.known;
+      contract = a.contract;
+      defined = a.defined;
+      accepted = a.accepted;
+      there = a.there;
+      so_far = a.defined;
+      done = a.accepted.order;
+      rest = [];
+      order = sym (append-nil a.accepted.order);
+      typed = a.accepted.typed;
+      more = no_more refl;
+      context = refl;
+    } in
+    let T = stands_in W Whole a.defined.context inside in
+    let s = as_served costs W Whole a.contract x g (T.functions x g (ap (λ (k : Known). signature_in x k.functions) a.is ∙ told)) in
+    let one : a.contract ≡ c = some_contract a.contract c (sym a.there ∙ ap (λ q. contract_at q W) a.at ∙ there) in
+    let same : s.0 ≡ f = some_function s.0 f (sym s.1 ∙ ap (λ (c : Contract). function_in x c.forms) one ∙ is) in
+    ap (λ (g : Signature). g.access) (sym s.2.signature) ∙ ap (λ (f : Function). f.access) same
+  where
+    some_function : (f g : Function) → Some f ≡ Some g → f ≡ g
+    some_function f g e = cc
+
+-- ---- calls of other contracts
+
+-- the target of a call of another contract, which callers see, with a function of it
+record IsTarget (G : Context) (leaf : Leaf) (x : List ℕ) : Type 0 where
+  target : Principal
+  known : Known
+  signature : Signature
+  literal : contract_literal G.principal leaf ≡ Some target
+  there : target_at G target ≡ Some known
+  told : if_callable (signature_in x known.functions) ≡ Some signature
+
+target_by : (G : Context) (leaf : Leaf) (at : Span) (x : List ℕ) (at' : Span) (es : List Tree) (o : Option Principal) → contract_literal G.principal leaf ≡ o → is_no_name (target_or_not G o) ≡ false → is_no_such (target_or_not G o) ≡ false → is_no_such (rule_function (target_or_not G o) (LeafAt leaf at ∷ LeafAt (Named x) at' ∷ es)) ≡ false → IsTarget G leaf x
+target_by G leaf at x at' es None is literal there told = absurd cc
+target_by G leaf at x at' es (Some q) is literal there told = by_known (target_at G q) refl there told
+  where
+    by_function : (k : Known) → target_at G q ≡ Some k → (o : Option Signature) → if_callable (signature_in x k.functions) ≡ o → is_no_such (there_or_not o) ≡ false → IsTarget G leaf x
+    by_function k e (Some g) f h = record { target = q; known = k; signature = g; literal = is; there = e; told = f }
+    by_function k e None f h = absurd cc
+
+    by_known : (o : Option Known) → target_at G q ≡ o → is_no_such (there_or_not o) ≡ false → is_no_such (rule_function (there_or_not o) (LeafAt leaf at ∷ LeafAt (Named x) at' ∷ es)) ≡ false → IsTarget G leaf x
+    by_known (Some k) e h told = by_function k e (if_callable (signature_in x k.functions)) refl told
+    by_known None e h told = absurd cc
+
+-- a literal is the same principal in the meaning
+literal_is : (W : Deployed) (F : Frame) (E : Bound) (own : Principal) → F.contract ≡ own → (leaf : Leaf) (at : Span) (q : Principal) → contract_literal own leaf ≡ Some q → target_of (scope W F E) (LeafAt leaf at) ≡ Some q
+literal_is W F E own home (Standing r) at q h = by r.contract h
+  where
+    by : (o : Option (List ℕ)) → elim o [ None ↦ None | Some name ↦ Some r ] ≡ Some q → Some r ≡ Some q
+    by (Some name) h = h
+    by None h = absurd cc
+literal_is W F E own home (Local name) at q h = ap (λ p. Some (beside p name)) home ∙ h
+literal_is W F E own home leaf at q h = absurd cc
+
+other_there : (b : Bool) (o : Option Contract) (c : Contract) → (if b then None else o) ≡ Some c → o ≡ Some c
+other_there true o c h = absurd cc
+other_there false o c h = h
+
+another_there : (b : Bool) (o : Option Known) (k : Known) → (if b then None else o) ≡ Some k → o ≡ Some k
+another_there true o k h = absurd cc
+another_there false o k h = h
+
+-- a function that other contracts may call is public or read-only
+callable_there : (o : Option Function) (f : Function) → option_and_then callable o ≡ Some f → (o ≡ Some f) × ((f.access ≡ Public) ⊎ (f.access ≡ ReadOnly))
+callable_there None f h = absurd cc
+callable_there (Some g) f h = by g.access refl h
+  where
+    same_function : Some g ≡ Some f → g ≡ f
+    same_function e = cc
+
+    by : (a : Access) → g.access ≡ a → elim a [ Public ↦ Some g | ReadOnly ↦ Some g | Private ↦ None ] ≡ Some f → (Some g ≡ Some f) × ((f.access ≡ Public) ⊎ (f.access ≡ ReadOnly))
+    by Public e h = (h, inl (ap (λ (f : Function). f.access) (sym (same_function h)) ∙ e))
+    by ReadOnly e h = (h, inr (ap (λ (f : Function). f.access) (sym (same_function h)) ∙ e))
+    by Private e h = absurd cc
+
+told_there : (o : Option Signature) (g : Signature) → if_callable o ≡ Some g → o ≡ Some g
+told_there None g h = absurd cc
+told_there (Some f) g h = by f.access h
+  where
+    by : (a : Access) → elim a [ Public ↦ Some f | ReadOnly ↦ Some f | Private ↦ None ] ≡ Some g → Some f ≡ Some g
+    by Public h = h
+    by ReadOnly h = h
+    by Private h = absurd cc
+
+module _ (costs : CostTable) (W : Deployed) where
+  -- a function of a deployed contract, which doesn't write
+  pub record IsQuietFunction (p : Principal) (f : Function) : Type 0 where
+    pub apart : DoesNotWrite costs W p f.name
+    pub there : function_in f.name apart.contract.forms ≡ Some f
+
+  abbrev DoesNotWriteThere : Principal → Function → List ℕ → Type 0
+  DoesNotWriteThere p f y = (d : DoesNotWrite costs W p y) × (function_in y d.contract.forms ≡ Some f)
+
+  pub quiet_function : (p : Principal) (x : List ℕ) → DoesNotWrite costs W p x → (c : Contract) → contract_at p W ≡ Some c → (f : Function) → function_in x c.forms ≡ Some f → IsQuietFunction p f
+  quiet_function p x d c at f is =
+      let one : d.contract ≡ c = some_contract d.contract c (sym d.there ∙ at) in
+      let there : function_in x d.contract.forms ≡ Some f = ap (λ (c : Contract). function_in x c.forms) one ∙ is in
+      let named = (function_there x d.contract.forms f there).named in
+      let h : DoesNotWriteThere p f f.name = subst (DoesNotWriteThere p f) (sym named) (d, there) in
+      record { apart = h.0; there = h.1 }
+
+  quiet_one : (p : Principal) (x : List ℕ) → DoesNotWrite costs W p x → IsQuietOne W IsQuietFunction p (function_of x (contract_at p W))
+  quiet_one p x d = by (contract_at p W) d.there
+    where
+      by_function : (c : Contract) → contract_at p W ≡ Some c → (o : Option Function) → function_in x c.forms ≡ o → IsQuietOne W IsQuietFunction p o
+      by_function c at None is = tt
+      by_function c at (Some f) is = quiet_function p x d c at f is
+
+      by : (o : Option Contract) → o ≡ Some d.contract → IsQuietOne W IsQuietFunction p (function_of x o)
+      by o e = subst (λ o. IsQuietOne W IsQuietFunction p (function_of x o)) (sym e) (by_function d.contract d.there (function_in x d.contract.forms) refl)
+
+  -- ---- calls in the code of a deployed contract
+
+  -- the function of another contract
+  across_quiet : (p : Principal) (x : List ℕ) (d : DoesNotWrite costs W p x) (G : Context) → G.principal ≡ p → G.deployed ≡ d.before → (B : Names) (es : Forest) →
+      shape_rules (contract_call_shape (row_of ContractCall) G B (trees_of es)).faults ≡ [] → IsApart d.contract.forms (calls_public d.before p) (record { operator = codes "contract-call?"; parts = es }) → IsQuietAcross W IsQuietFunction p es
+  across_quiet p x d G home deployed B (Then (LeafAt leaf at) (Then (LeafAt (Named y) at') es)) rules apart =
+      let fine = fine_shape (contract_call_shape (row_of ContractCall) G B (trees_of (Then (LeafAt leaf at) (Then (LeafAt (Named y) at') es)))).faults rules in
+      let t = target_by G leaf at y at' (trees_of es) (contract_literal G.principal leaf) refl fine.literal_expected fine.no_such_contract fine.no_such_function in
+      let another : another_at p d.before t.target ≡ Some t.known = subst (λ (ks : List Known). another_at p ks t.target ≡ Some t.known) deployed (subst (λ r. another_at r G.deployed t.target ≡ Some t.known) home t.there) in
+      let known : known_at t.target d.before ≡ Some t.known = another_there (same_principal t.target p) (known_at t.target d.before) t.known another in
+      let text = text_at costs W d.before d.earlier t.target t.known known in
+      λ F E at_home c is f callable_told.
+      let found : contract_at t.target W ≡ Some c = other_there (is_principal t.target F.contract) (contract_at t.target W) c
+          (ap (λ o. option_and_then (other_contract (scope W F E)) o) (sym (literal_is W F E G.principal (at_home ∙ sym home) leaf at t.target t.literal)) ∙ is) in
+      let one : text.contract ≡ c = some_contract text.contract c (sym text.there ∙ ap (λ q. contract_at q W) text.home ∙ found) in
+      let there = callable_there (function_in y c.forms) f callable_told in
+      let told : signature_in y t.known.functions ≡ Some t.signature = told_there (signature_in y t.known.functions) t.signature t.told in
+      let access = access_told costs W d.before d.earlier t.target t.known known c found y t.signature told f there.0 in
+      let in_text : function_in y text.contract.forms ≡ Some f = ap (λ (c : Contract). function_in y c.forms) one ∙ there.0 in
+      let quiet : DoesNotWrite costs W t.target y = elim there.1 [
+        | inl public ↦ absurd (apart.across leaf y at at' es refl refl
+            (subst (λ r. is_public_at d.before p r y ≡ true) (sym (subst (λ r. contract_literal r leaf ≡ Some t.target) home t.literal))
+            (subst (λ o. is_public_in o y ≡ true) (sym another)
+            (subst (λ o. is_public_there o ≡ true) (sym told)
+            (subst (λ a. is_public a ≡ true) (sym (access ∙ public)) refl)))))
+        | inr read_only ↦ read_only_apart costs W t.target t.known text y f in_text read_only
+      ] in
+      subst (λ q. IsQuietFunction q f) (sym text.home ∙ ap (λ (c : Contract). c.principal) one) (quiet_function t.target y quiet c found f there.0)
+  across_quiet p x d G home deployed B (Then (ListAt items at) (Then (LeafAt (Named y) at') es)) rules apart =
+      let bad = (fine_shape (contract_call_shape (row_of ContractCall) G B (trees_of (Then (ListAt items at) (Then (LeafAt (Named y) at') es)))).faults rules).literal_expected in absurd cc
+  across_quiet p x d G home deployed B (Then (TupleAt ps at) (Then (LeafAt (Named y) at') es)) rules apart =
+      let bad = (fine_shape (contract_call_shape (row_of ContractCall) G B (trees_of (Then (TupleAt ps at) (Then (LeafAt (Named y) at') es)))).faults rules).literal_expected in absurd cc
+  across_quiet p x d G home deployed B es rules apart = tt
+
+  calls_quiet : (p : Principal) (x : List ℕ) (d : DoesNotWrite costs W p x) (G : Context) → G.principal ≡ p → G.deployed ≡ d.before → CallsAreQuiet W IsQuietFunction p G (IsApart d.contract.forms (calls_public d.before p))
+  calls_quiet p x d G home deployed = record {
+    natives = λ y es apart. apart.natives;
+    functions = λ y es apart. quiet_one p y (another y apart.functions);
+    uses = λ y es apart applies. uses y es apart applies;
+    across = across_quiet p x d G home deployed;
+  }
+    where
+      another : (y : List ℕ) → (Writes d.contract.forms (calls_public d.before p) y → ⊥) → DoesNotWrite costs W p y
+      another y h = record { before = d.before; contract = d.contract; known = d.known; earlier = d.earlier; of_text = d.of_text; there = d.there; home = d.home; apart = h }
+
+      uses : (y : List ℕ) (es : Forest) → IsApart d.contract.forms (calls_public d.before p) (record { operator = y; parts = es }) → is_one_of applying_natives y ≡ true → IsQuietUse W IsQuietFunction p es
+      uses y (Then (LeafAt (Named g) at) es) apart applies = quiet_one p g (another g (apart.uses g at es refl applies))
+      uses y es apart applies = tt
+
+  -- what the body of a function calls that doesn't write is quiet
+  pub bodies_quiet : (p : Principal) (f : Function) → IsQuietFunction p f → IsQuiet W IsQuietFunction p f.body
+  bodies_quiet p f q =
+      let d = q.apart in
+      let b = body_typed costs d.before d.contract d.known d.of_text f.name f q.there in
+      let is = function_there f.name d.contract.forms f q.there in
+      let form = form_there f.name d.contract.forms (FunctionForm f.access f.params f.body) is.form in
+      let none : WritesIn d.contract.forms (calls_public d.before p) f.body → ⊥ = λ w. d.apart (has_writing_body (record { form = form.form; access = f.access; params = f.params; there = form.there; named = form.named; function = form.is }) w) in
+      typed_quiet W IsQuietFunction p b.context (IsApart d.contract.forms (calls_public d.before p)) (calls_quiet p f.name d b.context (b.principal ∙ d.home) b.deployed) b.typed
+      (all_apart (IsApart d.contract.forms (calls_public d.before p)) (calls_in f.body) (call_apart d.contract.forms (calls_public d.before p) f.body none))
