@@ -30,7 +30,7 @@ use Rattle.cl_expression_sound.specs.Stages.{IsContext}
 use Rattle.cl_contract_sound.specs.Nodes.{IsOfText, AreOfTexts, none_yet, and_one, AreContracts}
 use Rattle.cl_contract_sound.proofs.Contexts.{stands_in}
 use Rattle.cl_contract_sound.proofs.OfTexts.{are_known, found_principal}
-use Rattle.cl_contract_sound.proofs.Serving.{known_split, known_there, as_served, holders_apart}
+use Rattle.cl_contract_sound.proofs.Serving.{IsKnownAt, known_split, known_there, as_served}
 use Rattle.cl_contract_sound.proofs.States.{at_contains, some_contract}
 use Rattle.cl_readonly_sound.specs.Laws.{DoesNotWrite}
 use Rattle.cl_readonly_sound.proofs.Quiet.{scope, IsQuietOne, IsQuietUse, IsQuietAcross, IsQuiet}
@@ -62,15 +62,15 @@ all_apart NW (c ∷ cs) h = (h c (Contains-append_left (c ∷ []) cs c (Contains
 -- ---- contracts that are deployed
 
 -- what callers see at a principal stands for an accepted text
-record IsTextAt (costs : CostTable) (W : Deployed) (q : Principal) (k : Known) : Type 0 where
-  before : List Known
-  contract : Contract
-  earlier : AreOfTexts costs W before
-  of_text : IsOfText costs before contract k
-  there : contract_at contract.principal W ≡ Some contract
-  home : contract.principal ≡ q
+pub record IsTextAt (costs : CostTable) (W : Deployed) (q : Principal) (k : Known) : Type 0 where
+  pub before : List Known
+  pub contract : Contract
+  pub earlier : AreOfTexts costs W before
+  pub of_text : IsOfText costs before contract k
+  pub there : contract_at contract.principal W ≡ Some contract
+  pub home : contract.principal ≡ q
 
-text_at : (costs : CostTable) (W : Deployed) (ks : List Known) → AreOfTexts costs W ks → (q : Principal) (k : Known) → known_at q ks ≡ Some k → IsTextAt costs W q k
+pub text_at : (costs : CostTable) (W : Deployed) (ks : List Known) → AreOfTexts costs W ks → (q : Principal) (k : Known) → known_at q ks ≡ Some k → IsTextAt costs W q k
 text_at costs W ks (none_yet e) q k h = none_at (ap (known_at q) (sym e) ∙ h)
   where
     none_at : None ≡ Some k → IsTextAt costs W q k
@@ -82,7 +82,7 @@ text_at costs W after (and_one {before = before} c n texts new h there is) q k e
     by (inr g) more = record { before = before; contract = c; earlier = texts; of_text = subst (IsOfText costs before c) g.1 h; there = there; home = sym (ap (λ (k : Known). k.principal) h.known) ∙ g.0 }
 
 -- a read-only function of an accepted contract doesn't write
-read_only_apart : (costs : CostTable) (W : Deployed) (q : Principal) (k : Known) (t : IsTextAt costs W q k) (x : List ℕ) (f : Function) → function_in x t.contract.forms ≡ Some f → f.access ≡ ReadOnly → DoesNotWrite costs W q x
+pub read_only_apart : (costs : CostTable) (W : Deployed) (q : Principal) (k : Known) (t : IsTextAt costs W q k) (x : List ℕ) (f : Function) → function_in x t.contract.forms ≡ Some f → f.access ≡ ReadOnly → DoesNotWrite costs W q x
 read_only_apart costs W q k t x f there access =
     let h = t.of_text in
     let is = function_there x t.contract.forms f there in
@@ -105,33 +105,43 @@ read_only_apart costs W q k t x f there access =
       });
     }
 
+-- the context behind all forms of a contract that callers see
+whole_context : (W : Deployed) (q : Principal) (k : Known) (a : IsKnownAt W Whole q k) → IsContext W Whole a.defined.context
+whole_context W q k a = record {
+  before = a.before;
+  known = a.known;
+  contract = a.contract;
+  defined = a.defined;
+  accepted = a.accepted;
+  there = a.there;
+  so_far = a.defined;
+  done = a.accepted.order;
+  rest = [];
+  order = sym (append-nil a.accepted.order);
+  typed = a.accepted.typed;
+  more = no_more refl;
+  context = refl;
+}
+
+same_access : (f s : Function) (o : Option Function) (g : Signature) → o ≡ Some s → o ≡ Some f → s.access ≡ g.access → g.access ≡ f.access
+same_access f s o g h k e = sym e ∙ ap (λ (f : Function). f.access) (same_function (sym h ∙ k))
+  where
+    same_function : Some s ≡ Some f → s ≡ f
+    same_function e = cc
+
+access_served : (costs : CostTable) (W : Deployed) (q : Principal) (k : Known) (a : IsKnownAt W Whole q k) (x : List ℕ) (g : Signature) → signature_in x k.functions ≡ Some g → (f : Function) → function_in x a.contract.forms ≡ Some f → g.access ≡ f.access
+unfolding whole_context
+access_served costs W q k a x g told f is =
+    let T = stands_in W Whole a.defined.context (whole_context W q k a) in
+    let s = as_served costs W Whole a.contract x g (T.functions x g (ap (λ (k : Known). signature_in x k.functions) a.is ∙ told)) in
+    same_access f s.0 (function_in x a.contract.forms) g s.1 is (ap (λ (g : Signature). g.access) s.2.signature)
+
 -- the access that callers see is the function's
 access_told : (costs : CostTable) (W : Deployed) (before : List Known) → AreOfTexts costs W before → (q : Principal) (k : Known) → known_at q before ≡ Some k → (c : Contract) → contract_at q W ≡ Some c → (x : List ℕ) (g : Signature) → signature_in x k.functions ≡ Some g → (f : Function) → function_in x c.forms ≡ Some f → g.access ≡ f.access
-access_told costs W before texts q k at c there x g told f is =
-    let a = known_there W Whole before (are_known costs W before texts) q k at in
-    let inside : IsContext W Whole a.defined.context = record {
-      before = a.before;
-      known = a.known;
-      contract = a.contract;
-      defined = a.defined;
-      accepted = a.accepted;
-      there = a.there;
-      so_far = a.defined;
-      done = a.accepted.order;
-      rest = [];
-      order = sym (append-nil a.accepted.order);
-      typed = a.accepted.typed;
-      more = no_more refl;
-      context = refl;
-    } in
-    let T = stands_in W Whole a.defined.context inside in
-    let s = as_served costs W Whole a.contract x g (T.functions x g (ap (λ (k : Known). signature_in x k.functions) a.is ∙ told)) in
-    let one : a.contract ≡ c = some_contract a.contract c (sym a.there ∙ ap (λ q. contract_at q W) a.at ∙ there) in
-    let same : s.0 ≡ f = some_function s.0 f (sym s.1 ∙ ap (λ (c : Contract). function_in x c.forms) one ∙ is) in
-    ap (λ (g : Signature). g.access) (sym s.2.signature) ∙ ap (λ (f : Function). f.access) same
+access_told costs W before texts q k at c there x g told f is = by (known_there W Whole before (are_known costs W before texts) q k at)
   where
-    some_function : (f g : Function) → Some f ≡ Some g → f ≡ g
-    some_function f g e = cc
+    by : IsKnownAt W Whole q k → g.access ≡ f.access
+    by a = access_served costs W q k a x g told f (ap (λ (c : Contract). function_in x c.forms) (some_contract a.contract c (sym a.there ∙ ap (λ q. contract_at q W) a.at ∙ there)) ∙ is)
 
 -- ---- calls of other contracts
 
@@ -225,32 +235,48 @@ module _ (costs : CostTable) (W : Deployed) where
 
   -- ---- calls in the code of a deployed contract
 
+  -- a function of the target that may be called doesn't write: it is read-only, since a call of a public one would write
+  target_apart : (p : Principal) (x : List ℕ) (d : DoesNotWrite costs W p x) (leaf : Leaf) (at : Span) (y : List ℕ) (at' : Span) (es : Forest) (q : Principal) (k : Known) (g : Signature) → contract_literal p leaf ≡ Some q → another_at p d.before q ≡ Some k → signature_in y k.functions ≡ Some g →
+      IsApart d.contract.forms (calls_public d.before p) (record { operator = codes "contract-call?"; parts = Then (LeafAt leaf at) (Then (LeafAt (Named y) at') es) }) →
+      (text : IsTextAt costs W q k) (f : Function) → function_in y text.contract.forms ≡ Some f → g.access ≡ f.access → (f.access ≡ Public) ⊎ (f.access ≡ ReadOnly) → DoesNotWrite costs W q y
+  target_apart p x d leaf at y at' es q k g literal another told apart text f is access (inl public) =
+      absurd (apart.across leaf y at at' es refl refl
+      (subst (λ r. is_public_at d.before p r y ≡ true) (sym literal)
+      (subst (λ o. is_public_in o y ≡ true) (sym another)
+      (subst (λ o. is_public_there o ≡ true) (sym told)
+      (subst (λ a. is_public a ≡ true) (sym public ∙ sym access) refl)))))
+  target_apart p x d leaf at y at' es q k g literal another told apart text f is access (inr read_only) = read_only_apart costs W q k text y f is read_only
+
+  target_quiet : (p : Principal) (x : List ℕ) (d : DoesNotWrite costs W p x) (leaf : Leaf) (at : Span) (y : List ℕ) (at' : Span) (es : Forest) (q : Principal) (k : Known) (g : Signature) → contract_literal p leaf ≡ Some q → another_at p d.before q ≡ Some k → signature_in y k.functions ≡ Some g →
+      IsApart d.contract.forms (calls_public d.before p) (record { operator = codes "contract-call?"; parts = Then (LeafAt leaf at) (Then (LeafAt (Named y) at') es) }) →
+      IsTextAt costs W q k → (c : Contract) → contract_at q W ≡ Some c → (f : Function) → function_in y c.forms ≡ Some f → (f.access ≡ Public) ⊎ (f.access ≡ ReadOnly) → IsQuietFunction c.principal f
+  target_quiet p x d leaf at y at' es q k g literal another told apart text c found f is callable =
+      let one : text.contract ≡ c = some_contract text.contract c (sym text.there ∙ ap (λ q. contract_at q W) text.home ∙ found) in
+      let known : known_at q d.before ≡ Some k = another_there (same_principal q p) (known_at q d.before) k another in
+      let access : g.access ≡ f.access = access_told costs W d.before d.earlier q k known c found y g told f is in
+      let in_text : function_in y text.contract.forms ≡ Some f = ap (λ (c : Contract). function_in y c.forms) one ∙ is in
+      let home : q ≡ c.principal = sym text.home ∙ ap (λ (c : Contract). c.principal) one in
+      subst (λ q. IsQuietFunction q f) home (quiet_function q y (target_apart p x d leaf at y at' es q k g literal another told apart text f in_text access callable) c found f is)
+
+  target_across : (p : Principal) (x : List ℕ) (d : DoesNotWrite costs W p x) (leaf : Leaf) (at : Span) (y : List ℕ) (at' : Span) (es : Forest) (G : Context) → G.principal ≡ p → G.deployed ≡ d.before → IsTarget G leaf y →
+      IsApart d.contract.forms (calls_public d.before p) (record { operator = codes "contract-call?"; parts = Then (LeafAt leaf at) (Then (LeafAt (Named y) at') es) }) → IsQuietAcross W IsQuietFunction p (Then (LeafAt leaf at) (Then (LeafAt (Named y) at') es))
+  target_across p x d leaf at y at' es G home deployed t apart F E at_home c is f callable_told =
+      let literal : contract_literal p leaf ≡ Some t.target = subst (λ r. contract_literal r leaf ≡ Some t.target) home t.literal in
+      let another : another_at p d.before t.target ≡ Some t.known = subst (λ (ks : List Known). another_at p ks t.target ≡ Some t.known) deployed (subst (λ r. another_at r G.deployed t.target ≡ Some t.known) home t.there) in
+      let known : known_at t.target d.before ≡ Some t.known = another_there (same_principal t.target p) (known_at t.target d.before) t.known another in
+      let there = callable_there (function_in y c.forms) f callable_told in
+      let told : signature_in y t.known.functions ≡ Some t.signature = told_there (signature_in y t.known.functions) t.signature t.told in
+      let named : target_of (scope W F E) (LeafAt leaf at) ≡ Some t.target = literal_is W F E p at_home leaf at t.target literal in
+      let other : option_and_then (other_contract (scope W F E)) (Some t.target) ≡ Some c = subst (λ o. option_and_then (other_contract (scope W F E)) o ≡ Some c) named is in
+      let found : contract_at t.target W ≡ Some c = other_there (is_principal t.target F.contract) (contract_at t.target W) c other in
+      target_quiet p x d leaf at y at' es t.target t.known t.signature literal another told apart (text_at costs W d.before d.earlier t.target t.known known) c found f there.0 there.1
+
   -- the function of another contract
   across_quiet : (p : Principal) (x : List ℕ) (d : DoesNotWrite costs W p x) (G : Context) → G.principal ≡ p → G.deployed ≡ d.before → (B : Names) (es : Forest) →
       shape_rules (contract_call_shape (row_of ContractCall) G B (trees_of es)).faults ≡ [] → IsApart d.contract.forms (calls_public d.before p) (record { operator = codes "contract-call?"; parts = es }) → IsQuietAcross W IsQuietFunction p es
   across_quiet p x d G home deployed B (Then (LeafAt leaf at) (Then (LeafAt (Named y) at') es)) rules apart =
       let fine = fine_shape (contract_call_shape (row_of ContractCall) G B (trees_of (Then (LeafAt leaf at) (Then (LeafAt (Named y) at') es)))).faults rules in
-      let t = target_by G leaf at y at' (trees_of es) (contract_literal G.principal leaf) refl fine.literal_expected fine.no_such_contract fine.no_such_function in
-      let another : another_at p d.before t.target ≡ Some t.known = subst (λ (ks : List Known). another_at p ks t.target ≡ Some t.known) deployed (subst (λ r. another_at r G.deployed t.target ≡ Some t.known) home t.there) in
-      let known : known_at t.target d.before ≡ Some t.known = another_there (same_principal t.target p) (known_at t.target d.before) t.known another in
-      let text = text_at costs W d.before d.earlier t.target t.known known in
-      λ F E at_home c is f callable_told.
-      let found : contract_at t.target W ≡ Some c = other_there (is_principal t.target F.contract) (contract_at t.target W) c
-          (ap (λ o. option_and_then (other_contract (scope W F E)) o) (sym (literal_is W F E G.principal (at_home ∙ sym home) leaf at t.target t.literal)) ∙ is) in
-      let one : text.contract ≡ c = some_contract text.contract c (sym text.there ∙ ap (λ q. contract_at q W) text.home ∙ found) in
-      let there = callable_there (function_in y c.forms) f callable_told in
-      let told : signature_in y t.known.functions ≡ Some t.signature = told_there (signature_in y t.known.functions) t.signature t.told in
-      let access = access_told costs W d.before d.earlier t.target t.known known c found y t.signature told f there.0 in
-      let in_text : function_in y text.contract.forms ≡ Some f = ap (λ (c : Contract). function_in y c.forms) one ∙ there.0 in
-      let quiet : DoesNotWrite costs W t.target y = elim there.1 [
-        | inl public ↦ absurd (apart.across leaf y at at' es refl refl
-            (subst (λ r. is_public_at d.before p r y ≡ true) (sym (subst (λ r. contract_literal r leaf ≡ Some t.target) home t.literal))
-            (subst (λ o. is_public_in o y ≡ true) (sym another)
-            (subst (λ o. is_public_there o ≡ true) (sym told)
-            (subst (λ a. is_public a ≡ true) (sym (access ∙ public)) refl)))))
-        | inr read_only ↦ read_only_apart costs W t.target t.known text y f in_text read_only
-      ] in
-      subst (λ q. IsQuietFunction q f) (sym text.home ∙ ap (λ (c : Contract). c.principal) one) (quiet_function t.target y quiet c found f there.0)
+      target_across p x d leaf at y at' es G home deployed (target_by G leaf at y at' (trees_of es) (contract_literal G.principal leaf) refl fine.literal_expected fine.no_such_contract fine.no_such_function) apart
   across_quiet p x d G home deployed B (Then (ListAt items at) (Then (LeafAt (Named y) at') es)) rules apart =
       let bad = (fine_shape (contract_call_shape (row_of ContractCall) G B (trees_of (Then (ListAt items at) (Then (LeafAt (Named y) at') es)))).faults rules).literal_expected in absurd cc
   across_quiet p x d G home deployed B (Then (TupleAt ps at) (Then (LeafAt (Named y) at') es)) rules apart =

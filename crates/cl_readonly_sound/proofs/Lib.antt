@@ -5,3 +5,5 @@ pub mod Calling
 pub mod TypedQuiet
 pub mod Bodies
 pub mod Deployed
+pub mod CallsLeave
+pub mod NodesStay
