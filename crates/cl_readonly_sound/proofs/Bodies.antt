@@ -1,5 +1,5 @@
 -- The functions of a contract of an accepted text: their forms, and their bodies, which are typed.
-use Rattle.std.proofs.Common.{◌≡◌, ◌⊎◌, inl, inr, ℕ, Bool, true, false, List, [], ◌∷◌, ◌++◌, Option, Some, None, refl, sym, ap, subst, ◌∙◌}
+use Rattle.std.proofs.Common.{◌≡◌, inl, inr, ℕ, Bool, true, false, List, [], ◌∷◌, Option, Some, None, refl, sym, ap, subst, ◌∙◌}
 use Rattle.std.specs.Prelude.{if◌then◌else◌, option_and_then, unwrap_or, Contains}
 use Rattle.std.proofs.lemmas.List.Elements.{Contains-push, Contains-append_left, Contains-append_right}
 use Rattle.cl_types.specs.Types.{PlainType}
@@ -19,7 +19,7 @@ use Rattle.cl_rules.specs.Context.{CostTable, Context, Known}
 use Rattle.cl_rules.specs.Verdicts.{Found}
 use Rattle.cl_rules.specs.Typing.{Typed, Follows, ends, part}
 use Rattle.cl_rules.specs.FormRules.{Defined, form_plan, context_after}
-use Rattle.cl_rules.specs.FormTyping.{FormTyped, form_typed, FormsTyped, no_more, one_more}
+use Rattle.cl_rules.specs.FormTyping.{form_typed, FormsTyped, one_more}
 use Rattle.cl_contract_sound.specs.Nodes.{IsOfText}
 use Rattle.cl_contract_sound.specs.Deployments.{AreItsForms}
 use Rattle.cl_contract_sound.proofs.Naming.{all_at}

@@ -1,33 +1,29 @@
 -- A typed expression is quiet where no call in it writes.
-use Rattle.std.proofs.Common.{◌≡◌, ◌⊎◌, inl, inr, ℕ, Bool, true, false, List, [], ◌∷◌, ◌++◌, length, map, take, drop, Option, Some, None, refl, sym, ap, subst, ◌∙◌, arith, eqb-true}
+use Rattle.std.proofs.Common.{◌≡◌, ℕ, Bool, true, false, List, [], ◌∷◌, ◌++◌, length, map, take, drop, Option, Some, None, refl, sym, ap, ◌∙◌, arith, eqb-true}
 use Rattle.std.specs.Prelude.{filter_map, codes, is_some, not, nat_eq, ◌||◌}
-use Rattle.cl_types.specs.Types.{PlainType, OptionalType, ResponseType, NoType}
+use Rattle.cl_types.specs.Types.{NoType}
 use Rattle.cl_types.proofs.Lattice.{keys_equal}
 use Rattle.cl_c32.specs.declared.principal.Principal.{Principal}
-use Rattle.cl_shapes.specs.declared.name.CostName.TheVariants.{Control}
-use Rattle.cl_sexpr.specs.Tree.{Tree, LeafAt, ListAt, TupleAt, Leaf, Named, Unsigned, Forest, Empty, Then, Pairs, NoPair, Pair}
+use Rattle.cl_sexpr.specs.Tree.{Tree, LeafAt, ListAt, TupleAt, Named, Forest, Empty, Then}
 use Rattle.cl_values.specs.declared.native.Native.TheVariants.{Add}
-use Rattle.cl_forms.specs.declared.head.TokenNative.TheVariants.{MintFt, BurnFt, SendFt, MintNft, BurnNft, SendNft, SendStx, BurnStx}
+use Rattle.cl_forms.specs.declared.head.TokenNative.TheVariants.{MintFt}
 use Rattle.cl_forms.specs.declared.head.Head.{Head}
-use Rattle.cl_forms.specs.declared.head.Head.TheVariants.{OnValues, OnToken, TupleOf, AsMaxLen, Get, VarGet, VarSet, MapGet, MapSet, MapInsert, MapDelete, FtBalance, FtSupply, StxBalance, NftOwner, Print, If, Let, Begin, And, Or, Asserts, Unwrap, UnwrapErr, Try, Match, AsContract, Map, Filter, Fold, ContractCall}
-use Rattle.cl_forms.specs.Heads.{Row, row_of, native, is_reserved}
-use Rattle.cl_forms.specs.HeadNames.{name_of, head_of_row}
+use Rattle.cl_forms.specs.declared.head.Head.TheVariants.{OnValues, OnToken, TupleOf, ContractCall}
+use Rattle.cl_forms.specs.Heads.{row_of, native, is_reserved}
+use Rattle.cl_forms.specs.HeadNames.{name_of}
 use Rattle.cl_forms.specs.Names.{same}
-use Rattle.cl_forms.specs.Shapes.{trees_of, binding_of, bindings_of, and_binding, pairs_of}
-use Rattle.cl_forms.specs.Writes.{writing_natives, applying_natives, is_one_of, Call, calls_in, calls_of_list, calls_behind, calls_of_pairs}
-use Rattle.cl_forms.proofs.Found.{is_row, named_alone}
+use Rattle.cl_forms.specs.Shapes.{trees_of, binding_of, bindings_of, and_binding}
+use Rattle.cl_forms.specs.Writes.{writing_natives, applying_natives, is_one_of, Call, calls_in, calls_of_list, calls_behind}
 use Rattle.cl_meaning.specs.Deployed.{Deployed, Function, contract_at, function_of}
-use Rattle.cl_rules.specs.Faults.{shape_rules, type_rules}
-use Rattle.cl_rules.specs.Context.{Context, Names, Signature, Bound, bind, charge, signature_in, named_in, is_taken, is_top_level, is_named}
+use Rattle.cl_rules.specs.Faults.{shape_rules}
+use Rattle.cl_rules.specs.Context.{Context, Names, bind, is_taken, is_top_level, is_named}
 use Rattle.cl_rules.specs.Verdicts.{Found}
 use Rattle.cl_rules.specs.Shapes.{Plan, Ends, Part, Gives, parts, First, There, Absent, NoName, NoSuch, first_named, is_no_name, is_no_such}
-use Rattle.cl_rules.specs.ControlShapes.{is_shadowed, bound_name, let_plan, let_with, let_shape, optional_plan, response_plan, match_plan, match_verdict}
-use Rattle.cl_rules.specs.DataShapes.{if_fungible, literal_at}
-use Rattle.cl_rules.specs.CallShapes.{call_shape, contract_call_shape, used, target_of, function_of as function_behind}
-use Rattle.cl_rules.specs.Table.{head_shape, operator_shape, shape}
-use Rattle.cl_rules.specs.Typing.{Typed, typed, Follows, ends, part, gives, broken_shape, broken_types}
-use Rattle.cl_expression_sound.proofs.Rules.{fine_shape, not_false, or_left, or_right}
-use Rattle.cl_readonly_sound.proofs.Quiet.{Way, Plain, AtBindings, AtPairs, way_of_head, way_of, IsQuietOne, IsQuietUse, IsQuietAcross, IsQuietHead, IsQuietCall, IsQuiet, IsQuietList, AreQuietBehind, IsQuietPair, AreQuietBindings, AreQuietPairs, AllQuiet, AllQuietPairs}
+use Rattle.cl_rules.specs.ControlShapes.{is_shadowed, bound_name, let_plan}
+use Rattle.cl_rules.specs.DataShapes.{literal_at}
+use Rattle.cl_rules.specs.CallShapes.{contract_call_shape, used, target_of, function_of as function_behind}
+use Rattle.cl_expression_sound.proofs.Rules.{not_false, or_left, or_right}
+use Rattle.cl_readonly_sound.proofs.Quiet.{Plain, AtPairs, IsQuietOne, IsQuietUse, IsQuietAcross, IsQuiet, AreQuietBehind, AllQuiet, AllQuietPairs}
 
 -- ---- names of natives
 

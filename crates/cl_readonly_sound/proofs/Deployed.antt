@@ -1,42 +1,40 @@
 -- Functions of accepted contracts that don't write are quiet, and what their bodies call is quiet.
-use Rattle.std.proofs.Common.{◌≡◌, ◌⊎◌, inl, inr, ℕ, Bool, true, false, List, [], ◌∷◌, ◌++◌, Option, Some, None, refl, sym, ap, subst, ◌∙◌, append-nil}
-use Rattle.std.specs.Prelude.{if◌then◌else◌, option_and_then, codes, Contains, IsSome}
+use Rattle.std.proofs.Common.{◌≡◌, ◌⊎◌, inl, inr, ℕ, Bool, true, false, List, [], ◌∷◌, Option, Some, None, refl, sym, ap, subst, ◌∙◌, append-nil}
+use Rattle.std.specs.Prelude.{if◌then◌else◌, option_and_then, codes, Contains}
 use Rattle.std.proofs.lemmas.List.Elements.{Contains-push, Contains-append_left, Contains-append_right}
 use Rattle.cl_types.specs.declared.sized.Access.{Access}
 use Rattle.cl_types.specs.declared.sized.Access.TheVariants.{Public, ReadOnly, Private}
 use Rattle.cl_c32.specs.declared.principal.Principal.{Principal}
-use Rattle.cl_sexpr.specs.Tree.{Tree, LeafAt, ListAt, TupleAt, Leaf, Named, Signed, Unsigned, Bytes, Ascii, Unicode, Standing, Local, Forest, Empty, Then}
+use Rattle.cl_sexpr.specs.Tree.{Tree, LeafAt, ListAt, TupleAt, Leaf, Named, Standing, Local, Forest, Then}
 use Rattle.cl_sexpr.specs.declared.sexpr.Span.{Span}
-use Rattle.cl_values.specs.Tree.{Tree as Val}
-use Rattle.cl_values.specs.Valid.{IsPrincipal}
 use Rattle.cl_forms.specs.declared.head.Head.TheVariants.{ContractCall}
 use Rattle.cl_forms.specs.Heads.{row_of}
 use Rattle.cl_forms.specs.Forms.{Form, FunctionForm}
 use Rattle.cl_forms.specs.Shapes.{trees_of, beside}
-use Rattle.cl_forms.specs.Writes.{writing_natives, applying_natives, is_one_of, Call, calls_in, Defines, Writes, WritesIn, has_writing_body, by_native, by_function, by_name, by_contract}
-use Rattle.cl_events.specs.State.{State, is_principal}
+use Rattle.cl_forms.specs.Writes.{writing_natives, applying_natives, is_one_of, Call, calls_in, Writes, WritesIn, has_writing_body, by_native, by_function, by_name, by_contract}
+use Rattle.cl_events.specs.State.{is_principal}
 use Rattle.cl_meaning.specs.Deployed.{Contract, Deployed, Function, contract_at, function_in, function_of}
-use Rattle.cl_meaning.specs.Scope.{Frame, Bound, OwnFunction}
+use Rattle.cl_meaning.specs.Scope.{Frame, Bound}
 use Rattle.cl_meaning.specs.Calls.{callable, target_of, other_contract}
 use Rattle.cl_meaning.specs.Kept.{Whole}
 use Rattle.cl_rules.specs.Faults.{shape_rules}
 use Rattle.cl_rules.specs.Context.{CostTable, Context, Known, Names, Signature, signature_in, known_at, another_at, same_principal, target_at, if_callable}
-use Rattle.cl_rules.specs.Shapes.{There, NoName, NoSuch, there_or_not, is_no_name, is_no_such}
-use Rattle.cl_rules.specs.CallShapes.{contract_literal, contract_call_shape, target_or_not, target_of as rule_target, function_of as rule_function}
+use Rattle.cl_rules.specs.Shapes.{there_or_not, is_no_name, is_no_such}
+use Rattle.cl_rules.specs.CallShapes.{contract_literal, contract_call_shape, target_or_not, function_of as rule_function}
 use Rattle.cl_rules.specs.FormTyping.{no_more}
-use Rattle.cl_rules.specs.Acceptance.{is_public, is_public_there, is_public_in, is_public_at, calls_public, WritesWrongly}
+use Rattle.cl_rules.specs.Acceptance.{is_public, is_public_there, is_public_in, is_public_at, calls_public}
 use Rattle.cl_expression_sound.proofs.Rules.{fine_shape}
 use Rattle.cl_expression_sound.specs.Stages.{IsContext}
-use Rattle.cl_contract_sound.specs.Nodes.{IsOfText, AreOfTexts, none_yet, and_one, AreContracts}
+use Rattle.cl_contract_sound.specs.Nodes.{IsOfText, AreOfTexts, none_yet, and_one}
 use Rattle.cl_contract_sound.proofs.Contexts.{stands_in}
-use Rattle.cl_contract_sound.proofs.OfTexts.{are_known, found_principal}
+use Rattle.cl_contract_sound.proofs.OfTexts.{are_known}
 use Rattle.cl_contract_sound.proofs.Serving.{IsKnownAt, known_split, known_there, as_served}
-use Rattle.cl_contract_sound.proofs.States.{at_contains, some_contract}
+use Rattle.cl_contract_sound.proofs.States.{some_contract}
 use Rattle.cl_readonly_sound.specs.Laws.{DoesNotWrite}
 use Rattle.cl_readonly_sound.proofs.Quiet.{scope, IsQuietOne, IsQuietUse, IsQuietAcross, IsQuiet}
 use Rattle.cl_readonly_sound.proofs.Calling.{AllCalls, CallsAreQuiet}
 use Rattle.cl_readonly_sound.proofs.TypedQuiet.{typed_quiet}
-use Rattle.cl_readonly_sound.proofs.Bodies.{form_there, function_there, IsBody, body_typed}
+use Rattle.cl_readonly_sound.proofs.Bodies.{form_there, function_there, body_typed}
 
 -- ---- calls that don't write
 

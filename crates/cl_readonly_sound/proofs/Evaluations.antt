@@ -1,6 +1,6 @@
 -- An expression that is quiet leaves the state untouched, at each depth.
 use Rattle.std.proofs.Common.{◌≡◌, ℕ, zero, suc, List, [], ◌∷◌, ◌++◌, true, false, map, Option, Some, None, refl, sym, subst}
-use Rattle.std.specs.Prelude.{zip, option_and_then, if◌then◌else◌, codes, Bool}
+use Rattle.std.specs.Prelude.{option_and_then, if◌then◌else◌, codes, Bool}
 use Rattle.std.specs.Str.{bytes_eq}
 use Rattle.cl_types.specs.Types.{PlainType}
 use Rattle.cl_types.specs.declared.sized.Access.{Access}
@@ -9,7 +9,7 @@ use Rattle.cl_c32.specs.declared.principal.Principal.{Principal}
 use Rattle.cl_shapes.specs.declared.name.CostName.{CostName}
 use Rattle.cl_sexpr.specs.Tree.{Tree, LeafAt, ListAt, TupleAt, Leaf, Named, Signed, Unsigned, Bytes, Ascii, Unicode, Standing, Local, Forest, Empty, Then, Pairs, NoPair, Pair, span_of}
 use Rattle.cl_values.specs.declared.native.Native.{Native}
-use Rattle.cl_values.specs.Tree.{Tree as Val, IntV, UintV, BoolV, BuffV, AsciiV, Utf8V, PrincipalV, ListV, TupleV, NoneV, SomeV, ResponseV}
+use Rattle.cl_values.specs.Tree.{Tree as Val, UintV, BoolV, PrincipalV, NoneV, SomeV, ResponseV}
 use Rattle.cl_values.specs.Sequences.{entries_of}
 use Rattle.cl_values.specs.Wire.{wire, size_of}
 use Rattle.cl_shapes.specs.declared.name.CostName.TheVariants.{ReadVar, Lookup}
@@ -18,24 +18,23 @@ use Rattle.cl_forms.specs.declared.head.Head.TheVariants.{OnValues, OnToken, Tup
 use Rattle.cl_forms.specs.Heads.{Row, native}
 use Rattle.cl_forms.specs.Shapes.{trees_of, binding_of, bindings_of, and_binding, pairs_of}
 use Rattle.cl_tokens.specs.Ledger.{Ledger}
-use Rattle.cl_tokens.specs.Owners.{Owners}
 use Rattle.cl_maps.specs.Maps.{get}
 use Rattle.cl_events.specs.State.{State}
 use Rattle.cl_meaning.specs.Answers.{Outcome, Given, Thrown, Aborted, Wrong, Deeper, Answer, Note, stop, and_then, then_on}
-use Rattle.cl_meaning.specs.Deployed.{Contract, Deployed, Function, contract_at, function_in, function_of, value_of, constant_of}
-use Rattle.cl_meaning.specs.Scope.{Frame, Bound, Scope, home, Callee, OwnFunction, ByName, Take, Enter, parts, taken_with, called, as_contract}
+use Rattle.cl_meaning.specs.Deployed.{Deployed, Function, contract_at, function_in, function_of, value_of, constant_of}
+use Rattle.cl_meaning.specs.Scope.{Frame, Bound, Callee, OwnFunction, ByName, Take, Enter, parts, taken_with, called, as_contract}
 use Rattle.cl_meaning.specs.Names.{standing, name_form, leaf_form, first_of}
 use Rattle.cl_meaning.specs.Control.{if_form, begin_form, last_of, let_in, let_form, and_on, or_on, and_form, or_form, throwing, asserts_form, wanted_part, err_part, tried, unwrap_form, unwrap_err_form, try_form, match_optional, match_response, match_form, as_contract_form}
 use Rattle.cl_meaning.specs.Values.{on_values, strict_form, tuple_form, get_form, as_max_len_form}
-use Rattle.cl_meaning.specs.Data.{here, var_get_form, map_get_form, with_map, only_if, found_at}
+use Rattle.cl_meaning.specs.Data.{here, var_get_form, map_get_form, only_if}
 use Rattle.cl_meaning.specs.Tokens.{ft_balance_form, ft_supply_form, stx_balance_form, nft_owner_form, print_form, balance_in, owner_value}
-use Rattle.cl_meaning.specs.Sequences.{own, by_row, callee_of, all_entries, rows_of, each, mapped, map_form, kept_if, sifted, filtered, filter_form, folded, fold_of, fold_form}
-use Rattle.cl_meaning.specs.Calls.{call_form, callable, target_of, other_contract, enter_there, contract_call_form, closing, bound_to, body_in, function_form, truths, truth_value, native_form, application}
+use Rattle.cl_meaning.specs.Sequences.{own, by_row, callee_of, all_entries, rows_of, each, mapped, map_form, kept_if, sifted, filtered, filter_form, folded, fold_form}
+use Rattle.cl_meaning.specs.Calls.{call_form, callable, target_of, other_contract, contract_call_form, closing, bound_to, body_in, function_form, truth_value, native_form, application}
 use Rattle.cl_meaning.specs.Meaning.{head_form, operator, node, means, applied}
 use Rattle.cl_meaning.proofs.Equations.{means_zero, means_step, applied_zero, applied_step}
 use Rattle.cl_readonly_sound.proofs.Logic.{Leaves, leaves_stop, leaves_at, leaves_charged, leaves_then, leaves_ending, leaves_returning, leaves_known, leaves_choice, as_before, one_told}
 use Rattle.cl_readonly_sound.specs.Untouched.{IsUntouched}
-use Rattle.cl_readonly_sound.proofs.Quiet.{scope, Way, Plain, AtBindings, AtPairs, way_of_head, way_of, IsQuietOne, IsQuietUse, IsQuietAcross, IsQuietHead, IsQuietCall, IsQuiet, IsQuietList, AreQuietBehind, IsQuietPair, AreQuietBindings, AreQuietPairs, AllQuiet, AllQuietPairs}
+use Rattle.cl_readonly_sound.proofs.Quiet.{scope, Plain, AtBindings, AtPairs, way_of_head, way_of, IsQuietOne, IsQuietUse, IsQuietAcross, IsQuietHead, IsQuietCall, IsQuiet, AreQuietBehind, IsQuietPair, AreQuietPairs, AllQuiet, AllQuietPairs}
 
 module _ (W : Deployed) (Q : Principal → Function → Type 0) where
   -- ---- rows of items

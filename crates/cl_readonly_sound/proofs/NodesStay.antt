@@ -6,12 +6,11 @@ use Rattle.cl_types.specs.declared.sized.Access.TheVariants.{Public, ReadOnly, P
 use Rattle.cl_c32.specs.declared.principal.Principal.{Principal}
 use Rattle.cl_shapes.specs.declared.cost.Cost5.{Cost5}
 use Rattle.cl_shapes.specs.Limits.{Purse}
-use Rattle.cl_values.specs.Tree.{Tree, IntV, UintV, BoolV, BuffV, AsciiV, Utf8V, PrincipalV, ListV, TupleV, NoneV, SomeV, ResponseV}
+use Rattle.cl_values.specs.Tree.{Tree, ResponseV}
 use Rattle.cl_events.specs.State.{State, at_rest}
 use Rattle.cl_meaning.specs.Answers.{Outcome, Given, Thrown, Aborted, Wrong, Deeper, Answer}
 use Rattle.cl_meaning.specs.Deployed.{Contract, Function, contract_at, function_in}
 use Rattle.cl_meaning.specs.Limits.{Costs, Paid, Within, Past, pay, Limited, Gave, Threw, AbortedBy, Passed, Lost, limit_on, limited}
-use Rattle.cl_meaning.specs.Top.{call_from}
 use Rattle.cl_tx.specs.declared.entry.Common.{Common}
 use Rattle.cl_tx.specs.declared.entry.Entry.TheVariants.{Call}
 use Rattle.cl_tx.specs.declared.outcome.Outcome.{Outcome as TxOutcome}

@@ -1,31 +1,31 @@
 -- A typed expression is quiet where no call in it writes: each kind of expression, and the induction.
-use Rattle.std.proofs.Common.{◌≡◌, ◌⊎◌, inl, inr, ℕ, Bool, true, false, List, [], ◌∷◌, ◌++◌, length, map, take, drop, Option, Some, None, refl, sym, ap, subst, ◌∙◌, arith, eqb-true}
-use Rattle.std.specs.Prelude.{filter_map, codes, is_some, not, nat_eq, ◌||◌}
+use Rattle.std.proofs.Common.{◌≡◌, ◌⊎◌, inl, inr, ℕ, Bool, true, false, List, [], ◌∷◌, length, map, Option, Some, None, refl, sym, ap, subst, ◌∙◌, arith, eqb-true}
+use Rattle.std.specs.Prelude.{codes, is_some, not, nat_eq, ◌||◌}
 use Rattle.std.specs.List.{list_any}
-use Rattle.cl_types.specs.Types.{PlainType, OptionalType, ResponseType, NoType}
+use Rattle.cl_types.specs.Types.{PlainType, OptionalType, ResponseType}
 use Rattle.cl_c32.specs.declared.principal.Principal.{Principal}
-use Rattle.cl_sexpr.specs.Tree.{Tree, LeafAt, ListAt, TupleAt, Leaf, Named, Forest, Empty, Then, Pairs, NoPair, Pair}
+use Rattle.cl_sexpr.specs.Tree.{Tree, LeafAt, ListAt, TupleAt, Named, Forest, Empty, Then, Pairs, NoPair, Pair}
 use Rattle.cl_forms.specs.declared.head.TokenNative.TheVariants.{MintFt, BurnFt, SendFt, MintNft, BurnNft, SendNft, SendStx, BurnStx}
 use Rattle.cl_forms.specs.declared.head.Head.{Head}
-use Rattle.cl_forms.specs.declared.head.Head.TheVariants.{OnValues, OnToken, TupleOf, AsMaxLen, Get, VarGet, VarSet, MapGet, MapSet, MapInsert, MapDelete, FtBalance, FtSupply, StxBalance, NftOwner, Print, If, Let, Begin, And, Or, Asserts, Unwrap, UnwrapErr, Try, Match, AsContract, Map, Filter, Fold, ContractCall}
+use Rattle.cl_forms.specs.declared.head.Head.TheVariants.{OnToken, TupleOf, AsMaxLen, Get, VarGet, VarSet, MapGet, MapSet, MapInsert, MapDelete, FtBalance, FtSupply, NftOwner, Let, Match, Map, Filter, Fold, ContractCall}
 use Rattle.cl_forms.specs.Heads.{Row, row_of, native}
 use Rattle.cl_forms.specs.HeadNames.{name_of, head_of_row}
 use Rattle.cl_forms.specs.Names.{same}
-use Rattle.cl_forms.specs.Shapes.{trees_of, binding_of, bindings_of, pairs_of}
+use Rattle.cl_forms.specs.Shapes.{trees_of, bindings_of, pairs_of}
 use Rattle.cl_forms.specs.Writes.{Call, calls_in, calls_behind, calls_of_pairs}
 use Rattle.cl_forms.proofs.Found.{is_row, named_alone}
-use Rattle.cl_meaning.specs.Deployed.{Deployed, Function, contract_at, function_of}
+use Rattle.cl_meaning.specs.Deployed.{Deployed, Function}
 use Rattle.cl_rules.specs.Faults.{shape_rules, type_rules}
-use Rattle.cl_rules.specs.Context.{Context, Names, Signature, Bound, bind, charge, signature_in, named_in, same as same_name}
+use Rattle.cl_rules.specs.Context.{Context, Names, Signature, Bound, signature_in, named_in, same as same_name}
 use Rattle.cl_rules.specs.Verdicts.{Found}
-use Rattle.cl_rules.specs.Shapes.{Plan, Ends, Part, Gives, parts}
+use Rattle.cl_rules.specs.Shapes.{Plan}
 use Rattle.cl_rules.specs.ControlShapes.{let_with, let_shape, optional_plan, response_plan, match_plan, match_verdict, match_shape}
 use Rattle.cl_rules.specs.DataShapes.{if_fungible}
 use Rattle.cl_rules.specs.CallShapes.{call_shape}
 use Rattle.cl_rules.specs.Table.{head_shape, operator_shape, shape}
 use Rattle.cl_rules.specs.Typing.{Typed, typed, Follows, ends, part, gives, broken_shape, broken_types}
 use Rattle.cl_expression_sound.proofs.Rules.{fine_shape, not_false}
-use Rattle.cl_readonly_sound.proofs.Quiet.{Way, Plain, AtBindings, AtPairs, way_of_head, way_of, IsQuietHead, IsQuietCall, IsQuiet, AreQuietBehind, AreQuietPairs, AllQuiet}
+use Rattle.cl_readonly_sound.proofs.Quiet.{Plain, AtBindings, way_of_head, way_of, IsQuietHead, IsQuietCall, IsQuiet, AreQuietBehind, AreQuietPairs, AllQuiet}
 use Rattle.cl_readonly_sound.proofs.Calling.{is_tuple, tuple_alone, tuple_is_native, AllCalls, all_front, all_back, EachCalls, behind_each, list_each, CallsAreQuiet, PlanQuiet, parts_quiet, plain_quiet, pairs_quiet, named_quiet, used_quiet, max_len_quiet, across_quiet, tuple_quiet, let_quiet}
 
 four_or_five : (P : List Tree → Type 0) → ((a b c d : Tree) → P (a ∷ b ∷ c ∷ d ∷ [])) → ((a b c d e : Tree) → P (a ∷ b ∷ c ∷ d ∷ e ∷ [])) → (es : List Tree) → (length es ≡ 4) ⊎ (length es ≡ 5) → P es

@@ -6,7 +6,6 @@ use Rattle.cl_values.specs.Tree.{Tree}
 use Rattle.cl_values.specs.Valid.{IsPrincipal}
 use Rattle.cl_forms.specs.Writes.{Writes}
 use Rattle.cl_events.specs.State.{State}
-use Rattle.cl_meaning.specs.Answers.{Answer}
 use Rattle.cl_meaning.specs.Deployed.{Contract, Deployed, Function, contract_at, function_in}
 use Rattle.cl_meaning.specs.Scope.{Frame}
 use Rattle.cl_meaning.specs.Limits.{Costs}
