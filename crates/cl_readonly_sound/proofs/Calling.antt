@@ -62,12 +62,12 @@ tuple_is_native x h = by (same x (codes "tuple")) refl
     by true e = none_found (ap native (sym (keys_equal x (codes "tuple") e)) ∙ h)
     by false e = refl
 
-module _ (NW : Call → Type 0) where
+module _ (Apart : Call → Type 0) where
   -- ---- calls, none of which writes
 
   abbrev pub AllCalls : List Call → Type 0
   AllCalls [] = Unit {0}
-  AllCalls (c ∷ cs) = NW c × AllCalls cs
+  AllCalls (c ∷ cs) = Apart c × AllCalls cs
 
   pub all_front : (xs ys : List Call) → AllCalls (xs ++ ys) → AllCalls xs
   all_front [] ys h = tt
@@ -97,13 +97,13 @@ module _ (NW : Call → Type 0) where
   binding_each x e true is h = absurd cc
 
 -- What is known of the calls in the code of a contract, in a context of it: where a call doesn't write, what it calls is quiet.
-pub record CallsAreQuiet (W : Deployed) (Q : Principal → Function → Type 0) (p : Principal) (G : Context) (NW : Call → Type 0) : Type 0 where
-  pub natives : (x : List ℕ) (es : Forest) → NW (record { operator = x; parts = es }) → is_one_of writing_natives x ≡ true → ⊥
-  pub functions : (x : List ℕ) (es : Forest) → NW (record { operator = x; parts = es }) → IsQuietOne W Q p (function_of x (contract_at p W))
-  pub uses : (x : List ℕ) (es : Forest) → NW (record { operator = x; parts = es }) → is_one_of applying_natives x ≡ true → IsQuietUse W Q p es
-  pub across : (B : Names) (es : Forest) → shape_rules (contract_call_shape (row_of ContractCall) G B (trees_of es)).faults ≡ [] → NW (record { operator = codes "contract-call?"; parts = es }) → IsQuietAcross W Q p es
+pub record CallsAreQuiet (W : Deployed) (Q : Principal → Function → Type 0) (p : Principal) (G : Context) (Apart : Call → Type 0) : Type 0 where
+  pub natives : (x : List ℕ) (es : Forest) → Apart (record { operator = x; parts = es }) → is_one_of writing_natives x ≡ true → ⊥
+  pub functions : (x : List ℕ) (es : Forest) → Apart (record { operator = x; parts = es }) → IsQuietOne W Q p (function_of x (contract_at p W))
+  pub uses : (x : List ℕ) (es : Forest) → Apart (record { operator = x; parts = es }) → is_one_of applying_natives x ≡ true → IsQuietUse W Q p es
+  pub across : (B : Names) (es : Forest) → shape_rules (contract_call_shape (row_of ContractCall) G B (trees_of es)).faults ≡ [] → Apart (record { operator = codes "contract-call?"; parts = es }) → IsQuietAcross W Q p es
 
-module _ (W : Deployed) (Q : Principal → Function → Type 0) (p : Principal) (G : Context) (NW : Call → Type 0) where
+module _ (W : Deployed) (Q : Principal → Function → Type 0) (p : Principal) (G : Context) (Apart : Call → Type 0) where
   -- ---- parts of plans
 
   -- the parts of a plan, of which this was found, are quiet where no call in them writes
@@ -111,11 +111,11 @@ module _ (W : Deployed) (Q : Principal → Function → Type 0) (p : Principal) 
   PlanQuiet Ends [] = Unit {0}
   PlanQuiet Ends (f ∷ fs) = ⊥
   PlanQuiet (Part B e plan) [] = ⊥
-  PlanQuiet (Part B e plan) (f ∷ fs) = (AllCalls NW (calls_in e) → IsQuiet W Q p e) × PlanQuiet plan fs
+  PlanQuiet (Part B e plan) (f ∷ fs) = (AllCalls Apart (calls_in e) → IsQuiet W Q p e) × PlanQuiet plan fs
   PlanQuiet (Gives B e k) [] = ⊥
-  PlanQuiet (Gives B e k) (f ∷ fs) = (AllCalls NW (calls_in e) → IsQuiet W Q p e) × PlanQuiet (k f) fs
+  PlanQuiet (Gives B e k) (f ∷ fs) = (AllCalls Apart (calls_in e) → IsQuiet W Q p e) × PlanQuiet (k f) fs
 
-  pub parts_quiet : (B : Names) (es : List Tree) (fs : List Found) → PlanQuiet (parts B es) fs → EachCalls NW es → AllQuiet W Q p es
+  pub parts_quiet : (B : Names) (es : List Tree) (fs : List Found) → PlanQuiet (parts B es) fs → EachCalls Apart es → AllQuiet W Q p es
   parts_quiet B [] fs q h = tt
   parts_quiet B (e ∷ es) [] q h = absurd q
   parts_quiet B (e ∷ es) (f ∷ fs) q h = (q.0 h.0, parts_quiet B es fs q.1 h.1)
@@ -129,19 +129,19 @@ module _ (W : Deployed) (Q : Principal → Function → Type 0) (p : Principal) 
   pairs_quiet (Then e es) q = (q.0, pairs_quiet es q.1)
 
   -- the first item is a token
-  pub named_quiet : {A : Type 0} (find : List ℕ → Option A) (es : List Tree) → is_no_name (first_named find es) ≡ false → (B : Names) (fs : List Found) → PlanQuiet (parts B (drop 1 es)) fs → EachCalls NW es → AllQuiet W Q p es
+  pub named_quiet : {A : Type 0} (find : List ℕ → Option A) (es : List Tree) → is_no_name (first_named find es) ≡ false → (B : Names) (fs : List Found) → PlanQuiet (parts B (drop 1 es)) fs → EachCalls Apart es → AllQuiet W Q p es
   named_quiet find [] named B fs q h = tt
   named_quiet find (LeafAt leaf at ∷ es) named B fs q h = (tt, parts_quiet B es fs q h.1)
   named_quiet find (ListAt items at ∷ es) named B fs q h = absurd cc
   named_quiet find (TupleAt ps at ∷ es) named B fs q h = absurd cc
 
-  pub used_quiet : (es : List Tree) → is_no_such (used G es) ≡ false → (B : Names) (fs : List Found) → PlanQuiet (parts B (drop 1 es)) fs → EachCalls NW es → AllQuiet W Q p es
+  pub used_quiet : (es : List Tree) → is_no_such (used G es) ≡ false → (B : Names) (fs : List Found) → PlanQuiet (parts B (drop 1 es)) fs → EachCalls Apart es → AllQuiet W Q p es
   used_quiet [] there B fs q h = tt
   used_quiet (LeafAt leaf at ∷ es) there B fs q h = (tt, parts_quiet B es fs q h.1)
   used_quiet (ListAt items at ∷ es) there B fs q h = absurd cc
   used_quiet (TupleAt ps at ∷ es) there B fs q h = absurd cc
 
-  pub max_len_quiet : (es : List Tree) → not (nat_eq (length es) 2) ≡ false → is_no_such (literal_at es) ≡ false → (B : Names) (fs : List Found) → PlanQuiet (parts B (take 1 es)) fs → EachCalls NW es → AllQuiet W Q p es
+  pub max_len_quiet : (es : List Tree) → not (nat_eq (length es) 2) ≡ false → is_no_such (literal_at es) ≡ false → (B : Names) (fs : List Found) → PlanQuiet (parts B (take 1 es)) fs → EachCalls Apart es → AllQuiet W Q p es
   max_len_quiet [] count literal B fs q h = tt
   max_len_quiet (e ∷ []) count literal B fs q h = parts_quiet B (e ∷ []) fs q h
   max_len_quiet (e ∷ LeafAt leaf at ∷ []) count literal B fs q h = let first = parts_quiet B (e ∷ []) fs q (h.0, tt) in (first.0, (tt, tt))
@@ -165,25 +165,25 @@ module _ (W : Deployed) (Q : Principal → Function → Type 0) (p : Principal) 
   target_quiet (ListAt items at) es named = absurd cc
   target_quiet (TupleAt ps at) es named = absurd cc
 
-  pub across_quiet : (es : List Tree) → is_no_name (target_of G es) ≡ false → is_no_name (function_behind (target_of G es) es) ≡ false → (B : Names) (fs : List Found) → PlanQuiet (parts B (drop 2 es)) fs → EachCalls NW es → AllQuiet W Q p es
+  pub across_quiet : (es : List Tree) → is_no_name (target_of G es) ≡ false → is_no_name (function_behind (target_of G es) es) ≡ false → (B : Names) (fs : List Found) → PlanQuiet (parts B (drop 2 es)) fs → EachCalls Apart es → AllQuiet W Q p es
   across_quiet [] target named B fs q h = tt
   across_quiet (e ∷ []) target named B fs q h = (target_quiet e [] target, tt)
   across_quiet (e ∷ d ∷ es) target named B fs q h = (target_quiet e (d ∷ es) target, (second_quiet (target_of G (e ∷ d ∷ es)) e d es named, parts_quiet B es fs q h.1.1))
 
   -- ---- pairs and bindings
 
-  pub tuple_quiet : (es : Forest) (B : Names) (fs : List Found) → is_some (bindings_of (trees_of es)) ≡ true → PlanQuiet (parts B (map (λ (b : List ℕ × Tree). b.1) (filter_map binding_of (trees_of es)))) fs → AllCalls NW (calls_behind true es) → AreQuietBehind W Q p AtPairs es
+  pub tuple_quiet : (es : Forest) (B : Names) (fs : List Found) → is_some (bindings_of (trees_of es)) ≡ true → PlanQuiet (parts B (map (λ (b : List ℕ × Tree). b.1) (filter_map binding_of (trees_of es)))) fs → AllCalls Apart (calls_behind true es) → AreQuietBehind W Q p AtPairs es
   tuple_quiet Empty B fs are q h = tt
-  tuple_quiet (Then (ListAt (Then (LeafAt (Named k) at) (Then e Empty)) at') es) B fs are q h = by (bindings_of (trees_of es)) are fs q (λ fs are q. tuple_quiet es B fs are q (all_back NW (calls_in e) (calls_behind true es) h))
+  tuple_quiet (Then (ListAt (Then (LeafAt (Named k) at) (Then e Empty)) at') es) B fs are q h = by (bindings_of (trees_of es)) are fs q (λ fs are q. tuple_quiet es B fs are q (all_back Apart (calls_in e) (calls_behind true es) h))
     where
       by : (o : Option (List (List ℕ × Tree))) → is_some (and_binding (Some (k, e)) o) ≡ true → (fs : List Found) → PlanQuiet (Part B e (parts B (map (λ (b : List ℕ × Tree). b.1) (filter_map binding_of (trees_of es))))) fs →
           ((fs : List Found) → is_some o ≡ true → PlanQuiet (parts B (map (λ (b : List ℕ × Tree). b.1) (filter_map binding_of (trees_of es)))) fs → AreQuietBehind W Q p AtPairs es) → IsQuiet W Q p e × AreQuietBehind W Q p AtPairs es
-      by (Some ps) are (f ∷ fs) q rest = (q.0 (all_front NW (calls_in e) (calls_behind true es) h), rest fs refl q.1)
+      by (Some ps) are (f ∷ fs) q rest = (q.0 (all_front Apart (calls_in e) (calls_behind true es) h), rest fs refl q.1)
       by (Some ps) are [] q rest = absurd q
       by None are fs q rest = absurd cc
   tuple_quiet (Then e es) B fs are q h = absurd cc
 
-  pub let_quiet : (body bs : List Tree) (B C : Names) (fs : List Found) → is_some (bindings_of bs) ≡ true → is_shadowed G C (filter_map bound_name bs) ≡ false → PlanQuiet (let_plan body B (filter_map binding_of bs)) fs → EachCalls NW bs → EachCalls NW body → AllQuietPairs W Q p bs × AllQuiet W Q p body
+  pub let_quiet : (body bs : List Tree) (B C : Names) (fs : List Found) → is_some (bindings_of bs) ≡ true → is_shadowed G C (filter_map bound_name bs) ≡ false → PlanQuiet (let_plan body B (filter_map binding_of bs)) fs → EachCalls Apart bs → EachCalls Apart body → AllQuietPairs W Q p bs × AllQuiet W Q p body
   let_quiet body [] B C fs are free q h k = (tt, parts_quiet B body fs q k)
   let_quiet body (ListAt (Then (LeafAt (Named x) at) (Then e Empty)) at' ∷ bs) B C fs are free q h k =
       by (bindings_of bs) are fs q (λ f fs are q. let_quiet body bs (bind x f.type B) (bind x NoType C) fs are (or_right (is_taken G C x) (is_shadowed G (bind x NoType C) (filter_map bound_name bs)) free) q h.1 k)
@@ -195,7 +195,7 @@ module _ (W : Deployed) (Q : Principal → Function → Type 0) (p : Principal) 
           ((f : Found) (fs : List Found) → is_some o ≡ true → PlanQuiet (let_plan body (bind x f.type B) (filter_map binding_of bs)) fs → AllQuietPairs W Q p bs × AllQuiet W Q p body) → (IsQuiet W Q p e × AllQuietPairs W Q p bs) × AllQuiet W Q p body
       by (Some ps) are (f ∷ fs) q rest =
           let later = rest f fs refl q.1 in
-          ((q.0 (binding_each NW x e (same x (codes "tuple")) (not_tuple x reserved) h.0.1), later.0), later.1)
+          ((q.0 (binding_each Apart x e (same x (codes "tuple")) (not_tuple x reserved) h.0.1), later.0), later.1)
       by (Some ps) are [] q rest = absurd q
       by None are fs q rest = absurd cc
   let_quiet body (b ∷ bs) B C fs are free q h k = absurd cc

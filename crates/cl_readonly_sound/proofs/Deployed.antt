@@ -53,9 +53,9 @@ call_apart forms public e h call there = record {
   across = λ leaf g at at' es is named w. h (by_contract {x = call.operator} {f = g} {contract = leaf} {parts = es} at at' (subst (λ parts. Contains (calls_in e) (record { operator = call.operator; parts = parts })) is there) named w);
 }
 
-all_apart : (NW : Call → Type 0) (calls : List Call) → ((call : Call) → Contains calls call → NW call) → AllCalls NW calls
-all_apart NW [] h = tt
-all_apart NW (c ∷ cs) h = (h c (Contains-append_left (c ∷ []) cs c (Contains-push [] c)), all_apart NW cs (λ call there. h call (Contains-append_right (c ∷ []) cs call there)))
+all_apart : (Apart : Call → Type 0) (calls : List Call) → ((call : Call) → Contains calls call → Apart call) → AllCalls Apart calls
+all_apart Apart [] h = tt
+all_apart Apart (c ∷ cs) h = (h c (Contains-append_left (c ∷ []) cs c (Contains-push [] c)), all_apart Apart cs (λ call there. h call (Contains-append_right (c ∷ []) cs call there)))
 
 -- ---- contracts that are deployed
 

@@ -32,7 +32,7 @@ use Rattle.cl_meaning.specs.Sequences.{own, by_row, callee_of, all_entries, rows
 use Rattle.cl_meaning.specs.Calls.{call_form, callable, target_of, other_contract, contract_call_form, closing, bound_to, body_in, function_form, truth_value, native_form, application}
 use Rattle.cl_meaning.specs.Meaning.{head_form, operator, node, means, applied}
 use Rattle.cl_meaning.proofs.Equations.{means_zero, means_step, applied_zero, applied_step}
-use Rattle.cl_readonly_sound.proofs.Logic.{Leaves, leaves_stop, leaves_at, leaves_charged, leaves_then, leaves_ending, leaves_returning, leaves_known, leaves_choice, as_before, one_told}
+use Rattle.cl_readonly_sound.proofs.Logic.{Leaves, leaves_stop, leaves_at, leaves_charged, leaves_then, leaves_ending, leaves_returning, leaves_known, leaves_choice, as_before, one_printed}
 use Rattle.cl_readonly_sound.specs.Untouched.{IsUntouched}
 use Rattle.cl_readonly_sound.proofs.Quiet.{scope, Plain, AtBindings, AtPairs, way_of_head, way_of, IsQuietOne, IsQuietUse, IsQuietAcross, IsQuietHead, IsQuietCall, IsQuiet, AreQuietBehind, IsQuietPair, AreQuietPairs, AllQuiet, AllQuietPairs}
 
@@ -258,7 +258,7 @@ module _ (W : Deployed) (Q : Principal → Function → Type 0) where
 
     leaves_print : (F : Frame) (E : Bound) (es : List Tree) → AllQuiet W Q F.contract es → (s : State) → Leaves s (print_form take (scope W F E) es s)
     unfolding print_form
-    leaves_print F E (e ∷ []) q s = leaves_then (t F E e q.0 s) (λ v u. leaves_charged _ _ (leaves_at (Given v) u _ (one_told _ _ u)))
+    leaves_print F E (e ∷ []) q s = leaves_then (t F E e q.0 s) (λ v u. leaves_charged _ _ (leaves_at (Given v) u _ (one_printed _ v u)))
     leaves_print F E es q s = leaves_stop _ s
 
   leaves_var_get : (F : Frame) (E : Bound) (es : List Tree) (s : State) → Leaves s (var_get_form (scope W F E) es s)

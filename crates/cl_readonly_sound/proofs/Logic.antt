@@ -4,18 +4,23 @@ use Rattle.cl_shapes.specs.declared.name.CostName.{CostName}
 use Rattle.cl_sexpr.specs.declared.sexpr.Span.{Span}
 use Rattle.cl_values.specs.Tree.{Tree as Val, BoolV}
 use Rattle.cl_events.specs.State.{State, with_event}
-use Rattle.cl_events.specs.declared.event.EventKind.{EventKind}
+use Rattle.cl_events.specs.declared.event.Event.{Event}
+use Rattle.cl_events.specs.declared.event.EventKind.TheVariants.{Print}
 use Rattle.cl_c32.specs.declared.principal.Principal.{Principal}
 use Rattle.cl_meaning.specs.Answers.{Outcome, Given, Thrown, Aborted, Wrong, Deeper, Answer, Note, stop, charged, then_on, and_then, ending, returning, with_known}
 use Rattle.cl_meaning.specs.Control.{choice}
-use Rattle.cl_readonly_sound.specs.Untouched.{IsUntouched}
+use Rattle.cl_readonly_sound.specs.Untouched.{ArePrints, IsUntouched}
 
 -- an answer from a state leaves it untouched
 pub record Leaves {A : Type 0} (s : State) (a : Answer A) : Type 0 where
   pub untouched : IsUntouched s a.state
 
 pub as_before : (s : State) → IsUntouched s s
-as_before s = record { variables = refl; entries = refl; fungibles = refl; nonfungibles = refl; stx = refl; moves = refl; told = []; events = sym (append-nil s.events) }
+as_before s = record { variables = refl; entries = refl; fungibles = refl; nonfungibles = refl; stx = refl; moves = refl; printed = []; prints = tt; events = sym (append-nil s.events) }
+
+both_prints : (xs ys : List Event) → ArePrints xs → ArePrints ys → ArePrints (xs ++ ys)
+both_prints [] ys h k = k
+both_prints (x ∷ xs) ys h k = (h.0, both_prints xs ys h.1 k)
 
 pub then_after : (s t u : State) → IsUntouched s t → IsUntouched t u → IsUntouched s u
 then_after s t u h k = record {
@@ -25,12 +30,13 @@ then_after s t u h k = record {
   nonfungibles = k.nonfungibles ∙ h.nonfungibles;
   stx = k.stx ∙ h.stx;
   moves = k.moves ∙ h.moves;
-  told = h.told ++ k.told;
-  events = k.events ∙ ap (λ es. es ++ k.told) h.events ∙ append_assoc s.events h.told k.told;
+  printed = h.printed ++ k.printed;
+  prints = both_prints h.printed k.printed h.prints k.prints;
+  events = k.events ∙ ap (λ es. es ++ k.printed) h.events ∙ append_assoc s.events h.printed k.printed;
 }
 
-pub one_told : (p : Principal) (kind : EventKind) (s : State) → IsUntouched s (with_event p kind s)
-one_told p kind s = record { variables = refl; entries = refl; fungibles = refl; nonfungibles = refl; stx = refl; moves = refl; told = record { contract = p; kind = kind } ∷ []; events = refl }
+pub one_printed : (p : Principal) (v : Val) (s : State) → IsUntouched s (with_event p (Print v) s)
+one_printed p v s = record { variables = refl; entries = refl; fungibles = refl; nonfungibles = refl; stx = refl; moves = refl; printed = record { contract = p; kind = Print v } ∷ []; prints = (tt, tt); events = refl }
 
 pub leaves_stop : {A : Type 0} (o : Outcome A) (s : State) → Leaves s (stop o s)
 unfolding stop

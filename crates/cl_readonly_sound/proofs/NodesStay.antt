@@ -1,5 +1,5 @@
 -- A call of a function that doesn't write leaves a node as it was.
-use Rattle.std.proofs.Common.{◌≡◌, ℕ, Bool, true, false, List, [], length, Option, Some, None, refl, sym, ap, subst}
+use Rattle.std.proofs.Common.{◌≡◌, ℕ, Bool, true, false, List, [], ◌++◌, length, Option, Some, None, refl, sym, ap, subst, ◌∙◌}
 use Rattle.std.specs.Prelude.{nat_eq}
 use Rattle.cl_types.specs.declared.sized.Access.{Access}
 use Rattle.cl_types.specs.declared.sized.Access.TheVariants.{Public, ReadOnly, Private}
@@ -15,10 +15,10 @@ use Rattle.cl_tx.specs.declared.entry.Common.{Common}
 use Rattle.cl_tx.specs.declared.entry.Entry.TheVariants.{Call}
 use Rattle.cl_tx.specs.declared.outcome.Outcome.{Outcome as TxOutcome}
 use Rattle.cl_tx.specs.declared.outcome.Outcome.TheVariants.{Good, Plain}
-use Rattle.cl_tx.specs.Nodes.{NodeSeen, Stepped, Told, nothing_told, frame_of, no_limit, moves_on, answered, call_ended}
+use Rattle.cl_tx.specs.Nodes.{NodeSeen, Stepped, Told, nothing_told, stays, frame_of, no_limit, moves_on, answered, call_ended}
 use Rattle.cl_tx.specs.Step.{Steps, first_misfit, run_call, if_fitting, if_as_many, if_open, if_function, if_deployed, call_step}
 use Rattle.cl_node_sound.specs.Sound.{IsSoundNode, HasParts}
-use Rattle.cl_readonly_sound.specs.Untouched.{IsUntouched}
+use Rattle.cl_readonly_sound.specs.Untouched.{ArePrints, IsUntouched}
 use Rattle.cl_readonly_sound.specs.Laws.{DoesNotWrite}
 use Rattle.cl_readonly_sound.proofs.CallsLeave.{call_untouched, read_only_does_not_write}
 
@@ -48,27 +48,38 @@ leaves_under costs purse s a h = by (pay costs (Within purse) a.log) a.outcome
     by (Within p) Deeper = tt
 
 module _ (costs : Costs) (node : NodeSeen) (N : IsSoundNode costs node) (common : Common) (p : Principal) (function : List ℕ) (args : List Tree) (d : DoesNotWrite costs node.contracts p function) where
+  -- the node is as it was, and prints are handed out
+  record IsAsBefore (s : Stepped) : Type 0 where
+    same : s.node ≡ node
+    prints : ArePrints s.result.events
+
   abbrev Stays : Option Stepped → Type 0
-  Stays o = (s : Stepped) → o ≡ Some s → s.node ≡ node
+  Stays o = (s : Stepped) → o ≡ Some s → IsAsBefore s
 
-  stays_itself : (t : Stepped) → t.node ≡ node → Stays (Some t)
-  stays_itself t h s e = subst (λ (s : Stepped). s.node ≡ node) (same_step t s e) h
+  stays_so : (t : Stepped) → IsAsBefore t → Stays (Some t)
+  stays_so t h s e = subst IsAsBefore (same_step t s e) h
 
-  moved : (told : Told) (outcome : TxOutcome) (cost : Cost5) (t : State) → IsUntouched node.state t → (moves_on node told outcome cost t).node ≡ node
-  moved told outcome cost t h = ap (λ (s : State). record node { state = s }) (rests node.state t N.no_events N.no_moves h)
+  stays_itself : (told : Told) (outcome : TxOutcome) (cost : Option Cost5) → Stays (Some (stays node told outcome cost))
+  stays_itself told outcome cost = stays_so (stays node told outcome cost) (record { same = refl; prints = tt })
+
+  moved : (told : Told) (outcome : TxOutcome) (cost : Cost5) (t : State) → IsUntouched node.state t → Stays (Some (moves_on node told outcome cost t))
+  moved told outcome cost t h = stays_so (moves_on node told outcome cost t) (record {
+    same = ap (λ (s : State). record node { state = s }) (rests node.state t N.no_events N.no_moves h);
+    prints = subst ArePrints (sym (h.events ∙ ap (λ es. es ++ h.printed) N.no_events)) h.prints;
+  })
 
   answer_stays : (access : Access) (v : Tree) (cost : Cost5) (t : State) → IsUntouched node.state t → Stays (answered access v node cost t)
-  answer_stays ReadOnly v cost t h = stays_itself (moves_on node nothing_told (Plain v) cost t) (moved nothing_told (Plain v) cost t h)
-  answer_stays Private v cost t h = stays_itself (moves_on node nothing_told (Plain v) cost t) (moved nothing_told (Plain v) cost t h)
-  answer_stays Public (ResponseV true v) cost t h = stays_itself (moves_on node nothing_told (Good v) cost t) (moved nothing_told (Good v) cost t h)
-  answer_stays Public (ResponseV false v) cost t h = stays_itself _ refl
+  answer_stays ReadOnly v cost t h = moved nothing_told (Plain v) cost t h
+  answer_stays Private v cost t h = moved nothing_told (Plain v) cost t h
+  answer_stays Public (ResponseV true v) cost t h = moved nothing_told (Good v) cost t h
+  answer_stays Public (ResponseV false v) cost t h = stays_itself _ _ _
   answer_stays Public v cost t h = λ s e. absurd cc
 
   ended_stays : (access : Access) (l : Limited Tree) → LeavesUnder node.state l → Stays (call_ended access node l)
   ended_stays access (Gave v t purse) h = answer_stays access v purse.spent t h
   ended_stays access (Threw v t purse) h = λ s e. absurd cc
-  ended_stays access (AbortedBy why purse) h = stays_itself _ refl
-  ended_stays access (Passed over purse) h = stays_itself _ refl
+  ended_stays access (AbortedBy why purse) h = stays_itself _ _ _
+  ended_stays access (Passed over purse) h = stays_itself _ _ _
   ended_stays access (Lost purse) h = λ s e. absurd cc
 
   run_stays : (c : Contract) (f : Function) → contract_at p node.contracts ≡ Some c → function_in function c.forms ≡ Some f → Stays (run_call costs node common p f args)
@@ -77,32 +88,35 @@ module _ (costs : Costs) (node : NodeSeen) (N : IsSoundNode costs node) (common 
 
   fitting_stays : (c : Contract) (f : Function) → contract_at p node.contracts ≡ Some c → function_in function c.forms ≡ Some f → (o : Option ℕ) → Stays (if_fitting costs node common p f args o)
   fitting_stays c f at is None = run_stays c f at is
-  fitting_stays c f at is (Some index) = stays_itself _ refl
+  fitting_stays c f at is (Some index) = stays_itself _ _ _
 
   count_stays : (c : Contract) (f : Function) → contract_at p node.contracts ≡ Some c → function_in function c.forms ≡ Some f → (b : Bool) → Stays (if_as_many costs node common p f args b)
   count_stays c f at is true = fitting_stays c f at is (first_misfit 0 f.params args)
-  count_stays c f at is false = stays_itself _ refl
+  count_stays c f at is false = stays_itself _ _ _
 
   open_stays : (c : Contract) (f : Function) → contract_at p node.contracts ≡ Some c → function_in function c.forms ≡ Some f → (access : Access) → Stays (if_open costs node common p f args access)
-  open_stays c f at is Private = stays_itself _ refl
+  open_stays c f at is Private = stays_itself _ _ _
   open_stays c f at is Public = count_stays c f at is (nat_eq (length args) (length f.params))
   open_stays c f at is ReadOnly = count_stays c f at is (nat_eq (length args) (length f.params))
 
   function_stays : (c : Contract) → contract_at p node.contracts ≡ Some c → (o : Option Function) → function_in function c.forms ≡ o → Stays (if_function costs node common p args o)
-  function_stays c at None is = stays_itself _ refl
+  function_stays c at None is = stays_itself _ _ _
   function_stays c at (Some f) is = open_stays c f at is f.access
 
   contract_stays : (o : Option Contract) → contract_at p node.contracts ≡ o → Stays (if_deployed costs node common p function args o)
-  contract_stays None at = stays_itself _ refl
+  contract_stays None at = stays_itself _ _ _
   contract_stays (Some c) at = function_stays c at (function_in function c.forms) refl
 
-  pub call_stays : Stays (call_step costs node common p function args)
+  call_stays : Stays (call_step costs node common p function args)
   unfolding call_step
   call_stays = contract_stays (contract_at p node.contracts) refl
 
-pub calls_keep_nodes : (costs : Costs) (node : NodeSeen) (common : Common) (contract : Principal) (function : List ℕ) (args : List Tree) (s : Stepped) → HasParts (Call common contract function args) → IsSoundNode costs node → DoesNotWrite costs node.contracts contract function → Steps costs node (Call common contract function args) s → s.node ≡ node
-calls_keep_nodes costs node common contract function args s parts N d step = call_stays costs node N common contract function args d s step
+module _ (costs : Costs) (node : NodeSeen) (common : Common) (contract : Principal) (function : List ℕ) (args : List Tree) (s : Stepped) (parts : HasParts (Call common contract function args)) (N : IsSoundNode costs node) where
+  pub calls_keep_nodes : DoesNotWrite costs node.contracts contract function → Steps costs node (Call common contract function args) s → s.node ≡ node
+  calls_keep_nodes d step = (call_stays costs node N common contract function args d s step).same
 
-pub read_only_keep_nodes : (costs : Costs) (node : NodeSeen) (common : Common) (contract : Principal) (function : List ℕ) (args : List Tree) (s : Stepped) → HasParts (Call common contract function args) → IsSoundNode costs node → (c : Contract) → contract_at contract node.contracts ≡ Some c → (f : Function) → function_in function c.forms ≡ Some f → f.access ≡ ReadOnly → Steps costs node (Call common contract function args) s → s.node ≡ node
-read_only_keep_nodes costs node common contract function args s parts N c at f is access step =
-    calls_keep_nodes costs node common contract function args s parts N (read_only_does_not_write costs node.contracts node.known N.contracts contract parts.1 c at function f is access) step
+  pub calls_hand_out_prints : DoesNotWrite costs node.contracts contract function → Steps costs node (Call common contract function args) s → ArePrints s.result.events
+  calls_hand_out_prints d step = (call_stays costs node N common contract function args d s step).prints
+
+  pub read_only_keep_nodes : (c : Contract) → contract_at contract node.contracts ≡ Some c → (f : Function) → function_in function c.forms ≡ Some f → f.access ≡ ReadOnly → Steps costs node (Call common contract function args) s → s.node ≡ node
+  read_only_keep_nodes c at f is access step = calls_keep_nodes (read_only_does_not_write costs node.contracts node.known N.contracts contract parts.1 c at function f is access) step

@@ -50,11 +50,11 @@ either_count n h = by (nat_eq n 4) (nat_eq n 5) refl refl (not_false (nat_eq n 4
     by false true e g h = inr (eqb-true n 5 g)
     by false false e g h = absurd cc
 
-module _ (W : Deployed) (Q : Principal → Function → Type 0) (p : Principal) (G : Context) (NW : Call → Type 0) where
+module _ (W : Deployed) (Q : Principal → Function → Type 0) (p : Principal) (G : Context) (Apart : Call → Type 0) where
   -- ---- match
 
   -- the branches of an optional: where the input is none, the verdict breaks a rule
-  optional_quiet : (B : Names) (x : List ℕ) (a b : Tree) (own : Bound) (f : Found) (t : PlainType) → f.type ≡ t → (fs : List Found) → PlanQuiet W Q p G NW (optional_plan B x a b t) fs → type_rules (match_verdict true own (f ∷ fs)).faults ≡ [] → AllCalls NW (calls_in a) → AllCalls NW (calls_in b) → IsQuiet W Q p a × IsQuiet W Q p b
+  optional_quiet : (B : Names) (x : List ℕ) (a b : Tree) (own : Bound) (f : Found) (t : PlainType) → f.type ≡ t → (fs : List Found) → PlanQuiet W Q p G Apart (optional_plan B x a b t) fs → type_rules (match_verdict true own (f ∷ fs)).faults ≡ [] → AllCalls Apart (calls_in a) → AllCalls Apart (calls_in b) → IsQuiet W Q p a × IsQuiet W Q p b
   optional_quiet B x a b own f (OptionalType t) is (fa ∷ fb ∷ fs) q types h k = (q.0 h, q.1.0 k)
   optional_quiet B x a b own f (OptionalType t) is (fa ∷ []) q types h k = absurd q.1
   optional_quiet B x a b own f (OptionalType t) is [] q types h k = absurd q
@@ -62,7 +62,7 @@ module _ (W : Deployed) (Q : Principal → Function → Type 0) (p : Principal) 
   optional_quiet B x a b own f t is (fb ∷ fc ∷ fs) q types h k = absurd q.1
   optional_quiet B x a b own f t is [] q types h k = absurd q
 
-  response_quiet : (B : Names) (x : List ℕ) (a : Tree) (y : List ℕ) (b : Tree) (own : Bound) (f : Found) (t : PlainType) → f.type ≡ t → (fs : List Found) → PlanQuiet W Q p G NW (response_plan B x a y b t) fs → type_rules (match_verdict false own (f ∷ fs)).faults ≡ [] → AllCalls NW (calls_in a) → AllCalls NW (calls_in b) → IsQuiet W Q p a × IsQuiet W Q p b
+  response_quiet : (B : Names) (x : List ℕ) (a : Tree) (y : List ℕ) (b : Tree) (own : Bound) (f : Found) (t : PlainType) → f.type ≡ t → (fs : List Found) → PlanQuiet W Q p G Apart (response_plan B x a y b t) fs → type_rules (match_verdict false own (f ∷ fs)).faults ≡ [] → AllCalls Apart (calls_in a) → AllCalls Apart (calls_in b) → IsQuiet W Q p a × IsQuiet W Q p b
   response_quiet B x a y b own f (ResponseType t u) is (fa ∷ fb ∷ fs) q types h k = (q.0 h, q.1.0 k)
   response_quiet B x a y b own f (ResponseType t u) is (fa ∷ []) q types h k = absurd q.1
   response_quiet B x a y b own f (ResponseType t u) is [] q types h k = absurd q
@@ -70,7 +70,7 @@ module _ (W : Deployed) (Q : Principal → Function → Type 0) (p : Principal) 
   response_quiet B x a y b own f t is (fb ∷ fs) q types h k = absurd q
 
   abbrev IsMatchQuiet : Names → List Tree → Type 0
-  IsMatchQuiet B es = (fs : List Found) → shape_rules (match_shape (row_of Match) G B es).faults ≡ [] → type_rules ((match_shape (row_of Match) G B es).verdict fs).faults ≡ [] → PlanQuiet W Q p G NW (match_plan B es) fs → EachCalls NW es → AllQuiet W Q p es
+  IsMatchQuiet B es = (fs : List Found) → shape_rules (match_shape (row_of Match) G B es).faults ≡ [] → type_rules ((match_shape (row_of Match) G B es).verdict fs).faults ≡ [] → PlanQuiet W Q p G Apart (match_plan B es) fs → EachCalls Apart es → AllQuiet W Q p es
 
   match_four : (B : Names) (i x a b : Tree) → IsMatchQuiet B (i ∷ x ∷ a ∷ b ∷ [])
   match_four B i (LeafAt (Named x) at) a b [] rules types q h = absurd q
@@ -92,23 +92,23 @@ module _ (W : Deployed) (Q : Principal → Function → Type 0) (p : Principal) 
 
   -- ---- let
 
-  let_shape_quiet : (B : Names) (es : Forest) (fs : List Found) → shape_rules (let_shape (row_of Let) G B (trees_of es)).faults ≡ [] → PlanQuiet W Q p G NW (let_shape (row_of Let) G B (trees_of es)).plan fs → AllCalls NW (calls_behind false es) → AreQuietBehind W Q p AtBindings es
+  let_shape_quiet : (B : Names) (es : Forest) (fs : List Found) → shape_rules (let_shape (row_of Let) G B (trees_of es)).faults ≡ [] → PlanQuiet W Q p G Apart (let_shape (row_of Let) G B (trees_of es)).plan fs → AllCalls Apart (calls_behind false es) → AreQuietBehind W Q p AtBindings es
   let_shape_quiet B Empty fs rules q h = tt
   let_shape_quiet B (Then (ListAt bs at) body) fs rules q h =
       let fine = fine_shape (let_with (row_of Let) G B (trees_of bs) (trees_of body)).faults rules in
       let are = not_false (is_some (bindings_of (trees_of bs))) fine.bad_binding in
-      let both = let_quiet W Q p G NW (trees_of body) (trees_of bs) B B fs are fine.shadowed_name q (list_each NW bs are (all_front NW (calls_in (ListAt bs at)) (calls_behind false body) h)) (behind_each NW body (all_back NW (calls_in (ListAt bs at)) (calls_behind false body) h)) in
-      (pairs_quiet W Q p G NW bs both.0, plain_quiet W Q p G NW body both.1)
+      let both = let_quiet W Q p G Apart (trees_of body) (trees_of bs) B B fs are fine.shadowed_name q (list_each Apart bs are (all_front Apart (calls_in (ListAt bs at)) (calls_behind false body) h)) (behind_each Apart body (all_back Apart (calls_in (ListAt bs at)) (calls_behind false body) h)) in
+      (pairs_quiet W Q p G Apart bs both.0, plain_quiet W Q p G Apart body both.1)
   let_shape_quiet B (Then (LeafAt leaf at) body) fs rules q h = let bad = (fine_shape (let_shape (row_of Let) G B (trees_of (Then (LeafAt leaf at) body))).faults rules).bad_binding in absurd cc
   let_shape_quiet B (Then (TupleAt ps at) body) fs rules q h = let bad = (fine_shape (let_shape (row_of Let) G B (trees_of (Then (TupleAt ps at) body))).faults rules).bad_binding in absurd cc
 
-  module _ (C : CallsAreQuiet W Q p G NW) where
+  module _ (C : CallsAreQuiet W Q p G Apart) where
     -- ---- natives
 
     abbrev IsHeadQuiet : Head → Names → Forest → Type 0
     IsHeadQuiet head B es =
-        (fs : List Found) → shape_rules (head_shape head (row_of head) G B (trees_of es)).faults ≡ [] → type_rules ((head_shape head (row_of head) G B (trees_of es)).verdict fs).faults ≡ [] → PlanQuiet W Q p G NW (head_shape head (row_of head) G B (trees_of es)).plan fs →
-        NW (record { operator = name_of head; parts = es }) → AllCalls NW (calls_behind (is_tuple head) es) → IsQuietHead W Q p head es × AreQuietBehind W Q p (way_of_head head) es
+        (fs : List Found) → shape_rules (head_shape head (row_of head) G B (trees_of es)).faults ≡ [] → type_rules ((head_shape head (row_of head) G B (trees_of es)).verdict fs).faults ≡ [] → PlanQuiet W Q p G Apart (head_shape head (row_of head) G B (trees_of es)).plan fs →
+        Apart (record { operator = name_of head; parts = es }) → AllCalls Apart (calls_behind (is_tuple head) es) → IsQuietHead W Q p head es × AreQuietBehind W Q p (way_of_head head) es
 
     head_quiet : (head : Head) (B : Names) (es : Forest) → IsHeadQuiet head B es
     unfolding head_shape
@@ -125,75 +125,75 @@ module _ (W : Deployed) (Q : Principal → Function → Type 0) (p : Principal) 
     head_quiet MapInsert B es fs rules types q call h = absurd (C.natives (name_of MapInsert) es call refl)
     head_quiet MapDelete B es fs rules types q call h = absurd (C.natives (name_of MapDelete) es call refl)
     head_quiet TupleOf B es fs rules types q call h =
-        (tt, tuple_quiet W Q p G NW es B fs (not_false (is_some (bindings_of (trees_of es))) (fine_shape (head_shape TupleOf (row_of TupleOf) G B (trees_of es)).faults rules).bad_binding) q h)
+        (tt, tuple_quiet W Q p G Apart es B fs (not_false (is_some (bindings_of (trees_of es))) (fine_shape (head_shape TupleOf (row_of TupleOf) G B (trees_of es)).faults rules).bad_binding) q h)
     head_quiet AsMaxLen B es fs rules types q call h =
         let fine = fine_shape (head_shape AsMaxLen (row_of AsMaxLen) G B (trees_of es)).faults rules in
-        (tt, plain_quiet W Q p G NW es (max_len_quiet W Q p G NW (trees_of es) fine.argument_count fine.literal_expected B fs q (behind_each NW es h)))
+        (tt, plain_quiet W Q p G Apart es (max_len_quiet W Q p G Apart (trees_of es) fine.argument_count fine.literal_expected B fs q (behind_each Apart es h)))
     head_quiet Get B es fs rules types q call h =
-        (tt, plain_quiet W Q p G NW es (named_quiet W Q p G NW (λ x. Some x) (trees_of es) (fine_shape (head_shape Get (row_of Get) G B (trees_of es)).faults rules).bad_binding B fs q (behind_each NW es h)))
+        (tt, plain_quiet W Q p G Apart es (named_quiet W Q p G Apart (λ x. Some x) (trees_of es) (fine_shape (head_shape Get (row_of Get) G B (trees_of es)).faults rules).bad_binding B fs q (behind_each Apart es h)))
     head_quiet VarGet B es fs rules types q call h =
-        (tt, plain_quiet W Q p G NW es (named_quiet W Q p G NW (λ x. named_in x G.variables) (trees_of es) (fine_shape (head_shape VarGet (row_of VarGet) G B (trees_of es)).faults rules).bad_binding B fs q (behind_each NW es h)))
+        (tt, plain_quiet W Q p G Apart es (named_quiet W Q p G Apart (λ x. named_in x G.variables) (trees_of es) (fine_shape (head_shape VarGet (row_of VarGet) G B (trees_of es)).faults rules).bad_binding B fs q (behind_each Apart es h)))
     head_quiet MapGet B es fs rules types q call h =
-        (tt, plain_quiet W Q p G NW es (named_quiet W Q p G NW (λ x. named_in x G.maps) (trees_of es) (fine_shape (head_shape MapGet (row_of MapGet) G B (trees_of es)).faults rules).bad_binding B fs q (behind_each NW es h)))
+        (tt, plain_quiet W Q p G Apart es (named_quiet W Q p G Apart (λ x. named_in x G.maps) (trees_of es) (fine_shape (head_shape MapGet (row_of MapGet) G B (trees_of es)).faults rules).bad_binding B fs q (behind_each Apart es h)))
     head_quiet FtBalance B es fs rules types q call h =
-        (tt, plain_quiet W Q p G NW es (named_quiet W Q p G NW (λ x. if_fungible (list_any (same_name x) G.fungibles)) (trees_of es) (fine_shape (head_shape FtBalance (row_of FtBalance) G B (trees_of es)).faults rules).bad_binding B fs q (behind_each NW es h)))
+        (tt, plain_quiet W Q p G Apart es (named_quiet W Q p G Apart (λ x. if_fungible (list_any (same_name x) G.fungibles)) (trees_of es) (fine_shape (head_shape FtBalance (row_of FtBalance) G B (trees_of es)).faults rules).bad_binding B fs q (behind_each Apart es h)))
     head_quiet FtSupply B es fs rules types q call h =
-        (tt, plain_quiet W Q p G NW es (named_quiet W Q p G NW (λ x. if_fungible (list_any (same_name x) G.fungibles)) (trees_of es) (fine_shape (head_shape FtSupply (row_of FtSupply) G B (trees_of es)).faults rules).bad_binding B fs q (behind_each NW es h)))
+        (tt, plain_quiet W Q p G Apart es (named_quiet W Q p G Apart (λ x. if_fungible (list_any (same_name x) G.fungibles)) (trees_of es) (fine_shape (head_shape FtSupply (row_of FtSupply) G B (trees_of es)).faults rules).bad_binding B fs q (behind_each Apart es h)))
     head_quiet NftOwner B es fs rules types q call h =
-        (tt, plain_quiet W Q p G NW es (named_quiet W Q p G NW (λ x. named_in x G.nonfungibles) (trees_of es) (fine_shape (head_shape NftOwner (row_of NftOwner) G B (trees_of es)).faults rules).bad_binding B fs q (behind_each NW es h)))
+        (tt, plain_quiet W Q p G Apart es (named_quiet W Q p G Apart (λ x. named_in x G.nonfungibles) (trees_of es) (fine_shape (head_shape NftOwner (row_of NftOwner) G B (trees_of es)).faults rules).bad_binding B fs q (behind_each Apart es h)))
     head_quiet Let B es fs rules types q call h = (tt, let_shape_quiet B es fs rules q h)
-    head_quiet Match B es fs rules types q call h = (tt, plain_quiet W Q p G NW es (match_quiet B (trees_of es) fs rules types q (behind_each NW es h)))
+    head_quiet Match B es fs rules types q call h = (tt, plain_quiet W Q p G Apart es (match_quiet B (trees_of es) fs rules types q (behind_each Apart es h)))
     head_quiet Map B es fs rules types q call h =
-        (C.uses (name_of Map) es call refl, plain_quiet W Q p G NW es (used_quiet W Q p G NW (trees_of es) (fine_shape (head_shape Map (row_of Map) G B (trees_of es)).faults rules).not_a_function B fs q (behind_each NW es h)))
+        (C.uses (name_of Map) es call refl, plain_quiet W Q p G Apart es (used_quiet W Q p G Apart (trees_of es) (fine_shape (head_shape Map (row_of Map) G B (trees_of es)).faults rules).not_a_function B fs q (behind_each Apart es h)))
     head_quiet Filter B es fs rules types q call h =
-        (C.uses (name_of Filter) es call refl, plain_quiet W Q p G NW es (used_quiet W Q p G NW (trees_of es) (fine_shape (head_shape Filter (row_of Filter) G B (trees_of es)).faults rules).not_a_function B fs q (behind_each NW es h)))
+        (C.uses (name_of Filter) es call refl, plain_quiet W Q p G Apart es (used_quiet W Q p G Apart (trees_of es) (fine_shape (head_shape Filter (row_of Filter) G B (trees_of es)).faults rules).not_a_function B fs q (behind_each Apart es h)))
     head_quiet Fold B es fs rules types q call h =
-        (C.uses (name_of Fold) es call refl, plain_quiet W Q p G NW es (used_quiet W Q p G NW (trees_of es) (fine_shape (head_shape Fold (row_of Fold) G B (trees_of es)).faults rules).not_a_function B fs q (behind_each NW es h)))
+        (C.uses (name_of Fold) es call refl, plain_quiet W Q p G Apart es (used_quiet W Q p G Apart (trees_of es) (fine_shape (head_shape Fold (row_of Fold) G B (trees_of es)).faults rules).not_a_function B fs q (behind_each Apart es h)))
     head_quiet ContractCall B es fs rules types q call h =
         let fine = fine_shape (head_shape ContractCall (row_of ContractCall) G B (trees_of es)).faults rules in
-        (C.across B es rules call, plain_quiet W Q p G NW es (across_quiet W Q p G NW (trees_of es) fine.literal_expected fine.bad_binding B fs q (behind_each NW es h)))
-    head_quiet head B es fs rules types q call h = (tt, plain_quiet W Q p G NW es (parts_quiet W Q p G NW B (trees_of es) fs q (behind_each NW es h)))
+        (C.across B es rules call, plain_quiet W Q p G Apart es (across_quiet W Q p G Apart (trees_of es) fine.literal_expected fine.bad_binding B fs q (behind_each Apart es h)))
+    head_quiet head B es fs rules types q call h = (tt, plain_quiet W Q p G Apart es (parts_quiet W Q p G Apart B (trees_of es) fs q (behind_each Apart es h)))
 
     -- ---- nodes
 
-    row_quiet : (x : List ℕ) (row : Row) → native x ≡ Some row → (B : Names) (es : Forest) (fs : List Found) → shape_rules (head_shape row.head row G B (trees_of es)).faults ≡ [] → type_rules ((head_shape row.head row G B (trees_of es)).verdict fs).faults ≡ [] → PlanQuiet W Q p G NW (head_shape row.head row G B (trees_of es)).plan fs →
-        NW (record { operator = x; parts = es }) → AllCalls NW (calls_behind (same x (codes "tuple")) es) → IsQuietHead W Q p row.head es × AreQuietBehind W Q p (way_of_head row.head) es
+    row_quiet : (x : List ℕ) (row : Row) → native x ≡ Some row → (B : Names) (es : Forest) (fs : List Found) → shape_rules (head_shape row.head row G B (trees_of es)).faults ≡ [] → type_rules ((head_shape row.head row G B (trees_of es)).verdict fs).faults ≡ [] → PlanQuiet W Q p G Apart (head_shape row.head row G B (trees_of es)).plan fs →
+        Apart (record { operator = x; parts = es }) → AllCalls Apart (calls_behind (same x (codes "tuple")) es) → IsQuietHead W Q p row.head es × AreQuietBehind W Q p (way_of_head row.head) es
     row_quiet x row found B es fs rules types q call h =
         let name : x ≡ name_of row.head = named_alone x row.head (ap head_of_row found) in
         let own : row ≡ row_of row.head = is_row x row found in
-        subst (λ (r : Row). shape_rules (head_shape row.head r G B (trees_of es)).faults ≡ [] → type_rules ((head_shape row.head r G B (trees_of es)).verdict fs).faults ≡ [] → PlanQuiet W Q p G NW (head_shape row.head r G B (trees_of es)).plan fs → IsQuietHead W Q p row.head es × AreQuietBehind W Q p (way_of_head row.head) es) (sym own)
-        (λ rules types q. head_quiet row.head B es fs rules types q (subst (λ x. NW (record { operator = x; parts = es })) name call) (subst (λ b. AllCalls NW (calls_behind b es)) (ap (λ x. same x (codes "tuple")) name ∙ tuple_alone row.head) h)) rules types q
+        subst (λ (r : Row). shape_rules (head_shape row.head r G B (trees_of es)).faults ≡ [] → type_rules ((head_shape row.head r G B (trees_of es)).verdict fs).faults ≡ [] → PlanQuiet W Q p G Apart (head_shape row.head r G B (trees_of es)).plan fs → IsQuietHead W Q p row.head es × AreQuietBehind W Q p (way_of_head row.head) es) (sym own)
+        (λ rules types q. head_quiet row.head B es fs rules types q (subst (λ x. Apart (record { operator = x; parts = es })) name call) (subst (λ b. AllCalls Apart (calls_behind b es)) (ap (λ x. same x (codes "tuple")) name ∙ tuple_alone row.head) h)) rules types q
 
-    call_quiet : (f : Option Signature) (B : Names) (es : Forest) (fs : List Found) → shape_rules (call_shape f B (trees_of es)).faults ≡ [] → PlanQuiet W Q p G NW (call_shape f B (trees_of es)).plan fs → AllCalls NW (calls_behind false es) → AreQuietBehind W Q p Plain es
-    call_quiet (Some f) B es fs rules q h = plain_quiet W Q p G NW es (parts_quiet W Q p G NW B (trees_of es) fs q (behind_each NW es h))
+    call_quiet : (f : Option Signature) (B : Names) (es : Forest) (fs : List Found) → shape_rules (call_shape f B (trees_of es)).faults ≡ [] → PlanQuiet W Q p G Apart (call_shape f B (trees_of es)).plan fs → AllCalls Apart (calls_behind false es) → AreQuietBehind W Q p Plain es
+    call_quiet (Some f) B es fs rules q h = plain_quiet W Q p G Apart es (parts_quiet W Q p G Apart B (trees_of es) fs q (behind_each Apart es h))
     call_quiet None B es fs rules q h = absurd cc
 
-    operator_quiet : (x : List ℕ) (o : Option Row) → native x ≡ o → (f : Option Signature) (B : Names) (es : Forest) (fs : List Found) → shape_rules (operator_shape o f G B (trees_of es)).faults ≡ [] → type_rules ((operator_shape o f G B (trees_of es)).verdict fs).faults ≡ [] → PlanQuiet W Q p G NW (operator_shape o f G B (trees_of es)).plan fs →
-        NW (record { operator = x; parts = es }) → AllCalls NW (calls_behind (same x (codes "tuple")) es) → IsQuietCall W Q p o x es × AreQuietBehind W Q p (way_of o) es
+    operator_quiet : (x : List ℕ) (o : Option Row) → native x ≡ o → (f : Option Signature) (B : Names) (es : Forest) (fs : List Found) → shape_rules (operator_shape o f G B (trees_of es)).faults ≡ [] → type_rules ((operator_shape o f G B (trees_of es)).verdict fs).faults ≡ [] → PlanQuiet W Q p G Apart (operator_shape o f G B (trees_of es)).plan fs →
+        Apart (record { operator = x; parts = es }) → AllCalls Apart (calls_behind (same x (codes "tuple")) es) → IsQuietCall W Q p o x es × AreQuietBehind W Q p (way_of o) es
     operator_quiet x (Some row) found f B es fs rules types q call h = row_quiet x row found B es fs rules types q call h
     operator_quiet x None found f B es fs rules types q call h =
-        (C.functions x es call, call_quiet f B es fs rules q (subst (λ b. AllCalls NW (calls_behind b es)) (tuple_is_native x found) h))
+        (C.functions x es call, call_quiet f B es fs rules q (subst (λ b. AllCalls Apart (calls_behind b es)) (tuple_is_native x found) h))
 
-    pairs_parts : (ps : Pairs) → AllCalls NW (calls_of_pairs ps) → EachCalls NW (map (λ (b : List ℕ × Tree). b.1) (pairs_of ps))
+    pairs_parts : (ps : Pairs) → AllCalls Apart (calls_of_pairs ps) → EachCalls Apart (map (λ (b : List ℕ × Tree). b.1) (pairs_of ps))
     pairs_parts NoPair h = tt
-    pairs_parts (Pair k e ps) h = (all_front NW (calls_in e) (calls_of_pairs ps) h, pairs_parts ps (all_back NW (calls_in e) (calls_of_pairs ps) h))
+    pairs_parts (Pair k e ps) h = (all_front Apart (calls_in e) (calls_of_pairs ps) h, pairs_parts ps (all_back Apart (calls_in e) (calls_of_pairs ps) h))
 
     all_pairs : (ps : Pairs) → AllQuiet W Q p (map (λ (b : List ℕ × Tree). b.1) (pairs_of ps)) → AreQuietPairs W Q p ps
     all_pairs NoPair q = tt
     all_pairs (Pair k e ps) q = (q.0, all_pairs ps q.1)
 
-    node_quiet : (B : Names) (e : Tree) (fs : List Found) → broken_shape G B e ≡ [] → broken_types G B e fs ≡ [] → PlanQuiet W Q p G NW (shape G B e).plan fs → AllCalls NW (calls_in e) → IsQuiet W Q p e
+    node_quiet : (B : Names) (e : Tree) (fs : List Found) → broken_shape G B e ≡ [] → broken_types G B e fs ≡ [] → PlanQuiet W Q p G Apart (shape G B e).plan fs → AllCalls Apart (calls_in e) → IsQuiet W Q p e
     unfolding shape
     node_quiet B (LeafAt leaf at) fs rules types q h = tt
-    node_quiet B (TupleAt ps at) fs rules types q h = all_pairs ps (parts_quiet W Q p G NW B _ fs q (pairs_parts ps h))
+    node_quiet B (TupleAt ps at) fs rules types q h = all_pairs ps (parts_quiet W Q p G Apart B _ fs q (pairs_parts ps h))
     node_quiet B (ListAt (Then (LeafAt (Named x) at') es) at) fs rules types q h = operator_quiet x (native x) refl (signature_in x G.functions) B es fs rules types q h.0 h.1
     node_quiet B (ListAt es at) fs rules types q h = absurd cc
 
     mutual
-      pub typed_quiet : {B : Names} {e : Tree} {f : Found} → Typed G B e f → AllCalls NW (calls_in e) → IsQuiet W Q p e
+      pub typed_quiet : {B : Names} {e : Tree} {f : Found} → Typed G B e f → AllCalls Apart (calls_in e) → IsQuiet W Q p e
       typed_quiet {B = B} {e = e} (typed fs rules follows types is) h = node_quiet B e fs rules types (plan_quiet follows) h
 
-      pub plan_quiet : {plan : Plan} {fs : List Found} → Follows G plan fs → PlanQuiet W Q p G NW plan fs
+      pub plan_quiet : {plan : Plan} {fs : List Found} → Follows G plan fs → PlanQuiet W Q p G Apart plan fs
       plan_quiet ends = tt
       plan_quiet (part t ts) = (λ h. typed_quiet t h, plan_quiet ts)
       plan_quiet (gives t ts) = (λ h. typed_quiet t h, plan_quiet ts)

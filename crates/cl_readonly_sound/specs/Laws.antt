@@ -18,7 +18,7 @@ use Rattle.cl_tx.specs.declared.entry.Entry.TheVariants.{Call}
 use Rattle.cl_tx.specs.Nodes.{NodeSeen, Stepped}
 use Rattle.cl_tx.specs.Step.{Steps}
 use Rattle.cl_node_sound.specs.Sound.{IsSoundNode, HasParts}
-use Rattle.cl_readonly_sound.specs.Untouched.{IsUntouched}
+use Rattle.cl_readonly_sound.specs.Untouched.{ArePrints, IsUntouched}
 
 -- At this principal a contract is deployed that stands for an accepted text, and the function of this name isn't among those that
 -- write, with the contracts that were deployed before.
@@ -59,7 +59,13 @@ CallsKeepNodes =
     (costs : Costs) (node : NodeSeen) (common : Common) (contract : Principal) (function : List ℕ) (args : List Tree) (s : Stepped) → HasParts (Call common contract function args) → IsSoundNode costs node →
     DoesNotWrite costs node.contracts contract function → Steps costs node (Call common contract function args) s → s.node ≡ node
 
--- and so it is with a read-only function
+-- and the events that are handed out were printed
+abbrev pub CallsHandOutPrints : Type 0
+CallsHandOutPrints =
+    (costs : Costs) (node : NodeSeen) (common : Common) (contract : Principal) (function : List ℕ) (args : List Tree) (s : Stepped) → HasParts (Call common contract function args) → IsSoundNode costs node →
+    DoesNotWrite costs node.contracts contract function → Steps costs node (Call common contract function args) s → ArePrints s.result.events
+
+-- a read-only function is such a one
 abbrev pub ReadOnlyKeepNodes : Type 0
 ReadOnlyKeepNodes =
     (costs : Costs) (node : NodeSeen) (common : Common) (contract : Principal) (function : List ℕ) (args : List Tree) (s : Stepped) → HasParts (Call common contract function args) → IsSoundNode costs node →
