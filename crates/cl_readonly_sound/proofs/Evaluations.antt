@@ -496,8 +496,7 @@ module _ (W : Deployed) (Q : Principal → Function → Type 0) where
       λ F E f q vs s. subst (λ a. Leaves s a) (sym (applied_zero (scope W F E) f vs s)) (leaves_stop _ s),
     )
     each_depth (suc depth) =
-        let below = each_depth depth in
-        (
+        let below = each_depth depth in (
           λ F E e q s. subst (λ a. Leaves s a) (sym (means_step depth (scope W F E) e s)) (leaves_ending (span_of e) (leaves_node (means depth) below.0 (applied depth) below.1 F E e q s)),
           λ F E f q vs s. subst (λ a. Leaves s a) (sym (applied_step depth (scope W F E) f vs s)) (leaves_application (means depth) below.0 F E f q vs s),
         )
