@@ -30,7 +30,7 @@ use Rattle.cl_contract_sound.proofs.Contexts.{stands_in}
 use Rattle.cl_contract_sound.proofs.OfTexts.{are_known}
 use Rattle.cl_contract_sound.proofs.Serving.{IsKnownAt, known_split, known_there, as_served}
 use Rattle.cl_contract_sound.proofs.States.{some_contract}
-use Rattle.cl_readonly_sound.specs.Laws.{DoesNotWrite}
+use Rattle.cl_readonly_sound.specs.Laws.{StandsForText, DoesNotWrite}
 use Rattle.cl_readonly_sound.proofs.Quiet.{scope, IsQuietOne, IsQuietUse, IsQuietAcross, IsQuiet}
 use Rattle.cl_readonly_sound.proofs.Calling.{AllCalls, CallsAreQuiet}
 use Rattle.cl_readonly_sound.proofs.TypedQuiet.{typed_quiet}
@@ -79,20 +79,25 @@ text_at costs W after (and_one {before = before} c n texts new h there is) q k e
     by (inl g) more = more g
     by (inr g) more = record { before = before; contract = c; earlier = texts; of_text = subst (IsOfText costs before c) g.1 h; there = there; home = sym (ap (λ (k : Known). k.principal) h.known) ∙ g.0 }
 
+pub stands_for : (costs : CostTable) (W : Deployed) (q : Principal) (k : Known) → IsTextAt costs W q k → StandsForText costs W q
+stands_for costs W q k t = record {
+  before = t.before;
+  contract = t.contract;
+  known = k;
+  earlier = t.earlier;
+  of_text = t.of_text;
+  there = ap (λ q. contract_at q W) (sym t.home) ∙ t.there;
+  home = t.home;
+}
+
 -- a read-only function of an accepted contract doesn't write
-pub read_only_apart : (costs : CostTable) (W : Deployed) (q : Principal) (k : Known) (t : IsTextAt costs W q k) (x : List ℕ) (f : Function) → function_in x t.contract.forms ≡ Some f → f.access ≡ ReadOnly → DoesNotWrite costs W q x
-read_only_apart costs W q k t x f there access =
+pub read_only_apart : (costs : CostTable) (W : Deployed) (q : Principal) (t : StandsForText costs W q) (x : List ℕ) (f : Function) → function_in x t.contract.forms ≡ Some f → f.access ≡ ReadOnly → DoesNotWrite costs W q x
+read_only_apart costs W q t x f there access =
     let h = t.of_text in
     let is = function_there x t.contract.forms f there in
     let form = form_there x t.contract.forms (FunctionForm f.access f.params f.body) is.form in
     record {
-      before = t.before;
-      contract = t.contract;
-      known = k;
-      earlier = t.earlier;
-      of_text = h;
-      there = ap (λ q. contract_at q W) (sym t.home) ∙ t.there;
-      home = t.home;
+      text = t;
       apart = λ w. h.accepted.none_writes form.form (subst (λ forms. Contains forms form.form) h.forms form.there) (record {
         name = x;
         params = f.params;
@@ -208,70 +213,70 @@ module _ (costs : CostTable) (W : Deployed) where
   -- a function of a deployed contract, which doesn't write
   pub record IsQuietFunction (p : Principal) (f : Function) : Type 0 where
     pub apart : DoesNotWrite costs W p f.name
-    pub there : function_in f.name apart.contract.forms ≡ Some f
+    pub there : function_in f.name apart.text.contract.forms ≡ Some f
 
   abbrev DoesNotWriteThere : Principal → Function → List ℕ → Type 0
-  DoesNotWriteThere p f y = (d : DoesNotWrite costs W p y) × (function_in y d.contract.forms ≡ Some f)
+  DoesNotWriteThere p f y = (d : DoesNotWrite costs W p y) × (function_in y d.text.contract.forms ≡ Some f)
 
   pub quiet_function : (p : Principal) (x : List ℕ) → DoesNotWrite costs W p x → (c : Contract) → contract_at p W ≡ Some c → (f : Function) → function_in x c.forms ≡ Some f → IsQuietFunction p f
   quiet_function p x d c at f is =
-      let one : d.contract ≡ c = some_contract d.contract c (sym d.there ∙ at) in
-      let there : function_in x d.contract.forms ≡ Some f = ap (λ (c : Contract). function_in x c.forms) one ∙ is in
-      let named = (function_there x d.contract.forms f there).named in
+      let one : d.text.contract ≡ c = some_contract d.text.contract c (sym d.text.there ∙ at) in
+      let there : function_in x d.text.contract.forms ≡ Some f = ap (λ (c : Contract). function_in x c.forms) one ∙ is in
+      let named = (function_there x d.text.contract.forms f there).named in
       let h : DoesNotWriteThere p f f.name = subst (DoesNotWriteThere p f) (sym named) (d, there) in
       record { apart = h.0; there = h.1 }
 
   quiet_one : (p : Principal) (x : List ℕ) → DoesNotWrite costs W p x → IsQuietOne W IsQuietFunction p (function_of x (contract_at p W))
-  quiet_one p x d = by (contract_at p W) d.there
+  quiet_one p x d = by (contract_at p W) d.text.there
     where
       by_function : (c : Contract) → contract_at p W ≡ Some c → (o : Option Function) → function_in x c.forms ≡ o → IsQuietOne W IsQuietFunction p o
       by_function c at None is = tt
       by_function c at (Some f) is = quiet_function p x d c at f is
 
-      by : (o : Option Contract) → o ≡ Some d.contract → IsQuietOne W IsQuietFunction p (function_of x o)
-      by o e = subst (λ o. IsQuietOne W IsQuietFunction p (function_of x o)) (sym e) (by_function d.contract d.there (function_in x d.contract.forms) refl)
+      by : (o : Option Contract) → o ≡ Some d.text.contract → IsQuietOne W IsQuietFunction p (function_of x o)
+      by o e = subst (λ o. IsQuietOne W IsQuietFunction p (function_of x o)) (sym e) (by_function d.text.contract d.text.there (function_in x d.text.contract.forms) refl)
 
   -- ---- calls in the code of a deployed contract
 
   -- a function of the target that may be called doesn't write: it is read-only, since a call of a public one would write
-  target_apart : (p : Principal) (x : List ℕ) (d : DoesNotWrite costs W p x) (leaf : Leaf) (at : Span) (y : List ℕ) (at' : Span) (es : Forest) (q : Principal) (k : Known) (g : Signature) → contract_literal p leaf ≡ Some q → another_at p d.before q ≡ Some k → signature_in y k.functions ≡ Some g →
-      IsApart d.contract.forms (calls_public d.before p) (record { operator = codes "contract-call?"; parts = Then (LeafAt leaf at) (Then (LeafAt (Named y) at') es) }) →
-      (text : IsTextAt costs W q k) (f : Function) → function_in y text.contract.forms ≡ Some f → g.access ≡ f.access → (f.access ≡ Public) ⊎ (f.access ≡ ReadOnly) → DoesNotWrite costs W q y
+  target_apart : (p : Principal) (x : List ℕ) (d : DoesNotWrite costs W p x) (leaf : Leaf) (at : Span) (y : List ℕ) (at' : Span) (es : Forest) (q : Principal) (k : Known) (g : Signature) → contract_literal p leaf ≡ Some q → another_at p d.text.before q ≡ Some k → signature_in y k.functions ≡ Some g →
+      IsApart d.text.contract.forms (calls_public d.text.before p) (record { operator = codes "contract-call?"; parts = Then (LeafAt leaf at) (Then (LeafAt (Named y) at') es) }) →
+      (text : StandsForText costs W q) (f : Function) → function_in y text.contract.forms ≡ Some f → g.access ≡ f.access → (f.access ≡ Public) ⊎ (f.access ≡ ReadOnly) → DoesNotWrite costs W q y
   target_apart p x d leaf at y at' es q k g literal another told apart text f is access (inl public) =
       absurd (apart.across leaf y at at' es refl refl
-      (subst (λ r. is_public_at d.before p r y ≡ true) (sym literal)
+      (subst (λ r. is_public_at d.text.before p r y ≡ true) (sym literal)
       (subst (λ o. is_public_in o y ≡ true) (sym another)
       (subst (λ o. is_public_there o ≡ true) (sym told)
       (subst (λ a. is_public a ≡ true) (sym public ∙ sym access) refl)))))
-  target_apart p x d leaf at y at' es q k g literal another told apart text f is access (inr read_only) = read_only_apart costs W q k text y f is read_only
+  target_apart p x d leaf at y at' es q k g literal another told apart text f is access (inr read_only) = read_only_apart costs W q text y f is read_only
 
-  target_quiet : (p : Principal) (x : List ℕ) (d : DoesNotWrite costs W p x) (leaf : Leaf) (at : Span) (y : List ℕ) (at' : Span) (es : Forest) (q : Principal) (k : Known) (g : Signature) → contract_literal p leaf ≡ Some q → another_at p d.before q ≡ Some k → signature_in y k.functions ≡ Some g →
-      IsApart d.contract.forms (calls_public d.before p) (record { operator = codes "contract-call?"; parts = Then (LeafAt leaf at) (Then (LeafAt (Named y) at') es) }) →
-      IsTextAt costs W q k → (c : Contract) → contract_at q W ≡ Some c → (f : Function) → function_in y c.forms ≡ Some f → (f.access ≡ Public) ⊎ (f.access ≡ ReadOnly) → IsQuietFunction c.principal f
+  target_quiet : (p : Principal) (x : List ℕ) (d : DoesNotWrite costs W p x) (leaf : Leaf) (at : Span) (y : List ℕ) (at' : Span) (es : Forest) (q : Principal) (k : Known) (g : Signature) → contract_literal p leaf ≡ Some q → another_at p d.text.before q ≡ Some k → signature_in y k.functions ≡ Some g →
+      IsApart d.text.contract.forms (calls_public d.text.before p) (record { operator = codes "contract-call?"; parts = Then (LeafAt leaf at) (Then (LeafAt (Named y) at') es) }) →
+      StandsForText costs W q → (c : Contract) → contract_at q W ≡ Some c → (f : Function) → function_in y c.forms ≡ Some f → (f.access ≡ Public) ⊎ (f.access ≡ ReadOnly) → IsQuietFunction c.principal f
   target_quiet p x d leaf at y at' es q k g literal another told apart text c found f is callable =
-      let one : text.contract ≡ c = some_contract text.contract c (sym text.there ∙ ap (λ q. contract_at q W) text.home ∙ found) in
-      let known : known_at q d.before ≡ Some k = another_there (same_principal q p) (known_at q d.before) k another in
-      let access : g.access ≡ f.access = access_told costs W d.before d.earlier q k known c found y g told f is in
+      let one : text.contract ≡ c = some_contract text.contract c (sym text.there ∙ found) in
+      let known : known_at q d.text.before ≡ Some k = another_there (same_principal q p) (known_at q d.text.before) k another in
+      let access : g.access ≡ f.access = access_told costs W d.text.before d.text.earlier q k known c found y g told f is in
       let in_text : function_in y text.contract.forms ≡ Some f = ap (λ (c : Contract). function_in y c.forms) one ∙ is in
       let home : q ≡ c.principal = sym text.home ∙ ap (λ (c : Contract). c.principal) one in
       subst (λ q. IsQuietFunction q f) home (quiet_function q y (target_apart p x d leaf at y at' es q k g literal another told apart text f in_text access callable) c found f is)
 
-  target_across : (p : Principal) (x : List ℕ) (d : DoesNotWrite costs W p x) (leaf : Leaf) (at : Span) (y : List ℕ) (at' : Span) (es : Forest) (G : Context) → G.principal ≡ p → G.deployed ≡ d.before → IsTarget G leaf y →
-      IsApart d.contract.forms (calls_public d.before p) (record { operator = codes "contract-call?"; parts = Then (LeafAt leaf at) (Then (LeafAt (Named y) at') es) }) → IsQuietAcross W IsQuietFunction p (Then (LeafAt leaf at) (Then (LeafAt (Named y) at') es))
+  target_across : (p : Principal) (x : List ℕ) (d : DoesNotWrite costs W p x) (leaf : Leaf) (at : Span) (y : List ℕ) (at' : Span) (es : Forest) (G : Context) → G.principal ≡ p → G.deployed ≡ d.text.before → IsTarget G leaf y →
+      IsApart d.text.contract.forms (calls_public d.text.before p) (record { operator = codes "contract-call?"; parts = Then (LeafAt leaf at) (Then (LeafAt (Named y) at') es) }) → IsQuietAcross W IsQuietFunction p (Then (LeafAt leaf at) (Then (LeafAt (Named y) at') es))
   target_across p x d leaf at y at' es G home deployed t apart F E at_home c is f callable_told =
       let literal : contract_literal p leaf ≡ Some t.target = subst (λ r. contract_literal r leaf ≡ Some t.target) home t.literal in
-      let another : another_at p d.before t.target ≡ Some t.known = subst (λ (ks : List Known). another_at p ks t.target ≡ Some t.known) deployed (subst (λ r. another_at r G.deployed t.target ≡ Some t.known) home t.there) in
-      let known : known_at t.target d.before ≡ Some t.known = another_there (same_principal t.target p) (known_at t.target d.before) t.known another in
+      let another : another_at p d.text.before t.target ≡ Some t.known = subst (λ (ks : List Known). another_at p ks t.target ≡ Some t.known) deployed (subst (λ r. another_at r G.deployed t.target ≡ Some t.known) home t.there) in
+      let known : known_at t.target d.text.before ≡ Some t.known = another_there (same_principal t.target p) (known_at t.target d.text.before) t.known another in
       let there = callable_there (function_in y c.forms) f callable_told in
       let told : signature_in y t.known.functions ≡ Some t.signature = told_there (signature_in y t.known.functions) t.signature t.told in
       let named : target_of (scope W F E) (LeafAt leaf at) ≡ Some t.target = literal_is W F E p at_home leaf at t.target literal in
       let other : option_and_then (other_contract (scope W F E)) (Some t.target) ≡ Some c = subst (λ o. option_and_then (other_contract (scope W F E)) o ≡ Some c) named is in
       let found : contract_at t.target W ≡ Some c = other_there (is_principal t.target F.contract) (contract_at t.target W) c other in
-      target_quiet p x d leaf at y at' es t.target t.known t.signature literal another told apart (text_at costs W d.before d.earlier t.target t.known known) c found f there.0 there.1
+      target_quiet p x d leaf at y at' es t.target t.known t.signature literal another told apart (stands_for costs W t.target t.known (text_at costs W d.text.before d.text.earlier t.target t.known known)) c found f there.0 there.1
 
   -- the function of another contract
-  across_quiet : (p : Principal) (x : List ℕ) (d : DoesNotWrite costs W p x) (G : Context) → G.principal ≡ p → G.deployed ≡ d.before → (B : Names) (es : Forest) →
-      shape_rules (contract_call_shape (row_of ContractCall) G B (trees_of es)).faults ≡ [] → IsApart d.contract.forms (calls_public d.before p) (record { operator = codes "contract-call?"; parts = es }) → IsQuietAcross W IsQuietFunction p es
+  across_quiet : (p : Principal) (x : List ℕ) (d : DoesNotWrite costs W p x) (G : Context) → G.principal ≡ p → G.deployed ≡ d.text.before → (B : Names) (es : Forest) →
+      shape_rules (contract_call_shape (row_of ContractCall) G B (trees_of es)).faults ≡ [] → IsApart d.text.contract.forms (calls_public d.text.before p) (record { operator = codes "contract-call?"; parts = es }) → IsQuietAcross W IsQuietFunction p es
   across_quiet p x d G home deployed B (Then (LeafAt leaf at) (Then (LeafAt (Named y) at') es)) rules apart =
       let fine = fine_shape (contract_call_shape (row_of ContractCall) G B (trees_of (Then (LeafAt leaf at) (Then (LeafAt (Named y) at') es)))).faults rules in
       target_across p x d leaf at y at' es G home deployed (target_by G leaf at y at' (trees_of es) (contract_literal G.principal leaf) refl fine.literal_expected fine.no_such_contract fine.no_such_function) apart
@@ -281,7 +286,7 @@ module _ (costs : CostTable) (W : Deployed) where
       let bad = (fine_shape (contract_call_shape (row_of ContractCall) G B (trees_of (Then (TupleAt ps at) (Then (LeafAt (Named y) at') es)))).faults rules).literal_expected in absurd cc
   across_quiet p x d G home deployed B es rules apart = tt
 
-  calls_quiet : (p : Principal) (x : List ℕ) (d : DoesNotWrite costs W p x) (G : Context) → G.principal ≡ p → G.deployed ≡ d.before → CallsAreQuiet W IsQuietFunction p G (IsApart d.contract.forms (calls_public d.before p))
+  calls_quiet : (p : Principal) (x : List ℕ) (d : DoesNotWrite costs W p x) (G : Context) → G.principal ≡ p → G.deployed ≡ d.text.before → CallsAreQuiet W IsQuietFunction p G (IsApart d.text.contract.forms (calls_public d.text.before p))
   calls_quiet p x d G home deployed = record {
     natives = λ y es apart. apart.natives;
     functions = λ y es apart. quiet_one p y (another y apart.functions);
@@ -289,10 +294,10 @@ module _ (costs : CostTable) (W : Deployed) where
     across = across_quiet p x d G home deployed;
   }
     where
-      another : (y : List ℕ) → (Writes d.contract.forms (calls_public d.before p) y → ⊥) → DoesNotWrite costs W p y
-      another y h = record { before = d.before; contract = d.contract; known = d.known; earlier = d.earlier; of_text = d.of_text; there = d.there; home = d.home; apart = h }
+      another : (y : List ℕ) → (Writes d.text.contract.forms (calls_public d.text.before p) y → ⊥) → DoesNotWrite costs W p y
+      another y h = record { text = d.text; apart = h }
 
-      uses : (y : List ℕ) (es : Forest) → IsApart d.contract.forms (calls_public d.before p) (record { operator = y; parts = es }) → is_one_of applying_natives y ≡ true → IsQuietUse W IsQuietFunction p es
+      uses : (y : List ℕ) (es : Forest) → IsApart d.text.contract.forms (calls_public d.text.before p) (record { operator = y; parts = es }) → is_one_of applying_natives y ≡ true → IsQuietUse W IsQuietFunction p es
       uses y (Then (LeafAt (Named g) at) es) apart applies = quiet_one p g (another g (apart.uses g at es refl applies))
       uses y es apart applies = tt
 
@@ -300,9 +305,9 @@ module _ (costs : CostTable) (W : Deployed) where
   pub bodies_quiet : (p : Principal) (f : Function) → IsQuietFunction p f → IsQuiet W IsQuietFunction p f.body
   bodies_quiet p f q =
       let d = q.apart in
-      let b = body_typed costs d.before d.contract d.known d.of_text f.name f q.there in
-      let is = function_there f.name d.contract.forms f q.there in
-      let form = form_there f.name d.contract.forms (FunctionForm f.access f.params f.body) is.form in
-      let none : WritesIn d.contract.forms (calls_public d.before p) f.body → ⊥ = λ w. d.apart (has_writing_body (record { form = form.form; access = f.access; params = f.params; there = form.there; named = form.named; function = form.is }) w) in
-      typed_quiet W IsQuietFunction p b.context (IsApart d.contract.forms (calls_public d.before p)) (calls_quiet p f.name d b.context (b.principal ∙ d.home) b.deployed) b.typed
-      (all_apart (IsApart d.contract.forms (calls_public d.before p)) (calls_in f.body) (call_apart d.contract.forms (calls_public d.before p) f.body none))
+      let b = body_typed costs d.text.before d.text.contract d.text.known d.text.of_text f.name f q.there in
+      let is = function_there f.name d.text.contract.forms f q.there in
+      let form = form_there f.name d.text.contract.forms (FunctionForm f.access f.params f.body) is.form in
+      let none : WritesIn d.text.contract.forms (calls_public d.text.before p) f.body → ⊥ = λ w. d.apart (has_writing_body (record { form = form.form; access = f.access; params = f.params; there = form.there; named = form.named; function = form.is }) w) in
+      typed_quiet W IsQuietFunction p b.context (IsApart d.text.contract.forms (calls_public d.text.before p)) (calls_quiet p f.name d b.context (b.principal ∙ d.text.home) b.deployed) b.typed
+      (all_apart (IsApart d.text.contract.forms (calls_public d.text.before p)) (calls_in f.body) (call_apart d.text.contract.forms (calls_public d.text.before p) f.body none))

@@ -20,9 +20,8 @@ use Rattle.cl_tx.specs.Step.{Steps}
 use Rattle.cl_node_sound.specs.Sound.{IsSoundNode, HasParts}
 use Rattle.cl_readonly_sound.specs.Untouched.{ArePrints, IsUntouched}
 
--- At this principal a contract is deployed that stands for an accepted text, and the function of this name isn't among those that
--- write, with the contracts that were deployed before.
-pub record DoesNotWrite (costs : CostTable) (W : Deployed) (p : Principal) (x : List ℕ) : Type 0 where
+-- At this principal a contract is deployed that stands for a text, which was accepted after these contracts.
+pub record StandsForText (costs : CostTable) (W : Deployed) (p : Principal) : Type 0 where
   pub before : List Known
   pub contract : Contract
   pub known : Known
@@ -30,7 +29,16 @@ pub record DoesNotWrite (costs : CostTable) (W : Deployed) (p : Principal) (x : 
   pub of_text : IsOfText costs before contract known
   pub there : contract_at p W ≡ Some contract
   pub home : contract.principal ≡ p
-  pub apart : Writes contract.forms (calls_public before p) x → ⊥
+
+-- and each deployed contract does
+abbrev pub ContractsStandForTexts : Type 0
+ContractsStandForTexts =
+    (costs : CostTable) (W : Deployed) (ks : List Known) → AreContracts costs W ks → (p : Principal) → IsPrincipal p → (c : Contract) → contract_at p W ≡ Some c → StandsForText costs W p
+
+-- the function of this name isn't among those of the contract that write
+pub record DoesNotWrite (costs : CostTable) (W : Deployed) (p : Principal) (x : List ℕ) : Type 0 where
+  pub text : StandsForText costs W p
+  pub apart : Writes text.contract.forms (calls_public text.before p) x → ⊥
 
 -- a call of the function, in any frame of the contract, with any values and in any state, whatever it comes to
 abbrev pub CallsLeaveStates : Type 0

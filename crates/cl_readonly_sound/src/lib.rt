@@ -1,12 +1,14 @@
 //! Functions that don't write leave the state as it is. Each function here is a law, and does nothing.
 #![tactic(auto)]
 
-ghost use Rattle.cl_readonly_sound.specs.Laws.{CallsLeaveStates, ReadOnlyDoNotWrite, ReadOnlyLeaveStates, CallsKeepNodes, CallsHandOutPrints, ReadOnlyKeepNodes};
+ghost use Rattle.cl_readonly_sound.specs.Laws.{ContractsStandForTexts, CallsLeaveStates, ReadOnlyDoNotWrite, ReadOnlyLeaveStates, CallsKeepNodes, CallsHandOutPrints, ReadOnlyKeepNodes};
 
-/// A call of a function of a deployed contract that isn't among those that write leaves variables, map entries, tokens, STX
-/// and moves as they are, and what it tells is printed: in any frame of its contract, with any values and in any state, also
-/// where it aborts. A read-only function isn't among them, since no text with one that writes is accepted.
+/// Each deployed contract stands for a text that was accepted after those before it, and by these it is told which of its
+/// functions write. A call of one that doesn't leaves variables, map entries, tokens, STX and moves as they are, and what it
+/// tells is printed: in any frame of its contract, with any values and in any state, also where it aborts. A read-only
+/// function doesn't write, since no text with one that does is accepted.
 pub fn calls_without_writes_leave_the_state()
+    ensures texts { ContractsStandForTexts }
     ensures calls { CallsLeaveStates }
     ensures none_writes { ReadOnlyDoNotWrite }
     ensures read_only { ReadOnlyLeaveStates }
