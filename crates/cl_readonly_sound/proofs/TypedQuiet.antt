@@ -4,6 +4,7 @@ use Rattle.std.specs.Prelude.{codes, is_some, not, nat_eq, ◌||◌}
 use Rattle.std.specs.List.{list_any}
 use Rattle.cl_types.specs.Types.{PlainType, OptionalType, ResponseType}
 use Rattle.cl_c32.specs.declared.principal.Principal.{Principal}
+use Rattle.cl_sexpr.specs.declared.sexpr.Span.{Span}
 use Rattle.cl_sexpr.specs.Tree.{Tree, LeafAt, ListAt, TupleAt, Named, Forest, Empty, Then, Pairs, NoPair, Pair}
 use Rattle.cl_forms.specs.declared.head.TokenNative.TheVariants.{MintFt, BurnFt, SendFt, MintNft, BurnNft, SendNft, SendStx, BurnStx}
 use Rattle.cl_forms.specs.declared.head.Head.{Head}
@@ -72,20 +73,29 @@ module _ (W : Deployed) (Q : Principal → Function → Type 0) (p : Principal) 
   abbrev IsMatchQuiet : Names → List Tree → Type 0
   IsMatchQuiet B es = (fs : List Found) → shape_rules (match_shape (row_of Match) G B es).faults ≡ [] → type_rules ((match_shape (row_of Match) G B es).verdict fs).faults ≡ [] → PlanQuiet W Q p G Apart (match_plan B es) fs → EachCalls Apart es → AllQuiet W Q p es
 
-  match_four : (B : Names) (i x a b : Tree) → IsMatchQuiet B (i ∷ x ∷ a ∷ b ∷ [])
-  match_four B i (LeafAt (Named x) at) a b [] rules types q h = absurd q
-  match_four B i (LeafAt (Named x) at) a b (f ∷ fs) rules types q h =
+  four_named : (B : Names) (i : Tree) (x : List ℕ) (at : Span) (a b : Tree) → IsMatchQuiet B (i ∷ LeafAt (Named x) at ∷ a ∷ b ∷ [])
+  four_named B i x at a b [] rules types q h = absurd q
+  four_named B i x at a b (f ∷ fs) rules types q h =
       let both = optional_quiet B x a b _ f f.type refl fs q.1 types h.1.1.0 h.1.1.1.0 in
       (q.0 h.0, (tt, (both.0, (both.1, tt))))
-  match_four B i x a b fs rules types q h = let bad = (fine_shape (match_shape (row_of Match) G B (i ∷ x ∷ a ∷ b ∷ [])).faults rules).bad_binding in absurd cc
 
-  match_five : (B : Names) (i x a y b : Tree) → IsMatchQuiet B (i ∷ x ∷ a ∷ y ∷ b ∷ [])
-  match_five B i (LeafAt (Named x) at) a (LeafAt (Named y) at') b [] rules types q h = absurd q
-  match_five B i (LeafAt (Named x) at) a (LeafAt (Named y) at') b (f ∷ fs) rules types q h =
+  match_four : (B : Names) (i x a b : Tree) → IsMatchQuiet B (i ∷ x ∷ a ∷ b ∷ [])
+  match_four B i (LeafAt (Named x) at) a b = four_named B i x at a b
+  match_four B i x a b = λ fs rules types q h. let bad = (fine_shape (match_shape (row_of Match) G B (i ∷ x ∷ a ∷ b ∷ [])).faults rules).bad_binding in absurd cc
+
+  five_named : (B : Names) (i : Tree) (x : List ℕ) (at : Span) (a : Tree) (y : List ℕ) (at' : Span) (b : Tree) → IsMatchQuiet B (i ∷ LeafAt (Named x) at ∷ a ∷ LeafAt (Named y) at' ∷ b ∷ [])
+  five_named B i x at a y at' b [] rules types q h = absurd q
+  five_named B i x at a y at' b (f ∷ fs) rules types q h =
       let both = response_quiet B x a y b _ f f.type refl fs q.1 types h.1.1.0 h.1.1.1.1.0 in
       (q.0 h.0, (tt, (both.0, (tt, (both.1, tt)))))
-  match_five B i (LeafAt (Named x) at) a y b fs rules types q h = let bad = (fine_shape (match_shape (row_of Match) G B (i ∷ LeafAt (Named x) at ∷ a ∷ y ∷ b ∷ [])).faults rules).bad_binding in absurd cc
-  match_five B i x a y b fs rules types q h = let bad = (fine_shape (match_shape (row_of Match) G B (i ∷ x ∷ a ∷ y ∷ b ∷ [])).faults rules).bad_binding in absurd cc
+
+  five_second : (B : Names) (i : Tree) (x : List ℕ) (at : Span) (a y b : Tree) → IsMatchQuiet B (i ∷ LeafAt (Named x) at ∷ a ∷ y ∷ b ∷ [])
+  five_second B i x at a (LeafAt (Named y) at') b = five_named B i x at a y at' b
+  five_second B i x at a y b = λ fs rules types q h. let bad = (fine_shape (match_shape (row_of Match) G B (i ∷ LeafAt (Named x) at ∷ a ∷ y ∷ b ∷ [])).faults rules).bad_binding in absurd cc
+
+  match_five : (B : Names) (i x a y b : Tree) → IsMatchQuiet B (i ∷ x ∷ a ∷ y ∷ b ∷ [])
+  match_five B i (LeafAt (Named x) at) a y b = five_second B i x at a y b
+  match_five B i x a y b = λ fs rules types q h. let bad = (fine_shape (match_shape (row_of Match) G B (i ∷ x ∷ a ∷ y ∷ b ∷ [])).faults rules).bad_binding in absurd cc
 
   match_quiet : (B : Names) (es : List Tree) → IsMatchQuiet B es
   match_quiet B es fs rules = four_or_five (IsMatchQuiet B) (match_four B) (match_five B) es (either_count (length es) (fine_shape (match_shape (row_of Match) G B es).faults rules).argument_count) fs rules
