@@ -54,12 +54,18 @@ either_count n h = by (nat_eq n 4) (nat_eq n 5) refl refl (not_false (nat_eq n 4
 module _ (W : Deployed) (Q : Principal → Function → Type 0) (p : Principal) (G : Context) (Apart : Call → Type 0) where
   -- ---- match
 
+  not_optional : (own : Bound) (f fb : Found) → type_rules (match_verdict true own (f ∷ fb ∷ [])).faults ≡ [] → ⊥
+  not_optional own f fb types = cc
+
+  not_response : (own : Bound) (f : Found) → type_rules (match_verdict false own (f ∷ [])).faults ≡ [] → ⊥
+  not_response own f types = cc
+
   -- the branches of an optional: where the input is none, the verdict breaks a rule
   optional_quiet : (B : Names) (x : List ℕ) (a b : Tree) (own : Bound) (f : Found) (t : PlainType) → f.type ≡ t → (fs : List Found) → PlanQuiet W Q p G Apart (optional_plan B x a b t) fs → type_rules (match_verdict true own (f ∷ fs)).faults ≡ [] → AllCalls Apart (calls_in a) → AllCalls Apart (calls_in b) → IsQuiet W Q p a × IsQuiet W Q p b
   optional_quiet B x a b own f (OptionalType t) is (fa ∷ fb ∷ fs) q types h k = (q.0 h, q.1.0 k)
   optional_quiet B x a b own f (OptionalType t) is (fa ∷ []) q types h k = absurd q.1
   optional_quiet B x a b own f (OptionalType t) is [] q types h k = absurd q
-  optional_quiet B x a b own f t is (fb ∷ []) q types h k = absurd cc
+  optional_quiet B x a b own f t is (fb ∷ []) q types h k = absurd (not_optional own f fb types)
   optional_quiet B x a b own f t is (fb ∷ fc ∷ fs) q types h k = absurd q.1
   optional_quiet B x a b own f t is [] q types h k = absurd q
 
@@ -67,7 +73,7 @@ module _ (W : Deployed) (Q : Principal → Function → Type 0) (p : Principal) 
   response_quiet B x a y b own f (ResponseType t u) is (fa ∷ fb ∷ fs) q types h k = (q.0 h, q.1.0 k)
   response_quiet B x a y b own f (ResponseType t u) is (fa ∷ []) q types h k = absurd q.1
   response_quiet B x a y b own f (ResponseType t u) is [] q types h k = absurd q
-  response_quiet B x a y b own f t is [] q types h k = absurd cc
+  response_quiet B x a y b own f t is [] q types h k = absurd (not_response own f types)
   response_quiet B x a y b own f t is (fb ∷ fs) q types h k = absurd q
 
   abbrev IsMatchQuiet : Names → List Tree → Type 0
