@@ -11,9 +11,9 @@ use Rattle.cl_maps.specs.Maps.{get}
 use Rattle.cl_maps.proofs.MapLaws.{same_keys}
 use Rattle.cl_events.specs.State.{State, holder, is_principal}
 use Rattle.cl_meaning.specs.Deployed.{Contract, Deployed, contract_at}
-use Rattle.cl_check.specs.Taken.{Definitions}
-use Rattle.cl_check.proofs.Options.{same_in, either}
-use Rattle.cl_sound.specs.Sound.{Fit, Holds}
+use Rattle.cl_int_check.specs.Taken.{Definitions}
+use Rattle.cl_int_check.proofs.Options.{same_in, either}
+use Rattle.cl_int_sound.specs.Sound.{Fit, Holds}
 use Rattle.cl_tx.specs.Step.{first_misfit}
 
 -- the variables are found by the wire form of the principal alone

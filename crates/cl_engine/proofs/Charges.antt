@@ -18,11 +18,11 @@ use Rattle.cl_meaning.proofs.Prefixes.{IsPaid, paid_is}
 use Rattle.cl_meaning.proofs.Stops.{spent_after-append}
 use Rattle.cl_rules.specs.Context.{Known}
 use Rattle.cl_rules.specs.Acceptance.{Accepted, known_of}
-use Rattle.cl_check.specs.Taken.{Definitions, taken_all, no_definitions, IsTaken, IsNotYet}
-use Rattle.cl_check.proofs.Options.{same_in}
-use Rattle.cl_sound.specs.Sound.{Follows}
-use Rattle.cl_sound.specs.Laws.{IsDeployed, TakenDeployments, IsFineUnder, DeploymentsUnderLimits}
-use Rattle.cl_sound.proofs.Costs.{same_cost, at_most, and_more, turned, and_nothing}
+use Rattle.cl_int_check.specs.Taken.{Definitions, taken_all, no_definitions, IsTaken, IsNotYet}
+use Rattle.cl_int_check.proofs.Options.{same_in}
+use Rattle.cl_int_sound.specs.Sound.{Follows}
+use Rattle.cl_int_sound.specs.Laws.{IsDeployed, TakenDeployments, IsFineUnder, DeploymentsUnderLimits}
+use Rattle.cl_int_sound.proofs.Costs.{same_cost, at_most, and_more, turned, and_nothing}
 use Rattle.cl_tx.specs.declared.entry.Common.{Common}
 use Rattle.cl_tx.specs.declared.outcome.EntryRefusal.{EntryRefusal}
 use Rattle.cl_tx.specs.Nodes.{NodeSeen, Stepped, Told, frame_of, no_limit, refused, answered, call_ended, deployment_ended}

@@ -7,20 +7,20 @@ use Rattle.cl_shapes.specs.Names.{unit_function}
 use Rattle.cl_sexpr.specs.declared.rule.Rule.{Rule}
 use Rattle.cl_sexpr.specs.declared.rule.Rule.TheVariants.{NotYet}
 use Rattle.cl_sexpr.specs.declared.sexpr.Span.{Span}
-use Rattle.cl_code.specs.Definitions.{form_defined}
+use Rattle.cl_int_code.specs.Definitions.{form_defined}
 use Rattle.cl_forms.specs.Forms.{Form}
 use Rattle.cl_events.specs.State.{State, at_rest}
 use Rattle.cl_meaning.specs.Deployed.{Contract}
 use Rattle.cl_meaning.specs.Deploying.{deployment}
 use Rattle.cl_meaning.specs.Limits.{Limited, Gave, limited}
 use Rattle.cl_meaning.specs.Scope.{Frame}
-use Rattle.cl_eval.specs.Deploys.{contract_of as contract_made}
+use Rattle.cl_int_eval.specs.Deploys.{contract_of as contract_made}
 use Rattle.cl_rules.specs.Acceptance.{known_of, unordered}
 use Rattle.cl_rules.specs.Context.{Known, known_at}
 use Rattle.cl_rules.specs.Laws.{OneOrder, OrderedIsClean}
-use Rattle.cl_check.specs.Laws.{IsAcceptedAs, TakenIsAccepted, TakenOrNot}
-use Rattle.cl_check.specs.Refusal.{IsRefusedBy, broken, not_yet}
-use Rattle.cl_check.specs.Taken.{Definitions, IsTaken, IsNotYet}
+use Rattle.cl_int_check.specs.Laws.{IsAcceptedAs, TakenIsAccepted, TakenOrNot}
+use Rattle.cl_int_check.specs.Refusal.{IsRefusedBy, broken, not_yet}
+use Rattle.cl_int_check.specs.Taken.{Definitions, IsTaken, IsNotYet}
 use Rattle.cl_tx.specs.declared.entry.Common.{Common}
 use Rattle.cl_tx.specs.declared.entry.Entry.TheVariants.{Deploy}
 use Rattle.cl_tx.specs.declared.outcome.EntryRefusal.TheVariants.{NameTaken, ContractRefused}

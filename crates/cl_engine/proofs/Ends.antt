@@ -15,9 +15,9 @@ use Rattle.cl_meaning.specs.Deployed.{Deployed, Function, function_in}
 use Rattle.cl_meaning.specs.Limits.{Costs, Limited, limited}
 use Rattle.cl_meaning.specs.Scope.{Frame}
 use Rattle.cl_meaning.specs.Top.{call_from}
-use Rattle.cl_eval.specs.declared.abort.Abort.{Abort}
-use Rattle.cl_eval.specs.declared.abort.Abort.TheVariants.{Overflow, Underflow, DivideByZero, NegativeArgument, CostLimit, Stuck}
-use Rattle.cl_eval.specs.Aborts.{AbortsBy, Answers}
+use Rattle.cl_int_eval.specs.declared.abort.Abort.{Abort}
+use Rattle.cl_int_eval.specs.declared.abort.Abort.TheVariants.{Overflow, Underflow, DivideByZero, NegativeArgument, CostLimit, Stuck}
+use Rattle.cl_int_eval.specs.Aborts.{AbortsBy, Answers}
 use Rattle.cl_tx.specs.declared.outcome.Stop.{Stop}
 use Rattle.cl_tx.specs.declared.outcome.Stop.TheVariants as stops
 use Rattle.cl_tx.specs.declared.outcome.Outcome.TheVariants.{Aborted}

@@ -18,15 +18,15 @@ use Rattle.cl_meaning.specs.Deployed.{Contract, Deployed, function_in}
 use Rattle.cl_meaning.specs.Deploying.{deployment, in_order, forms_by}
 use Rattle.cl_meaning.specs.Limits.{Costs, Limited, Gave, AbortedBy, Passed, Lost, limited}
 use Rattle.cl_meaning.specs.Scope.{Frame}
-use Rattle.cl_eval.specs.declared.abort.Abort.{Abort}
-use Rattle.cl_eval.specs.declared.abort.Abort.TheVariants as abort
-use Rattle.cl_eval.specs.Aborts.{AbortsBy}
-use Rattle.cl_eval.specs.Deploys.{Ordered, Defines, contract_of}
+use Rattle.cl_int_eval.specs.declared.abort.Abort.{Abort}
+use Rattle.cl_int_eval.specs.declared.abort.Abort.TheVariants as abort
+use Rattle.cl_int_eval.specs.Aborts.{AbortsBy}
+use Rattle.cl_int_eval.specs.Deploys.{Ordered, Defines, contract_of}
 use Rattle.cl_rules.specs.Context.{Known}
-use Rattle.cl_check.specs.Laws.{TakenInOrder}
-use Rattle.cl_check.specs.Taken.{Definitions, IsTaken}
-use Rattle.cl_sound.specs.Laws.{TakenDeployments, DeploymentsUnderLimits, IsFineUnder}
-use Rattle.cl_sound.specs.Sound.{Follows}
+use Rattle.cl_int_check.specs.Laws.{TakenInOrder}
+use Rattle.cl_int_check.specs.Taken.{Definitions, IsTaken}
+use Rattle.cl_int_sound.specs.Laws.{TakenDeployments, DeploymentsUnderLimits, IsFineUnder}
+use Rattle.cl_int_sound.specs.Sound.{Follows}
 use Rattle.cl_tx.specs.declared.outcome.Stop.{Stop}
 use Rattle.cl_tx.specs.Nodes.{NodeSeen, Told, deployment_ended, aborted, no_limit}
 use Rattle.cl_engine.specs.Calls.{stop_by, cost_by, IsStuck}

@@ -22,10 +22,10 @@ use Rattle.cl_values.specs.Typed.{IsOf}
 use Rattle.cl_meaning.specs.Limits.{Limited, Gave, Threw, AbortedBy, Passed, Lost, limited}
 use Rattle.cl_meaning.specs.Scope.{Frame}
 use Rattle.cl_meaning.specs.Top.{call_from}
-use Rattle.cl_check.specs.Taken.{Definitions}
-use Rattle.cl_eval.specs.Seen.{Serves}
-use Rattle.cl_sound.specs.Sound.{Fit, Holds, Follows, IsSound as IsSoundAnswer}
-use Rattle.cl_sound.specs.Laws.{GivesInts, IsDefined, TakenFunctions, TakenCalls, StandsAt, IsFineUnder, CallsUnderLimits}
+use Rattle.cl_int_check.specs.Taken.{Definitions}
+use Rattle.cl_int_eval.specs.Seen.{Serves}
+use Rattle.cl_int_sound.specs.Sound.{Fit, Holds, Follows, IsSound as IsSoundAnswer}
+use Rattle.cl_int_sound.specs.Laws.{GivesInts, IsDefined, TakenFunctions, TakenCalls, StandsAt, IsFineUnder, CallsUnderLimits}
 use Rattle.cl_tx.specs.Nodes.{no_limit}
 use Rattle.cl_tx.specs.Step.{first_misfit}
 use Rattle.cl_engine.specs.Seen.{Seen}

@@ -17,10 +17,10 @@ use Rattle.cl_meaning.specs.Deployed.{Contract, Deployed, Function, contract_at,
 use Rattle.cl_values.specs.Typed.{IsOf}
 use Rattle.cl_meaning.specs.Limits.{Limited, Gave, Threw, AbortedBy, Passed, Lost}
 use Rattle.cl_rules.specs.Context.{Known, known_at}
-use Rattle.cl_check.specs.Taken.{Definitions, IsTaken, IsNotYet}
-use Rattle.cl_check.proofs.Options.{same_in}
-use Rattle.cl_sound.specs.Sound.{Holds, Follows}
-use Rattle.cl_sound.specs.Laws.{TakenFunctions, TakenCalls, TakenDeployments, OthersHold, IsFineUnder, CallsUnderLimits, DeploymentsUnderLimits}
+use Rattle.cl_int_check.specs.Taken.{Definitions, IsTaken, IsNotYet}
+use Rattle.cl_int_check.proofs.Options.{same_in}
+use Rattle.cl_int_sound.specs.Sound.{Holds, Follows}
+use Rattle.cl_int_sound.specs.Laws.{TakenFunctions, TakenCalls, TakenDeployments, OthersHold, IsFineUnder, CallsUnderLimits, DeploymentsUnderLimits}
 use Rattle.cl_tx.specs.declared.entry.Common.{Common}
 use Rattle.cl_tx.specs.declared.entry.Entry.{Entry}
 use Rattle.cl_tx.specs.declared.entry.Entry.TheVariants.{Deploy, Call}

@@ -2,7 +2,7 @@
 use Rattle.std.proofs.Common.{◌≡◌, ℕ, List, length, Option, Some, None, refl}
 use Rattle.cl_forms.specs.Forms.{Form}
 use Rattle.cl_rules.specs.Acceptance.{Ordered}
-use Rattle.cl_check.specs.Taken.{Definitions, no_definitions, taken_all, IsTaken, IsNotYet}
+use Rattle.cl_int_check.specs.Taken.{Definitions, no_definitions, taken_all, IsTaken, IsNotYet}
 
 -- these forms of a text are taken, and define something
 pub record AreTaken (text : List ℕ) (forms : List Form) : Type 0 where

@@ -16,17 +16,17 @@ use Rattle.cl_rules.specs.Context.{Bound, Known, Signature, signature_in}
 use Rattle.cl_rules.specs.FormRules.{Defined, nothing_defined}
 use Rattle.cl_rules.specs.Acceptance.{bound_at, bound_by}
 use Rattle.cl_rules.specs.Laws.{OneDefined, OneOrder}
-use Rattle.cl_check.specs.declared.scope.Callee.{Callee}
-use Rattle.cl_check.specs.Taken.{Definitions, callee_in, application, with_kind, with_name, taken_all, no_definitions, IsTaken}
-use Rattle.cl_check.specs.Agreement.{Agrees}
-use Rattle.cl_check.specs.Laws.{TakenIsAccepted}
-use Rattle.cl_check.proofs.Options.{same_in, then_some}
-use Rattle.cl_check.proofs.TypedInts.{AllSound, met}
-use Rattle.cl_check.proofs.Forms.{forms_added}
-use Rattle.cl_check.proofs.Named.{AreNamed}
-use Rattle.cl_check.proofs.Adding.{named_of}
-use Rattle.cl_sound.proofs.Scopes.{IsPart}
-use Rattle.cl_sound.proofs.Made.{AreNew, function_taken, variable_taken, forms_part}
+use Rattle.cl_int_check.specs.declared.scope.Callee.{Callee}
+use Rattle.cl_int_check.specs.Taken.{Definitions, callee_in, application, with_kind, with_name, taken_all, no_definitions, IsTaken}
+use Rattle.cl_int_check.specs.Agreement.{Agrees}
+use Rattle.cl_int_check.specs.Laws.{TakenIsAccepted}
+use Rattle.cl_int_check.proofs.Options.{same_in, then_some}
+use Rattle.cl_int_check.proofs.TypedInts.{AllSound, met}
+use Rattle.cl_int_check.proofs.Forms.{forms_added}
+use Rattle.cl_int_check.proofs.Named.{AreNamed}
+use Rattle.cl_int_check.proofs.Adding.{named_of}
+use Rattle.cl_int_sound.proofs.Scopes.{IsPart}
+use Rattle.cl_int_sound.proofs.Made.{AreNew, function_taken, variable_taken, forms_part}
 use Rattle.cl_tx.specs.Step.{bound_line, return_by, return_of, told_of}
 use Rattle.cl_engine.specs.Told.{told_taken}
 use Rattle.cl_engine.specs.Laws.{TakenTells}

@@ -20,11 +20,11 @@ use Rattle.cl_meaning.specs.Limits.{limited}
 use Rattle.cl_meaning.specs.Scope.{Frame}
 use Rattle.cl_meaning.specs.Top.{call_from}
 use Rattle.cl_rules.specs.Context.{Known, known_at, same_principal, same_part}
-use Rattle.cl_check.specs.declared.scope.Callee.{Callee}
-use Rattle.cl_check.specs.Taken.{Definitions, callee_in, taken_all, no_definitions}
-use Rattle.cl_check.proofs.Options.{same_in}
-use Rattle.cl_sound.specs.Laws.{TakenFunctions, TakenCalls, TakenDeployments, DeploymentsUnderLimits}
-use Rattle.cl_sound.proofs.Costs.{at_most}
+use Rattle.cl_int_check.specs.declared.scope.Callee.{Callee}
+use Rattle.cl_int_check.specs.Taken.{Definitions, callee_in, taken_all, no_definitions}
+use Rattle.cl_int_check.proofs.Options.{same_in}
+use Rattle.cl_int_sound.specs.Laws.{TakenFunctions, TakenCalls, TakenDeployments, DeploymentsUnderLimits}
+use Rattle.cl_int_sound.proofs.Costs.{at_most}
 use Rattle.cl_tx.specs.declared.entry.Common.{Common}
 use Rattle.cl_tx.specs.declared.entry.Entry.{Entry}
 use Rattle.cl_tx.specs.declared.entry.Entry.TheVariants.{Deploy, Call}

@@ -16,9 +16,9 @@ use Rattle.cl_meaning.specs.Deployed.{Contract, Deployed, Function, contract_at,
 use Rattle.cl_meaning.specs.Scope.{Frame}
 use Rattle.cl_meaning.specs.Top.{call_from}
 use Rattle.cl_meaning.specs.Limits.{Limited, Gave, Threw, AbortedBy, Passed, Lost, limited}
-use Rattle.cl_eval.specs.Seen.{Serves}
-use Rattle.cl_eval.specs.declared.abort.Abort.{Abort}
-use Rattle.cl_eval.specs.declared.abort.Abort.TheVariants.{Overflow, Underflow, DivideByZero, NegativeArgument, CostLimit, Stuck}
+use Rattle.cl_int_eval.specs.Seen.{Serves}
+use Rattle.cl_int_eval.specs.declared.abort.Abort.{Abort}
+use Rattle.cl_int_eval.specs.declared.abort.Abort.TheVariants.{Overflow, Underflow, DivideByZero, NegativeArgument, CostLimit, Stuck}
 use Rattle.cl_tx.specs.declared.outcome.Stop.{Stop}
 use Rattle.cl_tx.specs.declared.outcome.Stop.TheVariants as stop
 use Rattle.cl_tx.specs.Nodes.{no_limit}

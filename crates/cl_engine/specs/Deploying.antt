@@ -12,7 +12,7 @@ use Rattle.cl_events.specs.State.{State, at_rest}
 use Rattle.cl_state.specs.Stack.{Stack}
 use Rattle.cl_meaning.specs.Deployed.{Contract}
 use Rattle.cl_meaning.specs.Limits.{Limited, Gave}
-use Rattle.cl_eval.specs.declared.abort.Abort.{Abort}
+use Rattle.cl_int_eval.specs.declared.abort.Abort.{Abort}
 use Rattle.cl_rules.specs.Context.{Known, same_principal}
 use Rattle.cl_tx.specs.declared.outcome.Stop.{Stop}
 use Rattle.cl_tx.specs.Nodes.{NodeSeen, Told, deployment_ended, aborted}

@@ -9,7 +9,7 @@ use Rattle.cl_values.specs.Tree.{Tree}
 use Rattle.cl_forms.specs.Forms.{Form}
 use Rattle.cl_rules.specs.Context.{Known}
 use Rattle.cl_rules.specs.Acceptance.{Accepted}
-use Rattle.cl_check.specs.Taken.{Definitions, IsTaken}
+use Rattle.cl_int_check.specs.Taken.{Definitions, IsTaken}
 use Rattle.cl_tx.specs.declared.entry.Common.{Common}
 use Rattle.cl_tx.specs.declared.entry.Entry.{Entry}
 use Rattle.cl_tx.specs.declared.entry.Entry.TheVariants.{Call}

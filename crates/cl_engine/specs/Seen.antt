@@ -1,7 +1,7 @@
 -- What contracts see of a node.
 use Rattle.std.specs.Prelude.{ℕ, List, map, []}
 use Rattle.cl_c32.specs.declared.principal.Principal.{Principal}
-use Rattle.cl_code.specs.Definitions.{form_defined}
+use Rattle.cl_int_code.specs.Definitions.{form_defined}
 use Rattle.cl_events.specs.State.{State}
 use Rattle.cl_meaning.specs.Deployed.{Contract, Deployed}
 use Rattle.cl_rules.specs.Context.{Known}

@@ -7,8 +7,8 @@ use Rattle.cl_events.specs.State.{State}
 use Rattle.cl_meaning.specs.Deployed.{Contract}
 use Rattle.cl_rules.specs.Context.{Known}
 use Rattle.cl_state.specs.Variables.{HasVariablesAlone}
-use Rattle.cl_check.specs.Taken.{Definitions, IsTaken}
-use Rattle.cl_sound.specs.Sound.{Holds}
+use Rattle.cl_int_check.specs.Taken.{Definitions, IsTaken}
+use Rattle.cl_int_sound.specs.Sound.{Holds}
 use Rattle.cl_tx.specs.declared.entry.Entry.{Entry}
 use Rattle.cl_tx.specs.declared.entry.Entry.TheVariants.{Deploy, Call}
 use Rattle.cl_tx.specs.Nodes.{NodeSeen, contract_of}

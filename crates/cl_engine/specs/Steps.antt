@@ -5,7 +5,7 @@ use Rattle.cl_shapes.specs.Names.{unit_function}
 use Rattle.cl_sexpr.specs.declared.rule.Rule.TheVariants.{NotYet}
 use Rattle.cl_rules.specs.Context.{Known, known_at}
 use Rattle.cl_rules.specs.Acceptance.{nowhere}
-use Rattle.cl_check.specs.Taken.{IsNotYet}
+use Rattle.cl_int_check.specs.Taken.{IsNotYet}
 use Rattle.cl_tx.specs.declared.entry.Entry.{Entry}
 use Rattle.cl_tx.specs.declared.entry.Entry.TheVariants.{Deploy, Call}
 use Rattle.cl_tx.specs.declared.outcome.EntryRefusal.{EntryRefusal}

@@ -11,7 +11,7 @@ use Rattle.cl_tx.specs.declared.entry.Entry.TheVariants.{Deploy, Call}
 use Rattle.cl_tx.specs.declared.outcome.Bounds.{Bounds}
 use Rattle.cl_tx.specs.declared.outcome.TxResult.{TxResult}
 use Rattle.cl_tx.specs.Nodes.{Told, contract_of}
-use Rattle.cl_check.specs.Taken.{Definitions}
+use Rattle.cl_int_check.specs.Taken.{Definitions}
 
 -- what is told of a taken text: the bound of its deployment, and of each function its bound and return type
 abbrev pub told_taken : Definitions → Told

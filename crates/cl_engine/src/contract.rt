@@ -1,5 +1,5 @@
 //! Deployed contracts.
-use cl_code::Definition;
+use cl_int_code::Definition;
 
 /// A deployed contract: its definitions, in the order of its text, and the length of the text in bytes.
 #[derive(Drop)]

@@ -4,7 +4,7 @@ ghost use Rattle.cl_shapes.specs.Limits.{Purse};
 ghost use Rattle.cl_values.specs.Tree.{Tree, ResponseV};
 ghost use Rattle.cl_events.specs.State.{State, at_rest};
 ghost use Rattle.cl_meaning.specs.Limits.{Limited};
-ghost use Rattle.cl_eval.specs.Aborts.{Answers};
+ghost use Rattle.cl_int_eval.specs.Aborts.{Answers};
 ghost use Rattle.cl_tx.specs.declared.outcome.Stop.{Stop};
 ghost use Rattle.cl_tx.specs.Laws.{IsKept};
 ghost use Rattle.cl_tx.specs.Nodes.{NodeSeen, nothing_told, result_of, answered, call_ended};
@@ -12,7 +12,7 @@ ghost use Rattle.cl_engine.specs.Calls.{EndsWell, MayAnswer, IsResponse, IsStuck
 
 use crate::layer;
 use crate::result::{cost_of, result_with, stop_of};
-use cl_eval::Abort;
+use cl_int_eval::Abort;
 use cl_shapes::Cost5;
 use cl_state::World;
 use cl_tx::{Outcome, TxResult};

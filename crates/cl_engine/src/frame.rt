@@ -1,10 +1,10 @@
 //! Where a sender's transaction is evaluated.
 ghost use Rattle.std.specs.Prelude.{◌≡◌};
-ghost use Rattle.cl_eval.specs.Seen.{frame_seen};
+ghost use Rattle.cl_int_eval.specs.Seen.{frame_seen};
 ghost use Rattle.cl_tx.specs.Nodes.{person};
 
 use cl_c32::Principal;
-use cl_eval::Frame;
+use cl_int_eval::Frame;
 use cl_tx::Common;
 
 /// The sender, who is no contract.

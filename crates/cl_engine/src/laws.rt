@@ -24,17 +24,17 @@ pub fn nodes_stay_sound()
     ensures step { SoundStay }
 {
     cl_tx::nodes_stay_nodes();
-    cl_sound::calls_are_sound();
-    cl_sound::deployments_are_sound();
-    cl_sound::others_still_hold_ints();
-    cl_sound::limits_leave_sound_answers();
+    cl_int_sound::calls_are_sound();
+    cl_int_sound::deployments_are_sound();
+    cl_int_sound::others_still_hold_ints();
+    cl_int_sound::limits_leave_sound_answers();
 }
 
 /// What is told of a taken text: the bounds and return types that its checker found.
 pub fn taken_texts_tell()
     ensures { TakenTells }
 {
-    cl_check::taken_texts_are_accepted();
+    cl_int_check::taken_texts_are_accepted();
     cl_rules::texts_have_one_answer();
     cl_rules::texts_have_one_order();
 }
@@ -48,9 +48,9 @@ pub fn costs_stay_within_bounds()
 {
     nodes_stay_sound();
     taken_texts_tell();
-    cl_sound::calls_are_sound();
-    cl_sound::deployments_are_sound();
-    cl_sound::limits_leave_sound_answers();
+    cl_int_sound::calls_are_sound();
+    cl_int_sound::deployments_are_sound();
+    cl_int_sound::limits_leave_sound_answers();
     cl_tx::bounds_are_told_where_accepted();
     cl_values::one_spelling();
 }

@@ -3,7 +3,7 @@ ghost use Rattle.std.specs.Prelude.{◌≡◌, ◌<◌, ◌^◌, length, Some, I
 ghost use Rattle.std.specs.Bool.{Decides};
 ghost use Rattle.cl_values.specs.Valid.{IsPrincipal};
 ghost use Rattle.cl_events.specs.State.{is_principal};
-ghost use Rattle.cl_eval.specs.Seen.{function_seen};
+ghost use Rattle.cl_int_eval.specs.Seen.{function_seen};
 ghost use Rattle.cl_c32.specs.declared.principal.Principal.{Principal};
 ghost use Rattle.cl_meaning.specs.Deployed.{contract_at};
 ghost use Rattle.cl_meaning.specs.Limits.{Costs};
@@ -15,7 +15,7 @@ ghost use Rattle.cl_engine.specs.Calls.{MayBeCalled};
 
 use crate::contract::Contract;
 use cl_c32::Principal;
-use cl_code::Function;
+use cl_int_code::Function;
 use cl_tx::EntryRefusal;
 use cl_types::{Access, Name, SizedTy};
 use cl_values::{Val, inhabits, one_spelling};

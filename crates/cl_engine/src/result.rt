@@ -3,7 +3,7 @@ ghost use Rattle.std.specs.Prelude.{◌≡◌, [], Option, Some, None};
 ghost use Rattle.cl_tx.specs.Nodes.{nothing_told, no_limit, result_of};
 ghost use Rattle.cl_engine.specs.Calls.{stop_by, cost_by, IsStuck};
 
-use cl_eval::Abort;
+use cl_int_eval::Abort;
 use cl_shapes::{Cost5, Meter};
 use cl_tx::{EntryRefusal, Outcome, Row, Stop, TxResult};
 use std::alloc::Global;

@@ -1,10 +1,10 @@
 //! What is told of a taken text.
 ghost use Rattle.std.specs.Prelude.{◌≡◌, map, IfOk};
-ghost use Rattle.cl_check.specs.Room.{definitions_of};
+ghost use Rattle.cl_int_check.specs.Room.{definitions_of};
 ghost use Rattle.cl_engine.specs.Told.{told_taken};
 ghost use Rattle.cl_engine.specs.Deploying.{told_seen};
 
-use cl_check::{Callee, Scope};
+use cl_int_check::{Callee, Scope};
 use cl_shapes::Cost5;
 use cl_tx::{Bounds, Row};
 use cl_types::{Name, NoMemory, SizedTy};

@@ -2,13 +2,13 @@ use Rattle.std.proofs.Common.{[], ◌∷◌, List, map, sym, ap, ◌∙◌}
 use Rattle.cl_shapes.specs.Names.{unit_function}
 use Rattle.cl_costs.specs.Tables.{function_of}
 use Rattle.cl_values.specs.Tree.{Tree}
-use Rattle.cl_code.specs.Definitions.{form_defined}
+use Rattle.cl_int_code.specs.Definitions.{form_defined}
 use Rattle.cl_events.specs.State.{State}
 use Rattle.cl_meaning.specs.Deployed.{Deployed}
 use Rattle.cl_meaning.specs.Limits.{Limited, limited}
 use Rattle.cl_meaning.specs.Top.{call_from}
-use Rattle.cl_eval.specs.Aborts.{Answers}
-use Rattle.cl_eval.specs.Seen.{frame_seen, function_seen}
+use Rattle.cl_int_eval.specs.Aborts.{Answers}
+use Rattle.cl_int_eval.specs.Seen.{frame_seen, function_seen}
 use Rattle.cl_state.specs.Stack.{Stack}
 use Rattle.cl_tx.specs.Nodes.{no_limit}
 use Rattle.cl_engine.specs.Calls.{IsReady}

@@ -1,12 +1,12 @@
 use Rattle.std.proofs.Common.{◌≡◌, List, map, None, Some, refl, sym, ap, subst, ◌∙◌}
 use Rattle.cl_shapes.specs.Names.{unit_function}
-use Rattle.cl_code.specs.declared.definition.Definition.{Definition}
-use Rattle.cl_code.specs.Definitions.{form_defined}
+use Rattle.cl_int_code.specs.declared.definition.Definition.{Definition}
+use Rattle.cl_int_code.specs.Definitions.{form_defined}
 use Rattle.cl_meaning.specs.Deployed.{Contract, contract_at, function_in}
 use Rattle.cl_meaning.specs.Limits.{limited}
 use Rattle.cl_meaning.specs.Scope.{Frame}
 use Rattle.cl_meaning.specs.Top.{call_from}
-use Rattle.cl_eval.specs.Seen.{frame_seen, function_seen}
+use Rattle.cl_int_eval.specs.Seen.{frame_seen, function_seen}
 use Rattle.cl_tx.specs.declared.outcome.TxResult.{TxResult}
 use Rattle.cl_tx.specs.Nodes.{NodeSeen, call_ended, no_limit, person}
 use Rattle.cl_engine.specs.Seen.{node_with, contract_seen, contracts_seen, seen}

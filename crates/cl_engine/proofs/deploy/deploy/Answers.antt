@@ -1,6 +1,6 @@
 use Rattle.std.proofs.Common.{[], None, sym, ap, subst, ◌∙◌}
 use Rattle.cl_types.specs.Fault.{IsRefusal}
-use Rattle.cl_check.specs.Refusal.{IsRefusedBy}
+use Rattle.cl_int_check.specs.Refusal.{IsRefusedBy}
 use Rattle.cl_tx.specs.Seen.{SourceBreak}
 use Rattle.cl_tx.specs.Nodes.{contract_of, nothing_told, result_of}
 use Rattle.cl_tx.specs.declared.outcome.EntryRefusal.TheVariants.{ContractRefused}

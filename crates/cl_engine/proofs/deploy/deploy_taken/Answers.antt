@@ -1,7 +1,7 @@
 use Rattle.std.proofs.Common.{[], ◌∷◌, ◌++◌, length, map, ap, ◌∙◌}
-use Rattle.cl_code.specs.Definitions.{form_defined}
-use Rattle.cl_check.specs.Room.{definitions_of}
-use Rattle.cl_eval.specs.Seen.{frame_seen}
+use Rattle.cl_int_code.specs.Definitions.{form_defined}
+use Rattle.cl_int_check.specs.Room.{definitions_of}
+use Rattle.cl_int_eval.specs.Seen.{frame_seen}
 use Rattle.cl_tx.specs.Nodes.{contract_of, frame_of}
 use Rattle.cl_tx.specs.Step.{contract_with}
 use Rattle.cl_engine.specs.declared.contract.Contract.{Contract}

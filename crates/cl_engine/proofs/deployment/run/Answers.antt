@@ -1,9 +1,9 @@
 use Rattle.std.proofs.Common.{[], ◌∷◌, length, map, refl, sym, ap, subst, ◌∙◌}
 use Rattle.cl_costs.specs.Tables.{function_of}
-use Rattle.cl_code.specs.Definitions.{form_defined}
-use Rattle.cl_check.specs.Room.{definitions_of}
-use Rattle.cl_eval.specs.Deploys.{Ordered}
-use Rattle.cl_eval.specs.Seen.{frame_seen}
+use Rattle.cl_int_code.specs.Definitions.{form_defined}
+use Rattle.cl_int_check.specs.Room.{definitions_of}
+use Rattle.cl_int_eval.specs.Deploys.{Ordered}
+use Rattle.cl_int_eval.specs.Seen.{frame_seen}
 use Rattle.cl_state.specs.Stack.{Stack}
 use Rattle.cl_engine.proofs.Evaluated.{in_turn, may_end, all_come, shown}
 use Rattle.cl_engine.proofs.Units.{unit_costs}

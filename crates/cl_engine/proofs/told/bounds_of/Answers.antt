@@ -1,6 +1,6 @@
 use Rattle.std.proofs.Common.{ℕ, List, map, arith, ap, ◌∙◌}
 use Rattle.std.proofs.lemmas.List.{take_all}
-use Rattle.cl_check.specs.declared.scope.Callee.{Callee}
+use Rattle.cl_int_check.specs.declared.scope.Callee.{Callee}
 use Rattle.cl_engine.proofs.Rows.{one_more}
 use Rattle.cl_engine.proofs.told.bounds_of.Goals as goal
 

@@ -1,7 +1,7 @@
 use Rattle.std.proofs.Common.{ℕ, List, [], ◌∷◌, ◌++◌, map, arith, ap, ◌∙◌}
 use Rattle.std.proofs.lemmas.List.{take_all}
 use Rattle.cl_types.specs.Types.{PlainType}
-use Rattle.cl_check.specs.declared.scope.Callee.{Callee}
+use Rattle.cl_int_check.specs.declared.scope.Callee.{Callee}
 use Rattle.cl_engine.proofs.Rows.{one_more}
 use Rattle.cl_engine.proofs.told.types_of.Goals as goal
 

@@ -1,5 +1,5 @@
 use Rattle.std.proofs.Common.{◌≡◌, ℕ, ◌≤◌, ◌-◌, List, map, take}
-use Rattle.cl_check.specs.declared.scope.Callee.{Callee}
+use Rattle.cl_int_check.specs.declared.scope.Callee.{Callee}
 use Rattle.cl_engine.proofs.told.types_of.Given as goal
 
 abbrev pub invariant-loop-i : goal.invariant-loop-i
