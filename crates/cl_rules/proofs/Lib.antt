@@ -14,3 +14,4 @@ mod TextForms
 mod FormRulesOnce
 mod OneUnordered
 mod OneFirst
+pub mod BoundStops

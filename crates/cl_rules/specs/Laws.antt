@@ -1,6 +1,7 @@
 -- The laws of typing and of the first break.
-use Rattle.std.specs.Prelude.{◌≡◌, ◌⊎◌, ℕ, List, length}
+use Rattle.std.specs.Prelude.{◌≡◌, ◌⊎◌, ℕ, List, length, Some, None}
 use Rattle.cl_c32.specs.declared.principal.Principal.{Principal}
+use Rattle.cl_shapes.specs.declared.cost.Dimension.{Dimension}
 use Rattle.cl_sexpr.specs.declared.sexpr.Span.{Span}
 use Rattle.cl_sexpr.specs.declared.rule.Rule.{Rule}
 use Rattle.cl_sexpr.specs.Tree.{Tree}
@@ -13,7 +14,8 @@ use Rattle.cl_forms.specs.Placed.{AreFormsPlaced}
 use Rattle.cl_rules.specs.Walks.{Stops, FormsStop}
 use Rattle.cl_rules.specs.FormRules.{Defined, nothing_defined}
 use Rattle.cl_rules.specs.FormTyping.{FormsTyped, Reached, FormBreaks, FirstFormBreak}
-use Rattle.cl_rules.specs.Acceptance.{Ordered, forms_at, Accepted, FirstUnordered, FirstBreakOf}
+use Rattle.cl_rules.specs.Acceptance.{Ordered, forms_at, Accepted, FirstUnordered, FirstBreakOf, Bounded, FirstBound, DeploymentAbove, nowhere}
+use Rattle.cl_rules.specs.PlainProgram.{bound_stop}
 use Rattle.cl_rules.specs.Judging.{Holds, Fails, judged, forms_judged}
 
 -- ---- expressions
@@ -112,3 +114,20 @@ TextDecided = (deployed : List Known) (principal : Principal) (text : List ℕ) 
 -- where a walk over them stops is the first break
 abbrev pub TextWalkIsFirst : Type 0
 TextWalkIsFirst = (D : Defined) (text : List ℕ) (forms : List Form) (order : List ℕ) (r : Rule) (s : Span) → Ordered text forms order → FormsStop D (forms_at forms order) r s → FirstFormBreak D (forms_at forms order) r s
+
+-- ---- bounds
+
+-- the first bound above the limit: that of a function, or else that of the deployment, which is nowhere
+abbrev pub IsFirstAboveLimit : Defined → List Form → List ℕ → CostTable → Dimension → Span → Type 0
+IsFirstAboveLimit defined forms order table dimension span =
+    FirstBound defined forms order table dimension span ⊎ (DeploymentAbove defined forms table dimension × (span ≡ nowhere))
+
+-- where the plain program stops at a bound, it is the first above the limit
+abbrev pub BoundStopIsFirst : Type 0
+BoundStopIsFirst = (deployed : List Known) (principal : Principal) (size : ℕ) (forms : List Form) (order : List ℕ) (defined : Defined) (table : CostTable) (dimension : Dimension) (span : Span) →
+    FormsTyped (nothing_defined deployed principal size) (forms_at forms order) defined → bound_stop table defined (forms_at forms order) ≡ Some (dimension, span) → IsFirstAboveLimit defined forms order table dimension span
+
+-- where it doesn't stop, no bound is above the limit
+abbrev pub NoStopIsBounded : Type 0
+NoStopIsBounded = (deployed : List Known) (principal : Principal) (size : ℕ) (forms : List Form) (order : List ℕ) (defined : Defined) (table : CostTable) →
+    FormsTyped (nothing_defined deployed principal size) (forms_at forms order) defined → bound_stop table defined (forms_at forms order) ≡ None → Bounded defined forms table

@@ -1,6 +1,6 @@
 //! The laws of typing, of the first break, and of the plain program that judges. Each function here is a law, and does
 //! nothing.
-ghost use Rattle.cl_rules.specs.Laws.{AcceptedIsClean, OneDefined, OneFirstOf, OneOrder, OrderedIsClean, OneFirstUnordered, TextDecided, TextWalkIsFirst, OneType, TypedIsClean, NeverBoth, OneFirst, WalkIsFirst, Decided, OneEnd, TypedFormsAreClean, FormsNeverBoth, OneFirstForm, FormsWalkIsFirst, FormsDecided, JudgedIsTyped, JudgedIsStop, FormsJudgedAreTyped, FormsJudgedStop};
+ghost use Rattle.cl_rules.specs.Laws.{AcceptedIsClean, OneDefined, OneFirstOf, OneOrder, OrderedIsClean, OneFirstUnordered, TextDecided, TextWalkIsFirst, OneType, TypedIsClean, NeverBoth, OneFirst, WalkIsFirst, Decided, OneEnd, TypedFormsAreClean, FormsNeverBoth, OneFirstForm, FormsWalkIsFirst, FormsDecided, JudgedIsTyped, JudgedIsStop, FormsJudgedAreTyped, FormsJudgedStop, BoundStopIsFirst, NoStopIsBounded};
 
 /// An expression has one type, thrown type, height and bound, or one first break, and not both.
 pub fn one_answer()
@@ -65,3 +65,9 @@ pub fn forms_of_texts_are_decided()
     cl_sexpr::items_stand_in_order();
     cl_forms::expressions_are_placed();
 }
+
+/// A look at the bounds of forms in their order stops at the first that is above the limit, if one is.
+pub fn the_first_bound_is_found()
+    ensures first { BoundStopIsFirst }
+    ensures none { NoStopIsBounded }
+{}

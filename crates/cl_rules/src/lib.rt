@@ -10,5 +10,6 @@ pub use examples::{
 };
 pub use laws::{
     a_walk_stops_at_the_first_break, forms_have_one_answer, forms_of_texts_are_decided, one_answer,
-    texts_have_one_answer, texts_have_one_order, the_plain_program_is_right,
+    texts_have_one_answer, texts_have_one_order, the_first_bound_is_found,
+    the_plain_program_is_right,
 };

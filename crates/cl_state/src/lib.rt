@@ -1,14 +1,17 @@
 //! The world of a node: a base, and layers of changes on it.
 #![tactic(auto)]
 
+mod deed;
 mod held;
 mod history;
 mod keys;
 mod laws;
 mod note;
 mod place;
+mod tables;
+mod tokens;
 mod world;
 
-pub use laws::{places_have_own_keys, variables_are_looked_up};
+pub use laws::{acts_have_answers, places_have_own_keys, variables_are_looked_up};
 pub use place::Place;
-pub use world::World;
+pub use world::{TokenAct, World};

@@ -4,3 +4,4 @@ pub mod Balances
 pub mod Acts
 pub mod AssetActs
 pub mod Backs
+pub mod AssetBacks

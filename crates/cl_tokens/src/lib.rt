@@ -9,7 +9,7 @@ mod non_fungible;
 mod refusal;
 mod table;
 
-pub use act::Act;
+pub use act::{Act, AssetAct};
 pub use fungible::Fungible;
 pub use key::Key;
 pub use laws::{acts_keep_ledgers, acts_move_amounts, transfers_keep_supply};

@@ -1,6 +1,13 @@
 //! The world of a node: entries of maps, printed values, holders of STX.
+ghost use Rattle.std.specs.Prelude.{◌≡◌, true, is_some};
+ghost use Rattle.cl_maps.specs.Maps.{get};
+ghost use Rattle.cl_events.specs.State.{State};
+ghost use Rattle.cl_state.specs.Deeds.{is_there};
+ghost use Rattle.cl_state.specs.Variables.{key_of};
+
 use cl_c32::{Address, ContractName, Principal};
-use cl_state::{Place, World};
+use cl_events::{Asset, EventKind};
+use cl_state::{Place, TokenAct, World, acts_have_answers};
 use cl_tokens::TokenRefusal;
 use cl_types::{Fault, Name, NoMemory};
 use cl_values::{Kind, Val, Value, ValueRefusal};
@@ -108,6 +115,19 @@ fn is_committed(world: &mut World, at: &Place) -> Result<bool, NoMemory> {
     Ok(told == 1 && world.events().is_empty() && variables == 1 && holds(world, at, 2)?)
 }
 
+fn stx_sent(amount: u128, from: &Principal, to: &Principal) -> TokenAct
+    ensures { (s : State) → is_there result.contract result.kind s ≡ true }
+{
+    TokenAct {
+        contract: *to,
+        kind: EventKind::StxTransfer {
+            amount,
+            from: *from,
+            to: *to,
+        },
+    }
+}
+
 // Pays 300 of the 1,000 that a holder has, in a layer that has room, and then one more than are left.
 fn pays(world: &mut World, payee: &Principal) -> Result<bool, Fail> {
     let address = Address::new(22, &[1; 20]);
@@ -115,10 +135,111 @@ fn pays(world: &mut World, payee: &Principal) -> Result<bool, Fail> {
     let payer = Principal { address, contract };
     world.reserve_layer()?;
     world.push_layer()?;
-    let paid = world.transfer_stx(payee, 300, &payer, payee);
-    let refused = world.transfer_stx(payee, 701, &payer, payee);
+    acts_have_answers();
+    let paid = world.token(stx_sent(300, &payer, payee));
+    let refused = world.token(stx_sent(701, &payer, payee));
     let is_refused = matches!(refused, Err(Fault::Refused(TokenRefusal::Code(1))));
     Ok(paid.is_ok() && is_refused && world.events().len() == 1 && world.moves().len() == 1)
+}
+
+// Whether an act on a fungible token is done.
+fn is_done(world: &mut World, at: &Place, kind: EventKind) -> bool
+    requires { (s : State) → is_there at.now.contract kind s ≡ is_some (get (key_of at.now) s.fungibles) }
+{
+    if !world.has_ft(at) {
+        return false;
+    }
+    acts_have_answers();
+    let contract = at.contract;
+    world.token(TokenAct { contract, kind }).is_ok()
+}
+
+// Whether an act on a non-fungible token is done.
+fn is_done_to_asset(world: &mut World, at: &Place, kind: EventKind) -> bool
+    requires { (s : State) → is_there at.now.contract kind s ≡ is_some (get (key_of at.now) s.nonfungibles) }
+{
+    if !world.has_nft(at) {
+        return false;
+    }
+    acts_have_answers();
+    let contract = at.contract;
+    world.token(TokenAct { contract, kind }).is_ok()
+}
+
+fn mints(world: &mut World, at: &Place, amount: u128) -> bool {
+    let token = at.name;
+    let to = at.contract;
+    is_done(world, at, EventKind::FtMint { token, amount, to })
+}
+
+fn burns(world: &mut World, at: &Place, amount: u128) -> bool {
+    let token = at.name;
+    let from = at.contract;
+    is_done(
+        world,
+        at,
+        EventKind::FtBurn {
+            token,
+            amount,
+            from,
+        },
+    )
+}
+
+fn has(world: &World, at: &Place, amount: u128) -> Result<bool, NoMemory> {
+    let asset = Asset::Ft(at.contract, at.name);
+    let held = world.balance(&asset, &at.contract)?;
+    Ok(held == amount && world.has_ft(at) && world.supply(at) == amount)
+}
+
+// Mints up to the cap of a new token, and burns some in a layer that is dropped.
+fn tokens_come_and_go(world: &mut World, at: &Place) -> Result<bool, Fail> {
+    if world.has_ft(at) {
+        return Ok(false);
+    }
+    world.define_ft(at, Some(1_000))?;
+    let minted = mints(world, at, 400) && !mints(world, at, 601);
+    world.push_layer()?;
+    let burnt = burns(world, at, 100) && !burns(world, at, 301);
+    let left = has(world, at, 300)?;
+    if world.layers() == 0 {
+        return Ok(false);
+    }
+    world.drop_layer();
+    Ok(minted && burnt && left && has(world, at, 400)? && world.events().len() == 1)
+}
+
+fn owns(world: &World, at: &Place, id: &Val) -> Result<bool, NoMemory> {
+    let owner = world.owner(at, id)?;
+    Ok(matches!(owner, Some(owner) if owner == at.contract))
+}
+
+fn mints_asset(world: &mut World, at: &Place, id: Val) -> bool {
+    let token = at.name;
+    let to = at.contract;
+    is_done_to_asset(world, at, EventKind::NftMint { token, id, to })
+}
+
+fn burns_asset(world: &mut World, at: &Place, id: Val) -> bool {
+    let token = at.name;
+    let from = at.contract;
+    is_done_to_asset(world, at, EventKind::NftBurn { token, id, from })
+}
+
+// Mints an asset of a new token, and burns it in a layer that is dropped.
+fn assets_come_and_go(world: &mut World, at: &Place) -> Result<bool, Fail> {
+    if world.has_nft(at) {
+        return Ok(false);
+    }
+    world.define_nft(at)?;
+    let minted = mints_asset(world, at, int(7)?) && !mints_asset(world, at, int(7)?);
+    world.push_layer()?;
+    let burnt = burns_asset(world, at, int(7)?) && !owns(world, at, &int(7)?)?;
+    if world.layers() == 0 {
+        return Ok(false);
+    }
+    world.drop_layer();
+    Ok(minted && burnt && owns(world, at, &int(7)?)?)
 }
 
 // what is tried on a world
@@ -128,6 +249,8 @@ enum Trial {
     Entries,
     Prints,
     Pays,
+    Tokens,
+    Assets,
 }
 
 fn goes_well(world: &mut World, trial: Trial) -> Result<bool, Fail> {
@@ -137,6 +260,8 @@ fn goes_well(world: &mut World, trial: Trial) -> Result<bool, Fail> {
         Trial::Entries => entry_is_back(world, &at),
         Trial::Prints => Ok(print_and_keep(world, &at)? && is_committed(world, &at)?),
         Trial::Pays => pays(world, &at.contract),
+        Trial::Tokens => tokens_come_and_go(world, &at),
+        Trial::Assets => assets_come_and_go(world, &at),
     }
 }
 
@@ -167,5 +292,17 @@ fn a_printed_value(rt: HostRuntime) -> Result<(), Fail> {
 #[test]
 fn stx_is_paid(rt: HostRuntime) -> Result<(), Fail> {
     assert!(rt; goes_well_at_first(rt.alloc(), Trial::Pays)?);
+    Ok(())
+}
+
+#[test]
+fn tokens_are_minted_and_burnt(rt: HostRuntime) -> Result<(), Fail> {
+    assert!(rt; goes_well_at_first(rt.alloc(), Trial::Tokens)?);
+    Ok(())
+}
+
+#[test]
+fn assets_are_minted_and_burnt(rt: HostRuntime) -> Result<(), Fail> {
+    assert!(rt; goes_well_at_first(rt.alloc(), Trial::Assets)?);
     Ok(())
 }

@@ -1,0 +1,14 @@
+pub mod Heads
+pub mod NativeCharges
+pub mod NamedCharges
+pub mod OpCharges
+pub mod Lookups
+pub mod PartSizes
+pub mod Adding
+pub mod ByNames
+pub mod TreeBounds
+pub mod Definitions
+pub mod Knowing
+pub mod Stopping
+pub mod Lines
+pub mod Bounding

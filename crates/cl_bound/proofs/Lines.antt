@@ -1,0 +1,74 @@
+-- The lines of the functions, in the order of the text.
+use Rattle.std.proofs.Common.{◌≡◌, ℕ, zero, suc, ◌+◌, ◌<◌, ◌≤◌, List, [], ◌∷◌, ◌++◌, length, map, drop, get_or, filter_map, Contains, Option, Some, None, arith, append_assoc, refl, ap, sym, subst, ◌∙◌}
+use Rattle.std.specs.Prelude.{option_map}
+use Rattle.std.specs.List.{cons_option}
+use Rattle.std.proofs.lemmas.List.{drop_all, length-map}
+use Rattle.std.proofs.lemmas.List.Elements.{Contains-get_or}
+use Rattle.cl_shapes.specs.declared.cost.Cost5.{Cost5}
+use Rattle.cl_shapes.specs.Costs.{first_above}
+use Rattle.cl_code.specs.Definitions.{form_defined}
+use Rattle.cl_code.specs.declared.definition.Definition.{Definition}
+use Rattle.cl_rules.specs.Context.{CostTable, Bound, Signature}
+use Rattle.cl_rules.specs.FormRules.{Defined}
+use Rattle.cl_rules.specs.Acceptance.{Bounded, most_cost, bound_at}
+use Rattle.cl_contracts.specs.declared.checked.Checked.{Checked}
+use Rattle.cl_contracts.specs.Seen.{forms_of}
+use Rattle.cl_tx.specs.Step.{bound_line}
+use Rattle.cl_bound.specs.declared.prices.Application.{Application}
+use Rattle.cl_bound.specs.Sums.{told}
+use Rattle.cl_bound.specs.Seen.{IsWithin, application_of}
+use Rattle.cl_bound.proofs.Adding.{rest_of}
+
+-- ---- one line
+
+-- the line of a function, by what is kept of it
+pub line_some : (table : CostTable) (name : List ℕ) (a : Application) (f : Option Signature) (cost : Cost5) → Some a ≡ option_map (application_of table) f → ((b : Bound) → bound_at f ≡ Some b → first_above most_cost (b table) ≡ None) →
+    ((b : Cost5) → a.bound ≡ told b → first_above most_cost b ≡ None → cost ≡ b) → Some (name, cost) ≡ option_map {U = List ℕ × Cost5} (λ (bound : Bound). (name, bound table)) (bound_at f)
+line_some table name a None cost h within is = absurd cc
+line_some table name a (Some f) cost h within is =
+    let same : a ≡ application_of table f = cc in
+    ap (λ (b : Cost5). Some (name, b)) (is (f.bound table) (ap (λ (b : Application). b.bound) same) (within f.bound refl))
+
+pub line_none : (table : CostTable) (name : List ℕ) (f : Option Signature) → None ≡ option_map (application_of table) f → None ≡ option_map {U = List ℕ × Cost5} (λ (bound : Bound). (name, bound table)) (bound_at f)
+line_none table name None h = refl
+line_none table name (Some f) h = absurd cc
+
+-- ---- one definition after another
+
+at_map : {A B : Type 0} (f : A → B) (xs : List A) (i : ℕ) (x : A) → get_or (map f xs) i (f x) ≡ f (get_or xs i x)
+at_map f [] i x = refl
+at_map f (y ∷ xs) zero x = refl
+at_map f (y ∷ xs) (suc i) x = at_map f xs i x
+
+module _ (checked : Checked) (table : CostTable) (D : Defined) where
+  abbrev pub lines_of : List Definition → List (List ℕ × Cost5)
+  lines_of ds = filter_map (bound_line table D) (map form_defined ds)
+
+  -- a definition's bound is within the limit where all are
+  pub one_within : (i : ℕ) (d : Definition) → i < length checked.definitions.items → get_or checked.definitions.items i d ≡ d → Bounded D (forms_of checked) table → IsWithin D (form_defined d) table
+  one_within i d lt at bounded b is =
+      let there : Contains (forms_of checked) (form_defined d) =
+      subst (Contains (forms_of checked)) (at_map form_defined checked.definitions.items i d ∙ ap form_defined at) (Contains-get_or (forms_of checked) i (form_defined d) (omega (arith, lt, length-map checked.definitions.items form_defined))) in
+      bounded.functions (form_defined d) b there is
+
+  pub line_next : (i : ℕ) (d : Definition) (o : Option (List ℕ × Cost5)) (lines : List (List ℕ × Cost5)) → i < length checked.definitions.items → get_or checked.definitions.items i d ≡ d → o ≡ bound_line table D (form_defined d) →
+      lines ++ lines_of (drop i checked.definitions.items) ≡ lines_of checked.definitions.items → lines ++ cons_option o (lines_of (drop (i + 1) checked.definitions.items)) ≡ lines_of checked.definitions.items
+  line_next i d o lines lt at is so_far =
+      ap (λ (p : Option (List ℕ × Cost5)). lines ++ cons_option p (lines_of (drop (i + 1) checked.definitions.items))) is
+      ∙ ap (λ (ds : List Definition). lines ++ lines_of ds) (sym (rest_of checked.definitions.items i d lt at)) ∙ so_far
+
+  pub line_more : (i : ℕ) (l : List ℕ × Cost5) (lines more : List (List ℕ × Cost5)) → more ≡ lines ++ l ∷ [] → lines ++ (l ∷ lines_of (drop (i + 1) checked.definitions.items)) ≡ lines_of checked.definitions.items → more ++ lines_of (drop (i + 1) checked.definitions.items) ≡ lines_of checked.definitions.items
+  line_more i l lines more is so_far =
+      ap (λ (ls : List (List ℕ × Cost5)). ls ++ lines_of (drop (i + 1) checked.definitions.items)) is
+      ∙ append_assoc lines (l ∷ []) (lines_of (drop (i + 1) checked.definitions.items)) ∙ so_far
+
+  pub line_past : (i : ℕ) (lines more : List (List ℕ × Cost5)) → more ≡ lines → lines ++ lines_of (drop (i + 1) checked.definitions.items) ≡ lines_of checked.definitions.items → more ++ lines_of (drop (i + 1) checked.definitions.items) ≡ lines_of checked.definitions.items
+  line_past i lines more is so_far = ap (λ (ls : List (List ℕ × Cost5)). ls ++ lines_of (drop (i + 1) checked.definitions.items)) is ∙ so_far
+
+  pub line_last : (i : ℕ) (lines : List (List ℕ × Cost5)) → length checked.definitions.items ≤ i → lines ++ lines_of (drop i checked.definitions.items) ≡ lines_of checked.definitions.items → lines ≡ lines_of checked.definitions.items
+  line_last i lines far so_far =
+      sym (no_more lines) ∙ ap (λ (ds : List Definition). lines ++ lines_of ds) (sym (drop_all i checked.definitions.items far)) ∙ so_far
+    where
+      no_more : {A : Type 0} (xs : List A) → xs ++ [] ≡ xs
+      no_more [] = refl
+      no_more (x ∷ xs) = ap (λ ys. x ∷ ys) (no_more xs)

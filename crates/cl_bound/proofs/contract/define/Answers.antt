@@ -1,0 +1,16 @@
+use Rattle.std.proofs.Common.{ℕ, List, refl, subst, ◌≡◌}
+use Rattle.cl_types.specs.Types.{PlainType}
+use Rattle.cl_costs.specs.Tables.{function_of}
+use Rattle.cl_rules.specs.FormRules.{application}
+use Rattle.cl_contracts.specs.Standing.{Stands}
+use Rattle.cl_bound.specs.Sums.{told}
+use Rattle.cl_bound.proofs.Definitions.{on_ok, defined_shows}
+use Rattle.cl_bound.proofs.contract.define.Goals as goal
+
+pub returns-clause-shown : goal.returns-clause-shown
+returns-clause-shown c =
+    on_ok c.keep.result (λ kept D fs shows stands.
+    defined_shows c.args.prices.now (record c.args.prices.now { functions = c.keep.new.functions }) D fs c.args.function.now (record { access = c.args.function.now.access; bound = c.application-bound.result })
+    kept refl
+    (λ g. subst (λ (ps : List (List ℕ × PlainType)). Stands D.context ps c.args.function.now.body g → c.application-bound.result ≡ told (application ps g (function_of c.args.prices.now.costs))) c.deref.ensures.value (λ s. c.application-bound.ensures D.context g shows s))
+    shows stands) c.keep.ensures

@@ -1,0 +1,4 @@
+pub mod Sums
+pub mod Own
+pub mod Charged
+pub mod Seen

@@ -1,0 +1,102 @@
+//! The bounds of a contract.
+ghost use Rattle.std.specs.Prelude.{◌≡◌, List, [], Some, None, IfOk, option_map};
+ghost use Rattle.std.specs.List.{filter_map};
+ghost use Rattle.cl_types.specs.Fault.{IfRefused};
+ghost use Rattle.cl_shapes.specs.declared.cost.Dimension.{Dimension as ADimension};
+ghost use Rattle.cl_sexpr.specs.declared.rule.Rule.TheVariants.{BoundTooLarge};
+ghost use Rattle.cl_costs.specs.Tables.{function_of};
+ghost use Rattle.cl_rules.specs.Acceptance.{Bounded, bound_at, most_cost};
+ghost use Rattle.cl_shapes.specs.Costs.{first_above};
+ghost use Rattle.cl_rules.specs.Context.{Bound, Known, signature_in};
+ghost use Rattle.cl_rules.specs.FormRules.{Defined};
+ghost use Rattle.cl_rules.specs.Laws.{IsFirstAboveLimit};
+ghost use Rattle.cl_contracts.specs.Seen.{forms_of};
+ghost use Rattle.cl_contracts.specs.Standings.{Knows, StandsAfter};
+ghost use Rattle.cl_code.specs.Definitions.{form_defined};
+ghost use Rattle.cl_tx.specs.Step.{bound_line, told_of};
+ghost use Rattle.cl_bound.specs.Seen.{ShowsPrices, IsWithin};
+
+use crate::contract::deployment;
+use crate::deployed::prices;
+use crate::prices::Prices;
+use crate::stop::first_stop;
+use cl_code::Definition;
+use cl_contracts::{Checked, Deployed, what_callers_know};
+use cl_costs::CostTable;
+use cl_rules::the_first_bound_is_found;
+use cl_sexpr::{Break, Refusal, Rule};
+use cl_shapes::Cost5;
+use cl_tx::{Bounds, Row};
+use cl_types::{Fault, Name, NoMemory};
+use std::alloc::Global;
+
+/// A name with the bound of its function, where that isn't above the limit.
+fn function_line(prices: &Prices, name: &Name) -> Option<(Name, Cost5)>
+    ensures { (D : Defined) → ShowsPrices prices.now D.context → ((b : Bound) → bound_at (signature_in name.now D.context.functions) ≡ Some b → first_above most_cost (b (function_of prices.now.costs)) ≡ None) →
+        result ≡ option_map (λ (b : Bound). (name.now, b (function_of prices.now.costs))) (bound_at (signature_in name.now D.context.functions)) }
+{
+    match prices.functions.get(name) {
+        Some(application) => Some((*name, application.bound.saturated())),
+        None => None,
+    }
+}
+
+/// The same of a definition that is a function.
+fn line(prices: &Prices, definition: &Definition) -> Option<(Name, Cost5)>
+    ensures { (D : Defined) → ShowsPrices prices.now D.context → IsWithin D (form_defined definition.now) (function_of prices.now.costs) → result ≡ bound_line (function_of prices.now.costs) D (form_defined definition.now) }
+{
+    match definition {
+        Definition::Function(function) => function_line(prices, &function.name),
+        _ => None,
+    }
+}
+
+/// Each function's name with its bound, in the order of the text, where no bound is above the limit.
+fn lines(alloc: Global, prices: &Prices, checked: &Checked) -> Result<Vec<(Name, Cost5)>, NoMemory>
+    ensures { IfOk result (λ lines. (D : Defined) → ShowsPrices prices.now D.context → Bounded D (forms_of checked.now) (function_of prices.now.costs) → lines.items ≡ filter_map (bound_line (function_of prices.now.costs) D) (forms_of checked.now)) }
+{
+    let mut lines = Vec::new(alloc);
+    for definition in &checked.definitions {
+        if let Some(line) = line(prices, definition) {
+            lines.push(line)?;
+        }
+    }
+    Ok(lines)
+}
+
+/// The bounds of a deployment and of each function of a contract, the functions in the order of its text; or the first bound
+/// that is above 2^128-1 (`B1`): with the span of the function that it is of, by the order of evaluation, and in the first such
+/// dimension, or at no place if it is the deployment's. The bounds of deployed contracts are computed anew under the same table.
+/// What each function returns is `Function::returns`.
+pub fn bound(
+    alloc: Global,
+    checked: &Checked,
+    deployed: &Deployed,
+    costs: &CostTable,
+) -> Result<Bounds, Fault<Refusal>>
+    ensures bounded { IfOk result (λ bounds. (known : List Known) (D : Defined) → Knows deployed.now known → StandsAfter known checked.now D → Bounded D (forms_of checked.now) (function_of costs.now)) }
+    ensures told { IfOk result (λ bounds. (known : List Known) (D : Defined) → Knows deployed.now known → StandsAfter known checked.now D → (told_of (function_of costs.now) D (forms_of checked.now)).bounds ≡ Some bounds) }
+    ensures broken { IfRefused result (λ refusal. (dimension : ADimension) × (refusal.rule ≡ BoundTooLarge dimension) × ((known : List Known) (D : Defined) → Knows deployed.now known → StandsAfter known checked.now D → IsFirstAboveLimit D (forms_of checked.now) checked.now.order.items (function_of costs.now) dimension refusal.span)) }
+    ensures names { IfRefused result (λ refusal. refusal.names.items ≡ []) }
+{
+    what_callers_know();
+    the_first_bound_is_found();
+    let mut prices = prices(alloc, deployed, costs, &checked.principal)?;
+    let deployment = deployment(&mut prices, checked)?;
+    match first_stop(&prices, checked, &deployment) {
+        Some((dimension, span)) => Err(Fault::Refused(Refusal::of(
+            alloc,
+            Break {
+                rule: Rule::BoundTooLarge(dimension),
+                span,
+            },
+        ))),
+        None => {
+            let functions = lines(alloc, &prices, checked)?;
+            Ok(Bounds {
+                deploy: deployment.saturated(),
+                functions: Row::new(functions),
+            })
+        }
+    }
+}

@@ -1,0 +1,76 @@
+//! What definitions are charged at a deployment, and what an application of a function is.
+ghost use Rattle.std.specs.Prelude.{◌≡◌, ℕ, List, [], map};
+ghost use Rattle.cl_types.specs.Types.{PlainType, UintType, size_of};
+ghost use Rattle.cl_shapes.specs.declared.name.CostName.TheVariants.{Define};
+ghost use Rattle.cl_costs.specs.Tables.{function_of};
+ghost use Rattle.cl_rules.specs.Context.{Context, both, charge};
+ghost use Rattle.cl_rules.specs.ControlShapes.{binds};
+ghost use Rattle.cl_rules.specs.FormRules.{Defined, application, form_charges};
+ghost use Rattle.cl_rules.specs.Verdicts.{Found};
+ghost use Rattle.cl_contracts.specs.Seen.{kind_at};
+ghost use Rattle.cl_contracts.specs.Standing.{Stands};
+ghost use Rattle.cl_contracts.specs.Standings.{StandsAs};
+ghost use Rattle.cl_bound.specs.Sums.{told};
+ghost use Rattle.cl_bound.specs.Seen.{ShowsPrices};
+
+use crate::prices::Prices;
+use crate::sum::Sum;
+use crate::walk::tree_bound;
+use cl_code::{Code, Definition};
+use cl_shapes::CostName;
+use cl_types::{Name, SizedTy, size};
+
+/// A bind for each parameter.
+fn binds(prices: &Prices, params: &[(Name, SizedTy)]) -> Sum
+    ensures { result ≡ told (binds (map (λ (p : List ℕ × PlainType). p.1) params.now) (function_of prices.now.costs)) }
+{
+    let mut sum = Sum::ZERO;
+    for param in params {
+        sum = sum.add(&prices.charge(CostName::Bind, u64::from(size(&param.1))));
+    }
+    sum
+}
+
+/// The bound of one application of a function with these parameters and this body.
+pub(crate) fn application(prices: &Prices, params: &[(Name, SizedTy)], body: &Code) -> Sum
+    ensures { (G : Context) (f : Found) → ShowsPrices prices.now G → Stands G params.now body.now f → result ≡ told (application params.now f (function_of prices.now.costs)) }
+{
+    let call = prices.charge_count(CostName::Call, params.len());
+    let bound = tree_bound(prices, body);
+    call.add(&binds(prices, params).add(&bound))
+}
+
+/// An expression, and the definition of its value.
+fn value_charges(prices: &Prices, code: &Code) -> Sum
+    ensures { (G : Context) (f : Found) → ShowsPrices prices.now G → Stands G [] code.now f → result ≡ told (both f.bound (charge Define (size_of f.type)) (function_of prices.now.costs)) }
+{
+    let value = tree_bound(prices, code);
+    let define = prices.charge(CostName::Define, u64::from(size(&code.ty)));
+    value.add(&define)
+}
+
+/// The expression of a greatest supply, and its definition.
+fn supply_charges(prices: &Prices, code: &Code) -> Sum
+    ensures { (G : Context) (f : Found) → ShowsPrices prices.now G → Stands G [] code.now f → result ≡ told (both f.bound (charge Define (size_of UintType)) (function_of prices.now.costs)) }
+{
+    let supply = tree_bound(prices, code);
+    let define = prices.charge(CostName::Define, 17);
+    supply.add(&define)
+}
+
+/// What a definition is charged when it is deployed.
+pub(crate) fn charges(prices: &Prices, definition: &Definition) -> Sum
+    ensures { (D : Defined) (fs : List Found) → ShowsPrices prices.now D.context → StandsAs D definition.now fs → result ≡ told (form_charges (kind_at definition.now) fs (function_of prices.now.costs)) }
+{
+    match definition {
+        Definition::Constant(constant) => value_charges(prices, &constant.value),
+        Definition::Variable(variable) => value_charges(prices, &variable.value),
+        Definition::Fungible(token) => match &token.supply {
+            Some(supply) => supply_charges(prices, supply),
+            None => prices.charge(CostName::Define, 0),
+        },
+        Definition::TopLevel(expression) => tree_bound(prices, &expression.value),
+        Definition::MapOf(_) | Definition::NonFungible(_) | Definition::Function(_) =>
+            prices.charge(CostName::Define, 0),
+    }
+}

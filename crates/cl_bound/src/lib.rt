@@ -1,0 +1,19 @@
+//! Bounds of what typed trees are charged (SIP-006).
+#![tactic(auto)]
+
+mod bounds;
+mod branches;
+mod contract;
+mod deployed;
+mod forms;
+mod measure;
+mod native_costs;
+mod own;
+mod prices;
+mod sizes;
+mod stop;
+mod sum;
+mod using;
+mod walk;
+
+pub use bounds::bound;

@@ -1,0 +1,80 @@
+//! What natives are charged as.
+ghost use Rattle.std.specs.Prelude.{◌≡◌};
+ghost use Rattle.cl_bound.specs.Own.{values_cost, parts_cost, name_cost, keyword_cost};
+
+use cl_code::{Keyword, NameNative, PartsNative};
+use cl_shapes::CostName;
+use cl_values::Native;
+
+pub(crate) fn values_cost(native: Native) -> CostName
+    ensures { result ≡ values_cost native }
+{
+    match native {
+        Native::Add
+        | Native::Subtract
+        | Native::Multiply
+        | Native::Divide
+        | Native::Modulo
+        | Native::Power
+        | Native::Xor
+        | Native::SquareRoot
+        | Native::Log2
+        | Native::ToInt
+        | Native::ToUint
+        | Native::Not => CostName::Arith,
+        Native::Less | Native::AtMost | Native::Greater | Native::AtLeast | Native::Same =>
+            CostName::Compare,
+        Native::Sha256 | Native::Sha512 | Native::Sha512Of256 => CostName::Hash,
+        Native::MakeSome
+        | Native::MakeOk
+        | Native::MakeErr
+        | Native::IsSome
+        | Native::IsNone
+        | Native::IsOk
+        | Native::IsErr
+        | Native::DefaultTo
+        | Native::UnwrapPanic
+        | Native::UnwrapErrPanic => CostName::Wrap,
+        Native::MakeList | Native::Merge | Native::Append | Native::Concat => CostName::Make,
+        Native::Len | Native::ElementAt | Native::IndexOf => CostName::Scan,
+    }
+}
+
+pub(crate) fn parts_cost(native: PartsNative) -> CostName
+    ensures { result ≡ parts_cost native }
+{
+    match native {
+        PartsNative::Print => CostName::Event,
+        PartsNative::StxBalance => CostName::ReadToken,
+        PartsNative::SendStx | PartsNative::BurnStx => CostName::WriteToken,
+        _ => CostName::Control,
+    }
+}
+
+pub(crate) fn name_cost(native: NameNative) -> CostName
+    ensures { result ≡ name_cost native }
+{
+    match native {
+        NameNative::Get => CostName::Take,
+        NameNative::VarGet => CostName::ReadVar,
+        NameNative::VarSet => CostName::WriteVar,
+        NameNative::MapGet => CostName::ReadMap,
+        NameNative::MapSet | NameNative::MapInsert | NameNative::MapDelete => CostName::WriteMap,
+        NameNative::FtBalance | NameNative::FtSupply | NameNative::NftOwner => CostName::ReadToken,
+        NameNative::MintFt
+        | NameNative::BurnFt
+        | NameNative::SendFt
+        | NameNative::MintNft
+        | NameNative::BurnNft
+        | NameNative::SendNft => CostName::WriteToken,
+    }
+}
+
+pub(crate) fn keyword_cost(keyword: Keyword) -> CostName
+    ensures { result ≡ keyword_cost keyword }
+{
+    match keyword {
+        Keyword::True | Keyword::False | Keyword::None => CostName::Literal,
+        Keyword::TxSender | Keyword::ContractCaller | Keyword::BlockHeight => CostName::Context,
+    }
+}

@@ -1,0 +1,165 @@
+//! What bounds rest on.
+ghost use Rattle.std.specs.Prelude.{◌≡◌, ◌<◌, ◌^◌, List};
+ghost use Rattle.cl_costs.specs.Tables.{function_of};
+ghost use Rattle.cl_shapes.specs.Functions.{cost_at, shape_at, log2};
+ghost use Rattle.cl_rules.specs.Context.{Context, Signature, CostTable as Table, charge, signature_in, if_callable, target_at};
+ghost use Rattle.cl_rules.specs.CallShapes.{target_or_not, contract_literal};
+ghost use Rattle.cl_rules.specs.Shapes.{there_or_not};
+ghost use Rattle.cl_bound.specs.Sums.{told};
+ghost use Rattle.cl_bound.specs.Seen.{ShowsPrices, ShowFunctions};
+ghost use Rattle.cl_bound.specs.Own.{applied, called_at, leaf_of};
+
+use crate::sum::Sum;
+use cl_c32::Principal;
+use cl_code::Target;
+use cl_costs::CostTable;
+use cl_shapes::{Cost5, CostFn, CostName, Shape};
+use cl_types::{Access, Name};
+use indexmap::IndexMap;
+
+/// One application of a function: who may call it, and the bound.
+#[derive(Clone, Copy)]
+pub(crate) struct Application {
+    pub(crate) access: Access,
+    pub(crate) bound: Sum,
+}
+
+/// A deployed contract: the length of its text, in bytes, and its functions.
+#[derive(Drop)]
+pub(crate) struct Known {
+    pub(crate) length: u32,
+    pub(crate) functions: IndexMap<Name, Application>,
+}
+
+/// What bounds rest on: the cost table, the deployed contracts, the contract that they are of, and its functions so far.
+#[derive(Drop)]
+pub(crate) struct Prices {
+    pub(crate) costs: CostTable,
+    pub(crate) deployed: IndexMap<Principal, Known>,
+    pub(crate) principal: Principal,
+    pub(crate) functions: IndexMap<Name, Application>,
+}
+
+/// One application of a function that other contracts may call.
+fn callable(functions: &IndexMap<Name, Application>, name: &Name) -> Sum
+    ensures { (table : Table) (fs : List Signature) → ShowFunctions table fs functions.now.entries → result ≡ told (applied (if_callable (signature_in name.now fs)) table) }
+{
+    match functions.get(name) {
+        Some(application) => match application.access {
+            Access::Private => Sum::ZERO,
+            _ => application.bound,
+        },
+        None => Sum::ZERO,
+    }
+}
+
+/// The contract that a literal stands for.
+fn literal(own: &Principal, target: &Target) -> Option<Principal>
+    ensures { result ≡ contract_literal own.now (leaf_of target.now) }
+{
+    match target {
+        Target::Standing(principal, _) => match principal.contract {
+            Some(_) => Some(*principal),
+            None => None,
+        },
+        Target::Local(name, _) => Some(Principal {
+            address: own.address,
+            contract: Some(*name),
+        }),
+    }
+}
+
+/// The logarithm to base 2, rounded down, and 0 at 0.
+fn log2(n: u64) -> u32
+    ensures value { result ≡ log2 n }
+    ensures small { result < 64 }
+{
+    if n == 0 { 0 } else { n.ilog2() }
+}
+
+fn shape_at(shape: Shape, n: u64) -> u128
+    ensures { result ≡ shape_at shape n }
+{
+    let logarithm = u128::from(log2(n));
+    let n = u128::from(n);
+    match shape {
+        Shape::Constant(b) => u128::from(b),
+        Shape::Linear(a, b) => u128::from(a) * n + u128::from(b),
+        Shape::Logn(a, b) => u128::from(a) * logarithm + u128::from(b),
+        Shape::Nlogn(a, b) => u128::from(a) * n * logarithm + u128::from(b),
+    }
+}
+
+/// The cost at any number; `CostFn::at` takes those that a `Meter` may be charged with.
+fn cost_at(function: CostFn, n: u64) -> Cost5
+    ensures { result ≡ cost_at function n }
+{
+    Cost5 {
+        runtime: shape_at(function.runtime, n),
+        read_count: shape_at(function.read_count, n),
+        read_length: shape_at(function.read_length, n),
+        write_count: shape_at(function.write_count, n),
+        write_length: shape_at(function.write_length, n),
+    }
+}
+
+impl Prices {
+    /// One charge.
+    pub(crate) fn charge(&self, name: CostName, n: u64) -> Sum
+        requires { n < 2 ^ 40 }
+        ensures { result ≡ told (charge name n (function_of self.now.costs)) }
+    {
+        Sum::of(self.costs.of(name).at(n))
+    }
+
+    /// One charge with the length of a text, in bytes.
+    pub(crate) fn charge_length(&self, name: CostName, length: u32) -> Sum
+        ensures { result ≡ told (charge name length (function_of self.now.costs)) }
+    {
+        self.charge(name, u64::from(length))
+    }
+
+    /// One charge with a number of things, however many.
+    pub(crate) fn charge_count(&self, name: CostName, count: usize) -> Sum
+        ensures { result ≡ told (charge name count (function_of self.now.costs)) }
+    {
+        Sum::of(cost_at(self.costs.of(name), count as u64))
+    }
+
+    /// The bound of one application of a function of the contract.
+    #[tactic(auto, using(crate::proofs::Lookups::applied_is, crate::proofs::Lookups::applied_none))]
+    pub(crate) fn function(&self, name: &Name) -> Sum
+        ensures { (G : Context) → ShowsPrices self.now G → result ≡ told (applied (signature_in name.now G.functions) (function_of self.now.costs)) }
+    {
+        match self.functions.get(name) {
+            Some(application) => application.bound,
+            None => Sum::ZERO,
+        }
+    }
+
+    /// A call of a function of another contract, if there is such a one.
+    fn call_at(&self, principal: &Principal, name: &Name) -> Sum
+        ensures { (G : Context) → ShowsPrices self.now G → result ≡ told (called_at (there_or_not (target_at G principal.now)) name.now (function_of self.now.costs)) }
+    {
+        if *principal == self.principal {
+            return Sum::ZERO;
+        }
+        match self.deployed.get(principal) {
+            Some(known) => {
+                let call = self.charge_length(CostName::ContractCall, known.length);
+                call.add(&callable(&known.functions, name))
+            }
+            None => Sum::ZERO,
+        }
+    }
+
+    /// A call of a function of the contract that a literal stands for.
+    pub(crate) fn abroad(&self, target: &Target, name: &Name) -> Sum
+        ensures { (G : Context) → ShowsPrices self.now G → result ≡ told (called_at (target_or_not G (contract_literal G.principal (leaf_of target.now))) name.now (function_of self.now.costs)) }
+    {
+        match literal(&self.principal, target) {
+            Some(principal) => self.call_at(&principal, name),
+            None => Sum::ZERO,
+        }
+    }
+}

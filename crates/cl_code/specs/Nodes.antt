@@ -1,0 +1,39 @@
+-- What a node needs besides its parts: as many of them as it takes, and names that are its own.
+use Rattle.std.specs.Prelude.{ℕ, suc, ◌==◌, not, nat_le, nat_lt, Bool, true, length, is_some}
+use Rattle.cl_forms.specs.declared.head.Head.TheVariants.{OnValues}
+use Rattle.cl_forms.specs.Heads.{native, is_one_of, keywords, takes, row_of}
+use Rattle.cl_code.specs.declared.op.Applied.{Applied}
+use Rattle.cl_code.specs.declared.op.Applied.TheVariants.{Function, OnValues as OnValuesBy}
+use Rattle.cl_code.specs.declared.op.Op.{Op}
+use Rattle.cl_code.specs.declared.op.Op.TheVariants.{Bound, Constant, OnValues as OnValuesOp, OnParts, OnName, Iterate, AsMaxLen, Tuple, TupleOf, Let, MatchOptional, MatchResponse, Call, ContractCall}
+use Rattle.cl_code.specs.OpNames.{parts_head, name_head, iteration_head}
+
+-- what is given by name: a function's name is no native's, and a native can be given by name
+unfoldable pub has_own_applied : Applied → Bool
+has_own_applied (Function f) = not (is_some (native f.name))
+has_own_applied (OnValuesBy native at) = (row_of (OnValues native)).by_name
+has_own_applied applied = true
+
+-- no keyword is a binding or a constant, and no native a function
+unfoldable pub has_own_name : Op → Bool
+has_own_name (Bound x) = not (is_one_of keywords x)
+has_own_name (Constant x) = not (is_one_of keywords x)
+has_own_name (Call f) = not (is_some (native f.name))
+has_own_name (Iterate iteration head applied) = has_own_applied applied
+has_own_name op = true
+
+-- whether a node has so many parts: as many as its native takes besides what isn't evaluated; literals and names have none
+abbrev pub has_parts : Op → ℕ → Bool
+has_parts (OnValuesOp native head) count = takes (row_of (OnValues native)).arity count
+has_parts (OnParts native head) count = takes (row_of (parts_head native)).arity count
+has_parts (OnName native head name) count = takes (row_of (name_head native)).arity (suc count)
+has_parts (Iterate iteration head applied) count = takes (row_of (iteration_head iteration)).arity (suc count)
+has_parts (AsMaxLen head most at) count = count == 1
+has_parts (Tuple keys) count = count == length keys.items
+has_parts (TupleOf head pairs) count = count == length pairs.items
+has_parts (Let head at bindings) count = nat_lt (length bindings.items) count
+has_parts (MatchOptional head part) count = count == 3
+has_parts (MatchResponse head good bad) count = count == 3
+has_parts (Call f) count = true
+has_parts (ContractCall head target function callee) count = true
+has_parts op count = count == 0

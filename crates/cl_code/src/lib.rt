@@ -1,0 +1,14 @@
+//! Typed trees: the expressions of a contract as they are evaluated, each with its type and its place in the text.
+#![tactic(auto)]
+
+mod code;
+mod definition;
+mod op;
+
+pub use code::Code;
+pub use definition::{
+    Constant, Definition, Function, Fungible, MapOf, NonFungible, TopLevel, Variable,
+};
+pub use op::{
+    Applied, Binding, Callee, Iteration, Keyword, NameNative, Op, PartsNative, Target, Word,
+};

@@ -1,0 +1,4 @@
+pub mod Places
+pub mod Principals
+pub mod StandingTyped
+pub mod KnownLaws

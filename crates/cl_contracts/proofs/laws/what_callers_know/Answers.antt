@@ -1,0 +1,9 @@
+use Rattle.cl_contracts.proofs.StandingTyped.{standing_is_typed}
+use Rattle.cl_contracts.proofs.KnownLaws.{known_is}
+use Rattle.cl_contracts.proofs.laws.what_callers_know.Goals as goal
+
+pub returns-clause-typed : goal.returns-clause-typed
+returns-clause-typed c = standing_is_typed
+
+pub returns-clause-known : goal.returns-clause-known
+returns-clause-known c = known_is

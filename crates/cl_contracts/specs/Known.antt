@@ -1,0 +1,38 @@
+-- What callers know of a deployed contract is what the code keeps of it.
+use Rattle.std.specs.Prelude.{◌≡◌, ℕ, List, Option, Some, None, option_map}
+use Rattle.cl_types.specs.Types.{PlainType}
+use Rattle.cl_types.specs.declared.sized.Access.{Access}
+use Rattle.cl_c32.specs.declared.principal.Principal.{Principal}
+use Rattle.cl_code.specs.declared.definition.Function.{Function as TypedFunction}
+use Rattle.cl_rules.specs.Context.{Signature, Known, known_at, signature_in}
+use Rattle.cl_contracts.specs.declared.contract.Contract.{Contract}
+use Rattle.cl_contracts.specs.declared.deployed.Deployed.{Deployed}
+use Rattle.cl_contracts.specs.Seen.{function_under, contract_under, AreIndexed}
+use Rattle.cl_contracts.specs.Standings.{Knows}
+
+-- a function as its callers see it, but for its name and its bound
+pub record Shown : Type 0 where
+  pub access : Access
+  pub params : List (List ℕ × PlainType)
+  pub returns : PlainType
+  pub height : ℕ
+
+abbrev pub seen : Signature → Shown
+seen f = record { access = f.access; params = f.params; returns = f.returns; height = f.height }
+
+abbrev pub shown : TypedFunction → Shown
+shown f = record { access = f.access; params = f.params.items; returns = f.returns; height = f.height }
+
+-- a contract's length and its functions, but for their bounds, are those that its callers know
+pub record IsKnownAs (c : Contract) (k : Known) : Type 0 where
+  pub length : k.length ≡ c.checked.source_length
+  pub functions : (x : List ℕ) → option_map seen (signature_in x k.functions) ≡ option_map shown (function_under x c.checked)
+
+abbrev pub AreKnownAs : Option Contract → Option Known → Type 0
+AreKnownAs None None = Unit {0}
+AreKnownAs (Some c) (Some k) = IsKnownAs c k
+AreKnownAs c k = ⊥
+
+-- callers know a contract at a principal just where one is deployed, and as it is
+abbrev pub KnownAsDeployed : Type 0
+KnownAsDeployed = (d : Deployed) (known : List Known) → AreIndexed d → Knows d known → (p : Principal) → AreKnownAs (contract_under p d.contracts.entries) (known_at p known)

@@ -1,0 +1,77 @@
+-- How evaluations see the contracts of the code, and that they find what is defined.
+use Rattle.std.specs.Prelude.{◌≡◌, ℕ, List, [], ◌∷◌, map, slice_get, if◌then◌else◌, Option, Some, None, option_and_then}
+use Rattle.cl_c32.specs.declared.principal.Principal.{Principal}
+use Rattle.cl_values.specs.Valid.{IsPrincipal}
+use Rattle.cl_forms.specs.Forms.{Form, FormKind}
+use Rattle.cl_forms.specs.Names.{name_at}
+use Rattle.cl_forms.specs.Order.{IsGoodOrder}
+use Rattle.cl_code.specs.declared.definition.Function.{Function as TypedFunction}
+use Rattle.cl_code.specs.declared.definition.Definition.{Definition}
+use Rattle.cl_code.specs.declared.definition.Definition.TheVariants.{Function}
+use Rattle.cl_code.specs.Typed.{expression_of}
+use Rattle.cl_code.specs.Definitions.{form_defined}
+use Rattle.cl_meaning.specs.Deployed.{Contract as ContractSeen, Deployed as DeployedSeen, Function as FunctionSeen}
+use Rattle.cl_rules.specs.Context.{named_in, same_principal}
+use Rattle.cl_contracts.specs.declared.checked.Checked.{Checked}
+use Rattle.cl_contracts.specs.declared.contract.Contract.{Contract}
+use Rattle.cl_contracts.specs.declared.deployed.Deployed.{Deployed}
+
+-- the forms of a contract, in the order of its text
+abbrev pub forms_of : Checked → List Form
+forms_of c = map form_defined c.definitions.items
+
+-- a deployed contract
+abbrev pub contract_seen : Principal × Contract → ContractSeen
+contract_seen e = record { principal = e.0; forms = forms_of e.1.checked; source_length = e.1.checked.source_length; constants = e.1.constants.entries }
+
+-- the deployed contracts, the oldest first
+abbrev pub deployed_seen : Deployed → DeployedSeen
+deployed_seen d = map contract_seen d.contracts.entries
+
+-- ---- what is defined under a name
+
+abbrev pub kind_at : Definition → FormKind
+kind_at d = (form_defined d).kind
+
+-- the definition at the place of a name
+abbrev pub definition_under : List ℕ → Checked → Option Definition
+definition_under x c = option_and_then (slice_get c.definitions.items) (named_in x c.places.entries)
+
+abbrev pub as_function : Definition → Option TypedFunction
+as_function (Function f) = Some f
+as_function d = None
+
+-- the function of a name
+abbrev pub function_under : List ℕ → Checked → Option TypedFunction
+function_under x c = option_and_then as_function (definition_under x c)
+
+-- a function with the expression of its body
+abbrev pub function_seen : TypedFunction → FunctionSeen
+function_seen f = record { name = f.name; access = f.access; params = f.params.items; body = expression_of f.body }
+
+-- Each name has the place of the form that defines it, and no other name has one; the order of evaluation is a good one.
+pub record IsIndexed (c : Checked) : Type 0 where
+  pub placed : (x : List ℕ) (n : ℕ) → name_at (forms_of c) n ≡ Some x → named_in x c.places.entries ≡ Some n
+  pub named : (x : List ℕ) (n : ℕ) → named_in x c.places.entries ≡ Some n → name_at (forms_of c) n ≡ Some x
+  pub order : IsGoodOrder (forms_of c) c.order.items
+
+-- ---- the contract of a principal
+
+-- the contract that is deployed under a principal
+abbrev pub contract_under : Principal → List (Principal × Contract) → Option Contract
+contract_under p [] = None
+contract_under p (e ∷ es) = if same_principal e.0 p then Some e.1 else contract_under p es
+
+-- a contract is deployed under its own principal, and its names are indexed
+pub record IsEntry (e : Principal × Contract) : Type 0 where
+  pub principal : e.1.checked.principal ≡ e.0
+  pub valid : IsPrincipal e.0
+  pub indexed : IsIndexed e.1.checked
+
+abbrev pub AreEntries : List (Principal × Contract) → Type 0
+AreEntries [] = Unit {0}
+AreEntries (e ∷ es) = IsEntry e × AreEntries es
+
+-- each deployed contract is such a one
+pub record AreIndexed (d : Deployed) : Type 0 where
+  pub each : AreEntries d.contracts.entries

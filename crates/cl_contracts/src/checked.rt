@@ -1,0 +1,66 @@
+//! Contracts that break no rule of typing.
+ghost use Rattle.std.specs.Prelude.{◌≡◌, option_map, option_and_then, option_copied};
+ghost use Rattle.cl_meaning.specs.Deployed.{form_of, function_in};
+ghost use Rattle.cl_rules.specs.Context.{named_in};
+ghost use Rattle.cl_contracts.specs.Seen.{IsIndexed, as_function, definition_under, forms_of, function_seen, function_under, kind_at};
+
+use cl_c32::Principal;
+use cl_code::{Definition, Function};
+use cl_types::Name;
+use indexmap::IndexMap;
+
+/// A contract that breaks no rule of typing: its definitions with typed trees, in the order of its text.
+#[derive(Drop)]
+pub struct Checked {
+    pub principal: Principal,
+    pub definitions: Vec<Definition>,
+    /// The places of the definitions in the order of evaluation.
+    pub order: Vec<usize>,
+    /// The place of each name that is defined.
+    pub places: IndexMap<Name, usize>,
+    /// The length of its text, in bytes.
+    pub source_length: u32,
+}
+
+#[tactic(auto, using(crate::proofs::Places::under_name))]
+fn place_under<'a>(places: &'a IndexMap<Name, usize>, name: &Name) -> Option<&'a usize>
+    ensures { option_copied result ≡ named_in name.now places.now.entries }
+{
+    places.get(name)
+}
+
+fn as_function(definition: Option<&Definition>) -> Option<&Function>
+    ensures { option_copied result ≡ option_and_then as_function (option_copied definition.entry) }
+{
+    match definition {
+        Some(Definition::Function(function)) => Some(function),
+        _ => None,
+    }
+}
+
+impl Checked {
+    fn definition_under(&self, name: &Name) -> Option<&Definition>
+        ensures { option_copied result ≡ definition_under name.now self.now }
+    {
+        match place_under(&self.places, name) {
+            Some(place) => self.definitions.get(*place),
+            None => None,
+        }
+    }
+
+    /// What is defined under a name.
+    pub fn definition(&self, name: &Name) -> Option<&Definition>
+        ensures there { option_copied result ≡ definition_under name.now self.now }
+        ensures form { IsIndexed self.now → option_map (λ d. kind_at d.now) result ≡ form_of name.now (forms_of self.now) }
+    {
+        self.definition_under(name)
+    }
+
+    /// The function of a name.
+    pub fn function(&self, name: &Name) -> Option<&Function>
+        ensures there { option_copied result ≡ function_under name.now self.now }
+        ensures seen { IsIndexed self.now → option_map (λ f. function_seen f.now) result ≡ function_in name.now (forms_of self.now) }
+    {
+        as_function(self.definition_under(name))
+    }
+}

@@ -1,0 +1,12 @@
+//! Contracts whose definitions are typed, and the deployed ones.
+#![tactic(auto)]
+
+mod checked;
+mod contract;
+mod deployed;
+mod laws;
+
+pub use checked::Checked;
+pub use contract::Contract;
+pub use deployed::Deployed;
+pub use laws::what_callers_know;

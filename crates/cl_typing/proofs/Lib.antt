@@ -1,0 +1,12 @@
+pub mod BranchRows
+pub mod Conclusions
+pub mod IterationRows
+pub mod JoinedTypes
+pub mod LastTypes
+pub mod MadeTypes
+pub mod NativeRows
+pub mod SequenceRows
+pub mod StatedRows
+pub mod TupleRows
+pub mod UseRows
+pub mod VerdictLaws

@@ -1,0 +1,6 @@
+pub mod Branches
+pub mod FormVerdicts
+pub mod Stated
+pub mod Tuples
+pub mod Uses
+pub mod Verdicts
