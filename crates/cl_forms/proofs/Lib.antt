@@ -9,3 +9,4 @@ pub mod Results
 pub mod Placing
 pub mod Weighing
 pub mod ExpressionsFit
+pub mod Nesting

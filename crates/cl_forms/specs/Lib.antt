@@ -17,3 +17,4 @@ pub mod Placed
 pub mod Cycle
 pub mod Weights
 pub mod Fits
+pub mod Depth

@@ -20,6 +20,8 @@ pub use definitions::forms;
 pub use form::{Form, FormKind};
 pub use head::{Head, TokenNative};
 pub use laws::{natives_have_one_name, rows_are_of_heads};
-pub use placed::{expressions_are_placed, expressions_are_within_limits};
+pub use placed::{
+    expressions_are_placed, expressions_are_within_limits, expressions_nest_as_items,
+};
 pub use reserved::is_reserved;
 pub use weights::forms_have_few_parts;

@@ -1,10 +1,11 @@
-//! Where the expressions of forms stand, and that their literals are within the limits.
-ghost use Rattle.std.specs.Prelude.{ℕ, List};
-ghost use Rattle.cl_sexpr.specs.Tree.{Tree, Forest};
+//! Where the expressions of forms stand, how deep they nest, and that their literals are within the limits.
+ghost use Rattle.std.specs.Prelude.{◌≡◌, ℕ, List, slice_get, Some};
+ghost use Rattle.cl_sexpr.specs.Tree.{Tree, Forest, forest, forest_depth};
 ghost use Rattle.cl_sexpr.specs.Placed.{ArePlaced};
 ghost use Rattle.cl_sexpr.specs.Fits.{AllFit};
 ghost use Rattle.cl_forms.specs.Fits.{FormsFit};
-ghost use Rattle.cl_forms.specs.Forms.{Form};
+ghost use Rattle.cl_forms.specs.Depth.{NestsAtMost};
+ghost use Rattle.cl_forms.specs.Forms.{Form, expression_of};
 ghost use Rattle.cl_forms.specs.FormBreaks.{AreForms};
 ghost use Rattle.cl_forms.specs.Shapes.{trees_of};
 ghost use Rattle.cl_forms.specs.Placed.{AllPlaced, AreFormsPlaced};
@@ -18,4 +19,9 @@ pub fn expressions_are_placed()
 /// The names and literals in the expressions of forms are within the limits, where those of their items are.
 pub fn expressions_are_within_limits()
     ensures { (items : Forest) (forms : List Form) → AllFit items → AreForms (trees_of items) forms → FormsFit forms }
+{}
+
+/// The expressions of forms nest no deeper than the items that the forms are made of.
+pub fn expressions_nest_as_items()
+    ensures { (items : List Tree) (forms : List Form) (n : ℕ) (form : Form) → AreForms items forms → slice_get forms n ≡ Some form → NestsAtMost (forest_depth (forest items)) (expression_of form.kind) }
 {}
