@@ -16,6 +16,7 @@ use Rattle.cl_maps.specs.Maps.{get, put}
 use Rattle.cl_forms.specs.declared.head.Head.TheVariants.{VarGet, VarSet, MapGet, MapSet, MapInsert, MapDelete}
 use Rattle.cl_forms.specs.Heads.{Row, row_of}
 use Rattle.cl_events.specs.State.{State, place, spot, with_variables, with_entries}
+use Rattle.cl_values.specs.Computed.{Gives}
 use Rattle.cl_meaning.specs.Answers.{Answer, Given}
 use Rattle.cl_meaning.specs.Deployed.{has_map, contract_at}
 use Rattle.cl_meaning.specs.Scope.{sizes}
@@ -37,7 +38,7 @@ use Rattle.cl_expression_sound.proofs.Thrown.{MayThrow, ruling_fine}
 use Rattle.cl_expression_sound.proofs.Values.{true_typed, none_typed}
 use Rattle.cl_expression_sound.proofs.Choices.{unbroken_kind}
 use Rattle.cl_expression_sound.proofs.Wanted.{AreWantedValues, stated_values, by_named}
-use Rattle.cl_expression_sound.proofs.Strict.{charged_low, strict_sound, single_sound}
+use Rattle.cl_expression_sound.proofs.Strict.{charged_low, computed_sound, strict_sound, single_sound}
 use Rattle.cl_expression_sound.proofs.Natives.{one_low}
 use Rattle.cl_expression_sound.proofs.Stands.{Stands, here, IsSoundShape, concluded_sound, counted}
 use Rattle.cl_values.specs.Typed.{IsOf}
@@ -166,7 +167,7 @@ module _ (K : World) (N : Stands K) where
       let low_found : size_of found ≤ type_size (OptionalType t.1) = no_larger found (OptionalType t.1) typed in
       only_sound (own K.costs) _ _ u (map_there m t h)
       (charged_low K ReadMap (size_of key + size_of found) (sizes_of (f.type ∷ []) + type_size (OptionalType t.1)) _ (omega (arith, low_key, low_found))
-      (sound_stop K (λ v. IsOf v (OptionalType t.1)) (MayThrow (f ∷ []) None) zero_cost (Given found) u typed k))) s n
+      (computed_sound K (OptionalType t.1) (Gives found) u typed k))) s n
 
   get_by : (m : List ℕ) (at : Span) (es : List Tree) → IsSoundShape K N (head_shape MapGet (row_of MapGet) N.context N.names (LeafAt (Named m) at ∷ es)) (map_get_form N.take (here K N) (LeafAt (Named m) at ∷ es))
   unfolding head_shape

@@ -112,7 +112,7 @@ module _ (K : World) (N : Stands K) where
       (sound_known K (times c (length_of t)) (entries_of v) e.entries _ s e.there
       (sound_more K (times c (length e.entries)) (times c (length_of t)) _ (more_times c (length e.entries) (length_of t) e.few)
       (sound_last K (times c (length e.entries)) _ _ (sifted_sound K N used.callee c (entry_of t) (use_row u (entry_of t ∷ [])).type m.bool (λ x s j k. used.sound (entry_of t ∷ []) (x ∷ []) count (j, tt) m.rules low s k) e.entries e.typed s n)
-      (λ ys w k l. sound_stop K (λ v. IsOf v t) T zero_cost (Given (like v ys)) w (values_fit.likes t v e.entries ys i m.sequence e.there k) l))))
+      (λ ys w k l. computed_sound K t (Gives (like v ys)) w (values_fit.likes t v e.entries ys i m.sequence e.there k) l))))
 
   filter_each : (x : List ℕ) (at : Span) (u : Usable) → IsUsed K N u (callee_of (here K N) x at) → takes_values u 1 ≡ true → (e : Tree) (fs : List Found) → Follows N.context (all_parts N.names (e ∷ [])) fs → type_rules (filter_verdict (row_of Filter) u fs).faults ≡ [] → (filter_verdict (row_of Filter) u fs).found.height ≤ suc N.depth → (s : State) → IsKept K s → IsAsFound K (filter_verdict (row_of Filter) u fs).found (filter_form N.take N.enter (here K N) (LeafAt (Named x) at ∷ e ∷ []) s)
   unfolding filter_form

@@ -1,8 +1,9 @@
 -- Literals, keywords, bound names and constants.
-use Rattle.std.proofs.Common.{◌≡◌, ℕ, ◌<◌, ◌≤◌, ◌^◌, Bool, true, false, List, [], ◌∷◌, length, Option, Some, None, refl, sym, subst, ◌∙◌, arith, codes}
-use Rattle.std.specs.Prelude.{◌||◌, not, nat_le, if◌then◌else◌}
+use Rattle.std.proofs.Common.{◌≡◌, ℕ, ◌<◌, ◌≤◌, ◌^◌, Bool, true, false, List, [], ◌∷◌, length, Option, Some, None, Ok, Err, refl, sym, subst, ◌∙◌, arith, codes}
+use Rattle.std.specs.Prelude.{◌||◌, not, nat_le, nat_lt, if◌then◌else◌}
 use Rattle.std.specs.Str.{bytes_eq}
 use Rattle.std.proofs.lemmas.Bool.{leb-true}
+use Rattle.std.proofs.lemmas.Bool.Decides.{nat_tests}
 use Rattle.cl_types.specs.Types.{PlainType, NoType, IntType, UintType, BoolType, PrincipalType, BuffType, AsciiType, Utf8Type, OptionalType, size_of as type_size}
 use Rattle.cl_types.specs.Sized.{everywhere, most_size, is_within}
 use Rattle.cl_types.proofs.Lattice.{le_same, and_left}
@@ -11,15 +12,16 @@ use Rattle.cl_shapes.specs.declared.name.CostName.{CostName}
 use Rattle.cl_shapes.specs.declared.name.CostName.TheVariants.{Literal, Lookup, Context as ContextCost}
 use Rattle.cl_shapes.specs.Costs.{plus, zero_cost}
 use Rattle.cl_sexpr.specs.Tree.{Leaf, Named, Signed, Unsigned, Bytes, Ascii, Unicode, Standing, Local}
-use Rattle.cl_values.specs.Tree.{Tree as Val, IntV, UintV, BoolV, BuffV, AsciiV, Utf8V, PrincipalV, NoneV}
+use Rattle.cl_values.specs.Tree.{Tree as Val, IntV, UintV, BoolV, BuffV, AsciiV, Utf8V, PrincipalV, NoneV, depth_of}
+use Rattle.cl_values.specs.declared.refusal.ValueRefusal.TheVariants.{BadTuple, BadText, TooDeep, TooLarge}
 use Rattle.cl_values.specs.Wire.{size_of}
-use Rattle.cl_values.specs.Valid.{IsPrincipal}
+use Rattle.cl_values.specs.Valid.{IsPrincipal, IsVal, has_rising_keys, has_good_texts, made as value_made}
 use Rattle.cl_values.proofs.Admitted.{bounded}
 use Rattle.cl_events.specs.State.{State}
 use Rattle.cl_meaning.specs.Answers.{Answer, Given, give, with_known}
 use Rattle.cl_meaning.specs.Deployed.{value_of, constant_of, contract_at}
 use Rattle.cl_meaning.specs.Scope.{Bound}
-use Rattle.cl_meaning.specs.Names.{standing, first_of, name_form, leaf_form}
+use Rattle.cl_meaning.specs.Names.{standing, literal, first_of, name_form, leaf_form}
 use Rattle.cl_rules.specs.Faults.{type_rules}
 use Rattle.cl_rules.specs.NativeTypes.{Ruled, fine, made, is_small}
 use Rattle.cl_rules.specs.Context.{Names, charge, both, same, named_in, is_no_value}
@@ -40,6 +42,20 @@ use Rattle.cl_values.specs.Typed.{IsOf}
 use Rattle.cl_values.proofs.OfTypes.{no_larger}
 
 -- ---- literals
+
+-- what is valid is what is made
+made_if : (a b c d : Bool) (v : Val) → a ≡ true → b ≡ true → c ≡ false → d ≡ false → (if not a then Err BadTuple else if not b then Err BadText else if c then Err TooDeep else if d then Err TooLarge else Ok v) ≡ Ok v
+made_if true true false false v g h k l = refl
+made_if false b c d v g h k l = absurd cc
+made_if true false c d v g h k l = absurd cc
+made_if true true true d v g h k l = absurd cc
+made_if true true false true v g h k l = absurd cc
+
+not_lower : (m n : ℕ) → n ≤ m → nat_lt m n ≡ false
+not_lower m n h = grind (arith, nat_tests)
+
+valid_made : (v : Val) → IsVal v → value_made v ≡ Ok v
+valid_made v i = made_if (has_rising_keys v) (has_good_texts v) (nat_lt 32 (depth_of v)) (nat_lt 1048576 (size_of v)) v i.keys i.texts (not_lower 32 (depth_of v) i.depth) (not_lower 1048576 (size_of v) i.size)
 
 pub int_typed : (z : _) → LeafFits (Signed z) → IsOf (IntV z) IntType
 int_typed z h = record { valid = record { ranges = h; keys = refl; texts = refl; depth = omega arith; size = omega arith }; typed = refl }
@@ -118,6 +134,15 @@ module _ (K : World) (N : Stands K) where
   value_sound : (name : CostName) (r : Ruled) (v : Val) → (AreFineTypes r.faults → IsOf v r.type) → IsSoundShape K N (value_shape name r) (standing name v)
   value_sound name r v i = record { each = λ fs shape follows types low s n. value_each name r v i fs follows types s n }
 
+  -- the same where the value is known to be one by its type
+  literal_each : (r : Ruled) (v : Val) → (AreFineTypes r.faults → IsOf v r.type) → (fs : List Found) → Follows N.context (value_shape Literal r).plan fs → type_rules ((value_shape Literal r).verdict fs).faults ≡ [] → (s : State) → IsKept K s → IsAsFound K ((value_shape Literal r).verdict fs).found (literal (value_made v) s)
+  literal_each r v i _ ends types s n =
+      subst (λ o. IsAsFound K ((value_shape Literal r).verdict []).found (literal o s)) (sym (valid_made v (i (ruling_fine r 0 (both (charge Literal (type_size r.type)) (sum_of [])) [] types)).valid))
+      (value_each Literal r v i [] ends types s n)
+
+  literal_sound : (r : Ruled) (v : Val) → (AreFineTypes r.faults → IsOf v r.type) → IsSoundShape K N (value_shape Literal r) (literal (value_made v))
+  literal_sound r v i = record { each = λ fs shape follows types low s n. literal_each r v i fs follows types s n }
+
   -- ---- names
 
   known_sound : (o : Option PlainType) (p : Option PlainType) (v c : Option Val) (known : Bool) → ((t : PlainType) → o ≡ Some t → IsThere v t) → (o ≡ None → v ≡ None) → ((t : PlainType) → p ≡ Some t → IsThere c t) → IsSoundShape K N (value_or o (value_or p (no_value_shape known))) (λ s. with_known (first_of v c) (standing Lookup) s)
@@ -160,8 +185,8 @@ module _ (K : World) (N : Stands K) where
   leaf_sound (Named x) h = name_sound x
   leaf_sound (Signed z) h = value_sound Literal (fine IntType) (IntV z) (λ f. int_typed z h)
   leaf_sound (Unsigned n) h = value_sound Literal (fine UintType) (UintV n) (λ f. uint_typed n h)
-  leaf_sound (Bytes bytes) h = value_sound Literal (made (BuffType (length bytes))) (BuffV bytes) (buff_typed bytes h)
-  leaf_sound (Ascii bytes) h = value_sound Literal (made (AsciiType (length bytes))) (AsciiV bytes) (ascii_typed bytes h)
-  leaf_sound (Unicode cs) h = value_sound Literal (made (Utf8Type (length cs))) (Utf8V cs) (unicode_typed cs h)
+  leaf_sound (Bytes bytes) h = literal_sound (made (BuffType (length bytes))) (BuffV bytes) (buff_typed bytes h)
+  leaf_sound (Ascii bytes) h = literal_sound (made (AsciiType (length bytes))) (AsciiV bytes) (ascii_typed bytes h)
+  leaf_sound (Unicode cs) h = literal_sound (made (Utf8Type (length cs))) (Utf8V cs) (unicode_typed cs h)
   leaf_sound (Standing p) h = value_sound Literal (fine PrincipalType) (PrincipalV p) (λ f. principal_typed p h)
   leaf_sound (Local x) h = value_sound Literal (fine PrincipalType) _ (λ f. principal_typed _ (N.framed.contract.0, h))

@@ -4,10 +4,11 @@ use Rattle.cl_shapes.specs.declared.name.CostName.TheVariants.{ReadVar, WriteVar
 use Rattle.cl_sexpr.specs.Tree.{Tree, LeafAt, Named}
 use Rattle.cl_values.specs.Tree.{Tree as Val, BoolV}
 use Rattle.cl_values.specs.Wire.{size_of}
+use Rattle.cl_values.specs.Computed.{Gives}
 use Rattle.cl_values.specs.Sequences.{optional}
 use Rattle.cl_maps.specs.Maps.{get, put, without}
 use Rattle.cl_events.specs.State.{State, place, spot, with_variables, with_entries}
-use Rattle.cl_meaning.specs.Answers.{Answer, give, wrong, charged, and_then, with_known}
+use Rattle.cl_meaning.specs.Answers.{Answer, stop, give, wrong, charged, and_then, with_known, outcome_of}
 use Rattle.cl_meaning.specs.Deployed.{has_map}
 use Rattle.cl_meaning.specs.Scope.{Scope, home, Take, parts, sizes}
 
@@ -43,7 +44,7 @@ entry_at S m key s = get (spot S.frame.contract m key) s.entries
 
 -- charged by the key and by what was found
 abbrev pub found_at : Val → Val → State → Answer Val
-found_at key found s = charged ReadMap (size_of key + size_of found) (give found s)
+found_at key found s = charged ReadMap (size_of key + size_of found) (stop (outcome_of (Gives found)) s)
 
 unfoldable pub map_get_form : Take → Scope → List Tree → State → Answer Val
 map_get_form take S (LeafAt (Named m) at ∷ k ∷ []) s =

@@ -97,7 +97,7 @@ sifted enter S f (x ∷ xs) s = and_then (enter S f (x ∷ []) s) (λ v t. and_t
 
 -- a sequence of the same kind
 abbrev pub filtered : Enter → Scope → Val → Callee → State → Answer Val
-filtered enter S v f s = with_known (entries_of v) (λ xs t. and_then (sifted enter S f xs t) (λ ys. give (like v ys))) s
+filtered enter S v f s = with_known (entries_of v) (λ xs t. and_then (sifted enter S f xs t) (λ ys. stop (outcome_of (Gives (like v ys))))) s
 
 unfoldable pub filter_form : Take → Enter → Scope → List Tree → State → Answer Val
 filter_form take enter S (LeafAt (Named f) at ∷ e ∷ []) s =
