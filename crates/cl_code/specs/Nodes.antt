@@ -1,9 +1,12 @@
 -- What a node needs besides its parts: as many of them as it takes, and names that are its own.
-use Rattle.std.specs.Prelude.{ℕ, suc, ◌==◌, not, nat_le, nat_lt, Bool, true, length, is_some}
+use Rattle.std.specs.Prelude.{ℕ, suc, ◌==◌, ◌&&◌, not, nat_le, nat_lt, Bool, true, List, [], ◌∷◌, length, map, is_some}
+use Rattle.std.specs.List.{list_any}
+use Rattle.std.specs.Str.{bytes_eq}
 use Rattle.cl_forms.specs.declared.head.Head.TheVariants.{OnValues}
 use Rattle.cl_forms.specs.Heads.{native, is_one_of, keywords, takes, row_of}
 use Rattle.cl_code.specs.declared.op.Applied.{Applied}
 use Rattle.cl_code.specs.declared.op.Applied.TheVariants.{Function, OnValues as OnValuesBy}
+use Rattle.cl_code.specs.declared.op.Binding.{Binding}
 use Rattle.cl_code.specs.declared.op.Op.{Op}
 use Rattle.cl_code.specs.declared.op.Op.TheVariants.{Bound, Constant, OnValues as OnValuesOp, OnParts, OnName, Iterate, AsMaxLen, Tuple, TupleOf, Let, MatchOptional, MatchResponse, Call, ContractCall}
 use Rattle.cl_code.specs.OpNames.{parts_head, name_head, iteration_head}
@@ -14,12 +17,23 @@ has_own_applied (Function f) = not (is_some (native f.name))
 has_own_applied (OnValuesBy native at) = (row_of (OnValues native)).by_name
 has_own_applied applied = true
 
--- no keyword is a binding or a constant, and no native a function
+-- no name stands twice
+abbrev pub are_once : List (List ℕ) → Bool
+are_once [] = true
+are_once (x ∷ xs) = not (list_any (bytes_eq x) xs) && are_once xs
+
+-- the names in brackets
+abbrev pub bound_names : List Binding → List (List ℕ)
+bound_names = map (λ (b : Binding). b.word.name)
+
+-- no keyword is a binding or a constant, no native a function, and no key of a tuple stands twice
 unfoldable pub has_own_name : Op → Bool
 has_own_name (Bound x) = not (is_one_of keywords x)
 has_own_name (Constant x) = not (is_one_of keywords x)
 has_own_name (Call f) = not (is_some (native f.name))
 has_own_name (Iterate iteration head applied) = has_own_applied applied
+has_own_name (Tuple keys) = are_once keys.items
+has_own_name (TupleOf head pairs) = are_once (bound_names pairs.items)
 has_own_name op = true
 
 -- whether a node has so many parts: as many as its native takes besides what isn't evaluated; literals and names have none

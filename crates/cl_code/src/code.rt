@@ -7,7 +7,8 @@ use std::marker::Model;
 
 /// A typed tree: what the node does with the values of its parts, its type, and the bytes of the text that its expression is
 /// spelled by. It has fewer than 1,048,576 parts, as many as its native takes, and its names are its own: no keyword is a
-/// binding or a constant, and no native a function. Contracts see the expression that it stands for, its type and its parts.
+/// binding or a constant, no native a function, and no key of a tuple stands twice. Contracts see the expression that it stands
+/// for, its type and its parts.
 #[derive(Drop)]
 pub struct Code {
     pub op: Op,

@@ -24,7 +24,7 @@ use Rattle.cl_contracts.specs.declared.contract.Contract.{Contract}
 use Rattle.cl_contracts.specs.Seen.{forms_of, function_under, as_function, contract_under, IsIndexed, AreEntries}
 use Rattle.cl_contracts.specs.Standings.{AllStand, StandsAs, AreStanding, definitions_in_order}
 use Rattle.cl_contracts.proofs.Places.{get_map, within}
-use Rattle.cl_contracts.specs.Known.{Shown, seen, shown, AreKnownAs, KnownAsDeployed}
+use Rattle.cl_contracts.specs.Known.{Shown, seen, shown, AreKnownAs, KnownAsDeployed, DefinedAsKept}
 
 -- ---- the function of a name among definitions in a row
 
@@ -248,3 +248,6 @@ agree p before after (e ∷ es) ok s h = by (same_principal e.0 p) refl (agree p
 
 pub known_is : KnownAsDeployed
 known_is d known ok knows p = agree p [] known d.contracts.entries ok.each knows refl
+
+pub kept_is : DefinedAsKept
+kept_is before c defined ok stands x = known_one before c.principal c defined ok stands x

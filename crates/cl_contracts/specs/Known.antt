@@ -5,10 +5,12 @@ use Rattle.cl_types.specs.declared.sized.Access.{Access}
 use Rattle.cl_c32.specs.declared.principal.Principal.{Principal}
 use Rattle.cl_code.specs.declared.definition.Function.{Function as TypedFunction}
 use Rattle.cl_rules.specs.Context.{Signature, Known, known_at, signature_in}
+use Rattle.cl_rules.specs.FormRules.{Defined}
+use Rattle.cl_contracts.specs.declared.checked.Checked.{Checked}
 use Rattle.cl_contracts.specs.declared.contract.Contract.{Contract}
 use Rattle.cl_contracts.specs.declared.deployed.Deployed.{Deployed}
-use Rattle.cl_contracts.specs.Seen.{function_under, contract_under, AreIndexed}
-use Rattle.cl_contracts.specs.Standings.{Knows}
+use Rattle.cl_contracts.specs.Seen.{function_under, contract_under, AreIndexed, IsIndexed}
+use Rattle.cl_contracts.specs.Standings.{Knows, StandsAfter}
 
 -- a function as its callers see it, but for its name and its bound
 pub record Shown : Type 0 where
@@ -36,3 +38,7 @@ AreKnownAs c k = ⊥
 -- callers know a contract at a principal just where one is deployed, and as it is
 abbrev pub KnownAsDeployed : Type 0
 KnownAsDeployed = (d : Deployed) (known : List Known) → AreIndexed d → Knows d known → (p : Principal) → AreKnownAs (contract_under p d.contracts.entries) (known_at p known)
+
+-- what stands for a contract defines its functions as it has them
+abbrev pub DefinedAsKept : Type 0
+DefinedAsKept = (before : List Known) (c : Checked) (defined : Defined) → IsIndexed c → StandsAfter before c defined → (x : List ℕ) → option_map seen (signature_in x defined.context.functions) ≡ option_map shown (function_under x c)

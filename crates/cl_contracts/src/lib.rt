@@ -9,4 +9,4 @@ mod laws;
 pub use checked::Checked;
 pub use contract::Contract;
 pub use deployed::Deployed;
-pub use laws::what_callers_know;
+pub use laws::{keys_stand_once, what_callers_know};
