@@ -5,6 +5,7 @@ pub mod Holdings
 pub mod Naming
 pub mod OfTexts
 pub mod Signed
+pub mod Named
 pub mod Functions
 pub mod UnderLimits
 pub mod Stage

@@ -149,3 +149,19 @@ each_signed costs W ks A p valid c at x f is =
     let among = subst (λ fs. IsAmong x (forms_at fs h.accepted.order)) h.forms (all x kind.0 kind.1) in
     let g = some_there (signature_in x h.accepted.defined.context.functions) (signed x _ h.accepted.defined (forms_at h.accepted.forms h.accepted.order) h.accepted.typed.are_typed (function_among d (forms_at h.accepted.forms h.accepted.order) its x kind.0 kind.2 kind.1 among)) in
     record { known = known.0; signature = g.0; there = known.1; told = ap (λ (k : Known). signature_in x k.functions) h.known ∙ g.1 }
+
+-- the contract of a principal is of some text
+pub record IsOfSomeText (costs : CostTable) (c : Contract) : Type 0 where
+  pub before : List Known
+  pub known : Known
+  pub of_text : IsOfText costs before c known
+
+pub contract_text : (costs : CostTable) (W : Deployed) (ks : List Known) → AreContracts costs W ks → (p : Principal) → IsPrincipal p → (c : Contract) → contract_at p W ≡ Some c → IsOfSomeText costs c
+contract_text costs W ks A p valid c at =
+    let here = at_contains p W c at in
+    let same_principal : c.principal ≡ p = holders_apart c.principal p (A.distinct.valid c here) valid (found_principal p W c at) in
+    let known = some_there (known_at p ks) (subst (λ q. IsSome (known_at q ks)) same_principal (A.known c here)) in
+    let t = text_there costs W ks A.texts p known.0 known.1 in
+    let principal : t.0.contract.principal ≡ p = sym (ap (λ (k : Known). k.principal) t.0.of_text.known) ∙ t.1 in
+    let one : t.0.contract ≡ c = some_contract t.0.contract c (sym t.0.there ∙ ap (λ q. contract_at q W) principal ∙ at) in
+    record { before = t.0.before; known = known.0; of_text = subst (λ (d : Contract). IsOfText costs t.0.before d known.0) one t.0.of_text }

@@ -1,6 +1,7 @@
 -- Calls of functions of deployed contracts are sound.
-use Rattle.std.specs.Prelude.{◌≡◌, ℕ, ◌<◌, ◌≤◌, ◌^◌, true, List, Some}
+use Rattle.std.specs.Prelude.{◌≡◌, ℕ, ◌<◌, ◌≤◌, ◌^◌, true, List, length, Some}
 use Rattle.cl_types.specs.Types.{PlainType}
+use Rattle.cl_types.specs.Name.{IsName}
 use Rattle.cl_types.specs.declared.sized.Access.{Access}
 use Rattle.cl_types.specs.declared.sized.Access.TheVariants.{Public}
 use Rattle.cl_c32.specs.declared.principal.Principal.{Principal}
@@ -64,6 +65,12 @@ abbrev pub FunctionsAreSigned : Type 0
 FunctionsAreSigned =
     (costs : CostTable) (W : Deployed) (ks : List Known) → AreContracts costs W ks →
     (p : Principal) → IsPrincipal p → (c : Contract) → contract_at p W ≡ Some c → (x : List ℕ) (f : Function) → function_in x c.forms ≡ Some f → IsSigned ks p x
+
+-- each is called by a name, and has few parameters
+abbrev pub FunctionsAreNamed : Type 0
+FunctionsAreNamed =
+    (costs : CostTable) (W : Deployed) (ks : List Known) → AreContracts costs W ks →
+    (p : Principal) → IsPrincipal p → (c : Contract) → contract_at p W ≡ Some c → (x : List ℕ) (f : Function) → function_in x c.forms ≡ Some f → IsName x × (length f.params < 2 ^ 32)
 
 -- ---- expressions
 

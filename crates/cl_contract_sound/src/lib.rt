@@ -2,7 +2,7 @@
 #![tactic(auto)]
 
 ghost use Rattle.cl_contract_sound.specs.Deployments.{DeploymentsAreSound, TextsAreSound, GenesisIsNode, LimitsLeaveDeployments, BoundsSufficeForDeployments};
-ghost use Rattle.cl_contract_sound.specs.Laws.{FunctionsAreSound, FunctionsAreSigned, ExpressionsAreSound, LimitsLeaveSound, BoundsSuffice};
+ghost use Rattle.cl_contract_sound.specs.Laws.{FunctionsAreSound, FunctionsAreSigned, FunctionsAreNamed, ExpressionsAreSound, LimitsLeaveSound, BoundsSuffice};
 
 /// A function of a deployed contract, called with values of its parameters' types in a state that is kept, gives a value of
 /// its return type or aborts: it is never wrong, throws nothing, and a depth of 256 is enough. The state after it is kept, and
@@ -11,6 +11,11 @@ ghost use Rattle.cl_contract_sound.specs.Laws.{FunctionsAreSound, FunctionsAreSi
 pub fn functions_are_sound()
     ensures sound { FunctionsAreSound }
     ensures signed { FunctionsAreSigned }
+{}
+
+/// A function that evaluations find in a deployed contract is called by a name, and has fewer than 2^32 parameters.
+pub fn functions_are_named()
+    ensures { FunctionsAreNamed }
 {}
 
 /// An expression that is typed in a context of a deployed contract gives a value of its type, throws one of its thrown type,

@@ -1,7 +1,10 @@
 //! What a transaction tells, and what it moves.
+ghost use Rattle.std.specs.Prelude.{◌≡◌, IfOk};
+
 use cl_c32::Principal;
-use cl_types::Name;
+use cl_types::{Name, NoMemory};
 use cl_values::Val;
+use std::alloc::Global;
 
 /// What the code of a contract did, for those who listen.
 #[derive(Drop)]
@@ -9,6 +12,19 @@ pub struct Event {
     /// The contract whose code did it; of a token, the contract that defines it.
     pub contract: Principal,
     pub kind: EventKind,
+}
+
+impl Event {
+    /// A copy of the event.
+    pub fn copy(&self, alloc: Global) -> Result<Event, NoMemory>
+        ensures { IfOk result (λ e. e ≡ self.now) }
+    {
+        let kind = self.kind.copy(alloc)?;
+        Ok(Event {
+            contract: self.contract,
+            kind,
+        })
+    }
 }
 
 /// What was done.
@@ -57,6 +73,72 @@ pub enum EventKind {
         amount: u128,
         from: Principal,
     },
+}
+
+impl EventKind {
+    /// A copy of what was done.
+    pub fn copy(&self, alloc: Global) -> Result<EventKind, NoMemory>
+        ensures { IfOk result (λ k. k ≡ self.now) }
+    {
+        match self {
+            EventKind::Print(value) => Ok(EventKind::Print(value.copy(alloc)?)),
+            EventKind::NftMint { token, id, to } => Ok(EventKind::NftMint {
+                token: *token,
+                id: id.copy(alloc)?,
+                to: *to,
+            }),
+            EventKind::NftTransfer {
+                token,
+                id,
+                from,
+                to,
+            } => Ok(EventKind::NftTransfer {
+                token: *token,
+                id: id.copy(alloc)?,
+                from: *from,
+                to: *to,
+            }),
+            EventKind::NftBurn { token, id, from } => Ok(EventKind::NftBurn {
+                token: *token,
+                id: id.copy(alloc)?,
+                from: *from,
+            }),
+            EventKind::FtMint { token, amount, to } => Ok(EventKind::FtMint {
+                token: *token,
+                amount: *amount,
+                to: *to,
+            }),
+            EventKind::FtTransfer {
+                token,
+                amount,
+                from,
+                to,
+            } => Ok(EventKind::FtTransfer {
+                token: *token,
+                amount: *amount,
+                from: *from,
+                to: *to,
+            }),
+            EventKind::FtBurn {
+                token,
+                amount,
+                from,
+            } => Ok(EventKind::FtBurn {
+                token: *token,
+                amount: *amount,
+                from: *from,
+            }),
+            EventKind::StxTransfer { amount, from, to } => Ok(EventKind::StxTransfer {
+                amount: *amount,
+                from: *from,
+                to: *to,
+            }),
+            EventKind::StxBurn { amount, from } => Ok(EventKind::StxBurn {
+                amount: *amount,
+                from: *from,
+            }),
+        }
+    }
 }
 
 /// What can be moved: STX, a fungible token of a contract, or one asset of a non-fungible token of a contract, by its identifier.
