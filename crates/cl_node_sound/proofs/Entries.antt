@@ -65,7 +65,7 @@ calls_within costs node common contract function args s parts N x cost e =
     let c = call_comes costs node N common parts.0 contract parts.1 function args parts.2 in
     c.low cost (ap (λ (s : Stepped). s.result.cost) (some_same c.step s (sym c.is ∙ x)) ∙ e)
 
-told_bounds : (costs : Costs) (node : NodeSeen) (told : Told) (known : Known) (l : Limited Contract) (s : Stepped) → deployment_ended node told known l ≡ Some s → s.result.bounds ≡ told.bounds
+pub told_bounds : (costs : Costs) (node : NodeSeen) (told : Told) (known : Known) (l : Limited Contract) (s : Stepped) → deployment_ended node told known l ≡ Some s → s.result.bounds ≡ told.bounds
 told_bounds costs node told known (Gave c t purse) s e = ap (λ (s : Stepped). s.result.bounds) (sym (some_same _ s e))
 told_bounds costs node told known (Threw v t purse) s e = ap (λ (s : Stepped). s.result.bounds) (sym (some_same _ s e))
 told_bounds costs node told known (AbortedBy why purse) s e = ap (λ (s : Stepped). s.result.bounds) (sym (some_same _ s e))

@@ -1,0 +1,150 @@
+-- What is charged is within the bounds that were told last.
+use Rattle.std.proofs.Common.{◌≡◌, ◌⊎◌, inl, inr, ℕ, Bool, true, false, List, [], ◌∷◌, ◌++◌, length, Option, Some, None, refl, sym, ap, subst, ◌∙◌}
+use Rattle.std.specs.Prelude.{if◌then◌else◌, filter_map}
+use Rattle.std.specs.List.{All}
+use Rattle.std.proofs.lemmas.List.Elements.{All-head, All-tail}
+use Rattle.cl_c32.specs.declared.principal.Principal.{Principal}
+use Rattle.cl_shapes.specs.declared.cost.Cost5.{Cost5}
+use Rattle.cl_forms.specs.Forms.{Form}
+use Rattle.cl_meaning.specs.Deployed.{Contract}
+use Rattle.cl_meaning.specs.Limits.{Costs, Limited, Gave, Threw, AbortedBy, Passed, Lost}
+use Rattle.cl_rules.specs.Context.{Known, Signature, known_at, signature_in, named_in, same_principal}
+use Rattle.cl_rules.specs.FormRules.{Defined}
+use Rattle.cl_rules.specs.Acceptance.{known_of}
+use Rattle.cl_contract_sound.proofs.Serving.{known_split, principal_equal, principal_same}
+use Rattle.cl_tx.specs.declared.entry.Common.{Common}
+use Rattle.cl_tx.specs.declared.entry.Entry.{Entry}
+use Rattle.cl_tx.specs.declared.entry.Entry.TheVariants.{Deploy, Call}
+use Rattle.cl_tx.specs.declared.outcome.Bounds.{Bounds}
+use Rattle.cl_tx.specs.declared.outcome.TxResult.{TxResult}
+use Rattle.cl_tx.specs.Nodes.{NodeSeen, Stepped, Told, contract_of, deployment_ended}
+use Rattle.cl_tx.specs.Step.{Steps, DeploySteps, name_taken, source_refused, evaluated, AllStep, first_node, bound_line, told_of, run_deployment}
+use Rattle.cl_node_sound.specs.Sound.{IsSoundNode, HasParts}
+use Rattle.cl_node_sound.specs.Told.{ToldLast, none_told, or_before, told_after, IsWithinOwn, IsChargedWithin, AreChargedWithin}
+use Rattle.cl_node_sound.proofs.Entries.{first_sound, sound_stays, calls_within, deployments_within, told_bounds}
+use Rattle.cl_node_sound.proofs.KnownStay.{one_step, call_keeps}
+use Rattle.cl_node_sound.proofs.Lines.{accepted_lines}
+
+-- ---- bounds of what callers know
+
+-- what is told of an accepted text
+abbrev bounds_of : Costs → Defined → List Form → Bounds
+bounds_of costs defined forms = record { deploy = defined.deploy costs; functions = filter_map (bound_line costs defined) forms }
+
+module _ (costs : Costs) where
+  -- these told bounds have each function that callers see, with its bound
+  record IsToldOf (k : Known) (o : Option Bounds) : Type 0 where
+    pub bounds : Bounds
+    pub is : o ≡ Some bounds
+    pub lines : (x : List ℕ) (g : Signature) → signature_in x k.functions ≡ Some g → named_in x bounds.functions ≡ Some (g.bound costs)
+
+  -- so it is with each known contract
+  record AreTold (ks : List Known) (told : ToldLast) : Type 0 where
+    pub each : (p : Principal) (k : Known) → known_at p ks ≡ Some k → IsToldOf k (told p)
+
+  none_known : (p : Principal) (ks : List Known) (k : Known) → known_at p ks ≡ None → known_at p ks ≡ Some k → ⊥
+  none_known p ks k new h = none (sym new ∙ h)
+    where
+      none : None ≡ Some k → ⊥
+      none e = cc
+
+  module _ (ks : List Known) (told : ToldLast) (T : AreTold ks told) (p : Principal) where
+    -- a deployment that tells nothing
+    nothing_more : AreTold ks (λ q. if same_principal p q then or_before None (told q) else told q)
+    nothing_more = record { each = λ q k h. by q k h (same_principal p q) }
+      where
+        by : (q : Principal) (k : Known) → known_at q ks ≡ Some k → (b : Bool) → IsToldOf k (if b then or_before None (told q) else told q)
+        by q k h true = T.each q k h
+        by q k h false = T.each q k h
+
+    module _ (o : Option Bounds) (new : known_at p ks ≡ None) where
+      -- what is told of another contract leaves a known one's
+      of_known : (q : Principal) (k : Known) → known_at q ks ≡ Some k → IsToldOf k (if same_principal p q then or_before o (told q) else told q)
+      of_known q k h = by (same_principal p q) refl
+        where
+          by : (b : Bool) → same_principal p q ≡ b → IsToldOf k (if b then or_before o (told q) else told q)
+          by true e = absurd (none_known p ks k new (ap (λ r. known_at r ks) (principal_equal p q e) ∙ h))
+          by false e = T.each q k h
+
+      -- a deployment that deploys nothing
+      none_deployed : AreTold ks (λ q. if same_principal p q then or_before o (told q) else told q)
+      none_deployed = record { each = of_known }
+
+    -- a deployment that is done
+    one_deployed : (n : Known) (bounds : Bounds) → n.principal ≡ p → known_at p ks ≡ None → IsToldOf n (Some bounds) → AreTold (ks ++ n ∷ []) (λ q. if same_principal p q then or_before (Some bounds) (told q) else told q)
+    one_deployed n bounds named new own = record { each = λ q k h. by q k (known_split q ks n k h) }
+      where
+        here : IsToldOf n (if same_principal p p then Some bounds else told p)
+        here = subst (λ b. IsToldOf n (if b then Some bounds else told p)) (sym (principal_same p)) own
+
+        by : (q : Principal) (k : Known) → (known_at q ks ≡ Some k) ⊎ ((n.principal ≡ q) × (n ≡ k)) → IsToldOf k (if same_principal p q then or_before (Some bounds) (told q) else told q)
+        by q k (inl h) = of_known (Some bounds) new q k h
+        by q k (inr h) = subst (λ (x : Principal × Known). IsToldOf x.1 (if same_principal p x.0 then Some bounds else told x.0)) (λ i. ((sym named ∙ h.0) i, h.1 i)) here
+
+  -- ---- entry by entry
+
+  -- after a deployment in a node of which these bounds were told
+  abbrev Stays : NodeSeen → ToldLast → Principal → Stepped → Type 0
+  Stays node told p z = AreTold z.node.known (λ q. if same_principal p q then or_before z.result.bounds (told q) else told q)
+
+  module _ (node : NodeSeen) (told : ToldLast) (T : AreTold node.known told) (p : Principal) (new : known_at p node.known ≡ None) (now : Told) (n : Known) (named : n.principal ≡ p) (bounds : Bounds) (is : now.bounds ≡ Some bounds) (own : IsToldOf n (Some bounds)) where
+    then_told : (t s : Stepped) → Stays node told p t → Some t ≡ Some s → Stays node told p s
+    then_told t s h e = subst (Stays node told p) (one_step t s e) h
+
+    done : (o : Option Bounds) → o ≡ Some bounds → AreTold (node.known ++ n ∷ []) (λ q. if same_principal p q then or_before o (told q) else told q)
+    done o e = subst (λ o. AreTold (node.known ++ n ∷ []) (λ q. if same_principal p q then or_before o (told q) else told q)) (sym e) (one_deployed node.known told T p n bounds named new own)
+
+    ended_stays : (l : Limited Contract) (s : Stepped) → deployment_ended node now n l ≡ Some s → Stays node told p s
+    ended_stays (Gave c t purse) s e = then_told _ s (done now.bounds is) e
+    ended_stays (Threw v t purse) s e = then_told _ s (none_deployed node.known told T p now.bounds new) e
+    ended_stays (AbortedBy why purse) s e = then_told _ s (none_deployed node.known told T p now.bounds new) e
+    ended_stays (Passed over purse) s e = then_told _ s (none_deployed node.known told T p now.bounds new) e
+    ended_stays (Lost purse) s e = absurd cc
+
+  deployed_stay : (node : NodeSeen) (common : Common) (p : Principal) (source : List ℕ) (s : Stepped) (told : ToldLast) → AreTold node.known told → DeploySteps costs node common p source s → Stays node told p s
+  unfolding run_deployment
+  deployed_stay node common p source s told T (name_taken known e is) = subst (Stays node told p) (sym is) (nothing_more node.known told T p)
+  deployed_stay node common p source s told T (source_refused rule span names e b is) = subst (Stays node told p) (sym is) (nothing_more node.known told T p)
+  deployed_stay node common p source s told T (evaluated new accepted is) =
+      ended_stays node told T p new (told_of costs accepted.defined accepted.forms) (known_of p (length source) accepted.defined) refl (bounds_of costs accepted.defined accepted.forms) refl
+      (record { bounds = bounds_of costs accepted.defined accepted.forms; is = refl; lines = accepted_lines costs node.known p source accepted }) _ s is
+
+  told_stay : (node : NodeSeen) (entry : Entry) (s : Stepped) (told : ToldLast) → AreTold node.known told → Steps costs node entry s → AreTold s.node.known (told_after told entry s.result)
+  told_stay node (Deploy common name source) s told T x = deployed_stay node common (contract_of common.sender name) source s told T x
+  told_stay node (Call common contract function args) s told T x = subst (λ ks. AreTold ks told) (sym (call_keeps node costs common contract args function s x)) T
+
+  -- ---- charges
+
+  no_cost : (o : Option Cost5) (cost : Cost5) (P : Type 0) → o ≡ None → o ≡ Some cost → P
+  no_cost o cost P e h = let f : None ≡ Some cost = sym e ∙ h in absurd cc
+
+  within_own : (node : NodeSeen) (common : Common) (name source : List ℕ) (s : Stepped) → HasParts (Deploy common name source) → IsSoundNode costs node → Steps costs node (Deploy common name source) s → (cost : Cost5) → s.result.cost ≡ Some cost → IsWithinOwn s.result cost
+  unfolding run_deployment
+  within_own node common name source s parts N (name_taken known e is) cost c = no_cost s.result.cost cost (IsWithinOwn s.result cost) (ap (λ (z : Stepped). z.result.cost) is) c
+  within_own node common name source s parts N (source_refused rule span names e b is) cost c = no_cost s.result.cost cost (IsWithinOwn s.result cost) (ap (λ (z : Stepped). z.result.cost) is) c
+  within_own node common name source s parts N (evaluated new accepted is) cost c =
+      let told = told_bounds costs node (told_of costs accepted.defined accepted.forms) _ _ s is in
+      let bounds = bounds_of costs accepted.defined accepted.forms in
+      record { bounds = bounds; are_told = told; low = deployments_within costs node common name source s parts N (evaluated new accepted is) cost bounds c told }
+
+  within : (node : NodeSeen) (entry : Entry) (s : Stepped) (told : ToldLast) → HasParts entry → IsSoundNode costs node → AreTold node.known told → Steps costs node entry s → IsChargedWithin told entry s.result
+  within node (Deploy common name source) s told parts N T x = λ cost e. within_own node common name source s parts N x cost e
+  within node (Call common contract function args) s told parts N T x = λ cost e.
+      let w = calls_within costs node common contract function args s parts N x cost e in
+      let own = T.each contract w.known w.there in
+      record { bounds = own.bounds; bound = w.signature.bound costs; are_told = own.is; line = own.lines function w.signature w.told; low = w.low }
+
+  all_within : (entries : List Entry) (node : NodeSeen) (results : List TxResult) (after : NodeSeen) (told : ToldLast) → All HasParts entries → IsSoundNode costs node → AreTold node.known told → AllStep costs node entries results after → AreChargedWithin told entries results
+  all_within [] node results after told parts N T x = subst (AreChargedWithin told []) (sym x.0) tt
+  all_within (e ∷ es) node results after told parts N T x =
+      let here = All-head HasParts e es parts in
+      subst (AreChargedWithin told (e ∷ es)) (sym x.4) (
+        within node e x.0 told here N T x.2,
+        all_within es x.0.node x.1 after (told_after told e x.0.result) (All-tail HasParts e es parts) (sound_stays costs node e x.0 here N x.2) (told_stay node e x.0 told T x.2) x.3,
+      )
+
+  first_told : AreTold [] none_told
+  first_told = record { each = λ p k h. absurd cc }
+
+pub runs_within : (costs : Costs) (entries : List Entry) (results : List TxResult) (after : NodeSeen) → All HasParts entries → AllStep costs first_node entries results after → AreChargedWithin none_told entries results
+runs_within costs entries results after parts x = all_within costs entries first_node results after none_told parts (first_sound costs) (first_told costs) x
