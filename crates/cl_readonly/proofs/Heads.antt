@@ -1,0 +1,127 @@
+-- Natives that write, that apply what is given by name, and that call other contracts.
+use Rattle.std.proofs.Common.{◌≡◌, ℕ, Bool, true, false, List, [], ◌∷◌, Option, Some, None, refl, sym, ap, ◌∙◌}
+use Rattle.std.specs.Prelude.{codes, is_some, ◌||◌, ◌&&◌, map, if◌then◌else◌}
+use Rattle.std.specs.Str.{bytes_eq}
+use Rattle.std.proofs.lemmas.Bool.{or_parts}
+use Rattle.std.specs.List.{list_any, list_all}
+use Rattle.cl_types.proofs.Lattice.{keys_equal}
+use Rattle.cl_values.specs.declared.native.Native.TheVariants.{Add}
+use Rattle.cl_forms.specs.declared.head.TokenNative.TheVariants.{MintFt}
+use Rattle.cl_forms.specs.declared.head.Head.{Head}
+use Rattle.cl_forms.specs.declared.head.Head.TheVariants.{OnValues, OnToken, TupleOf, VarSet, MapSet, MapInsert, MapDelete, Map, Filter, Fold, ContractCall}
+use Rattle.cl_forms.specs.Heads.{Row, row_in, table, native, keywords, define_words, left_out, is_reserved, is_one_of as any_of}
+use Rattle.cl_forms.specs.HeadNames.{name_of, head_of_row}
+use Rattle.cl_forms.specs.Names.{same}
+use Rattle.cl_forms.specs.Writes.{writing_natives, applying_natives, is_one_of}
+use Rattle.cl_forms.proofs.Found.{found_by_name}
+
+abbrev pub writes_head : Head → Bool
+writes_head (OnToken act) = true
+writes_head VarSet = true
+writes_head MapSet = true
+writes_head MapInsert = true
+writes_head MapDelete = true
+writes_head head = false
+
+abbrev pub applies_head : Head → Bool
+applies_head Map = true
+applies_head Filter = true
+applies_head Fold = true
+applies_head head = false
+
+abbrev pub crosses_head : Head → Bool
+crosses_head ContractCall = true
+crosses_head head = false
+
+abbrev pub is_tuple : Head → Bool
+is_tuple TupleOf = true
+is_tuple head = false
+
+pub writes_name : (head : Head) → is_one_of writing_natives (name_of head) ≡ writes_head head
+writes_name (OnValues Add) = refl
+writes_name (OnValues n) = refl
+writes_name (OnToken MintFt) = refl
+writes_name (OnToken act) = refl
+writes_name head = refl
+
+pub applies_name : (head : Head) → is_one_of applying_natives (name_of head) ≡ applies_head head
+applies_name (OnValues Add) = refl
+applies_name (OnValues n) = refl
+applies_name (OnToken MintFt) = refl
+applies_name (OnToken act) = refl
+applies_name head = refl
+
+pub crosses_name : (head : Head) → same (name_of head) (codes "contract-call?") ≡ crosses_head head
+crosses_name (OnValues Add) = refl
+crosses_name (OnValues n) = refl
+crosses_name (OnToken MintFt) = refl
+crosses_name (OnToken act) = refl
+crosses_name head = refl
+
+pub tuple_name : (head : Head) → same (name_of head) (codes "tuple") ≡ is_tuple head
+tuple_name (OnValues Add) = refl
+tuple_name (OnValues n) = refl
+tuple_name (OnToken MintFt) = refl
+tuple_name (OnToken act) = refl
+tuple_name head = refl
+
+pub is_native : (head : Head) → native (name_of head) ≡ None → ⊥
+is_native head h = no_head (sym (found_by_name head) ∙ ap head_of_row h)
+  where
+    no_head : Some head ≡ None → ⊥
+    no_head h = cc
+
+-- ---- names that are no native's
+
+clash : (x y : List ℕ) → native x ≡ None → same x y ≡ true → is_some (native y) ≡ false
+clash x y none e = ap is_some (sym (ap native (keys_equal x y e)) ∙ none)
+
+native_step : (b d r n : Bool) → (b ≡ true → d ≡ false) → (d && r) ≡ true → (r ≡ true → n ≡ false) → (b || n) ≡ false
+native_step true true r n bad h rest = let no : true ≡ false = bad refl in absurd cc
+native_step true false r n bad h rest = absurd cc
+native_step false true r n bad h rest = rest h
+native_step false false r n bad h rest = absurd cc
+
+all_natives : (x : List ℕ) (names : List (List ℕ)) → list_all (λ y. is_some (native y)) names ≡ true → native x ≡ None → list_any (same x) names ≡ false
+all_natives x [] h none = refl
+all_natives x (y ∷ ys) h none = native_step (same x y) (is_some (native y)) (list_all (λ y. is_some (native y)) ys) (list_any (same x) ys) (clash x y none) h (λ k. all_natives x ys k none)
+
+pub no_writing : (x : List ℕ) → native x ≡ None → is_one_of writing_natives x ≡ false
+unfolding native
+no_writing x h = all_natives x writing_natives refl h
+
+pub no_applying : (x : List ℕ) → native x ≡ None → is_one_of applying_natives x ≡ false
+unfolding native
+no_applying x h = all_natives x applying_natives refl h
+
+pub no_crossing : (x : List ℕ) → native x ≡ None → same x (codes "contract-call?") ≡ false
+unfolding native
+no_crossing x h = or_false (same x (codes "contract-call?")) (all_natives x (codes "contract-call?" ∷ []) refl h)
+  where
+    or_false : (b : Bool) → (b || false) ≡ false → b ≡ false
+    or_false true h = h
+    or_false false h = refl
+
+pub no_tuple : (x : List ℕ) → native x ≡ None → same x (codes "tuple") ≡ false
+unfolding native
+no_tuple x h = or_false (same x (codes "tuple")) (all_natives x (codes "tuple" ∷ []) refl h)
+  where
+    or_false : (b : Bool) → (b || false) ≡ false → b ≡ false
+    or_false true h = h
+    or_false false h = refl
+
+row_step : (b : Bool) (row : Row) (rest : Option Row) (c : Bool) → (b || c) ≡ false → (c ≡ false → rest ≡ None) → (if b then Some row else rest) ≡ None
+row_step true row rest c h k = absurd cc
+row_step false row rest c h k = k h
+
+no_row : (rows : List Row) (x : List ℕ) → any_of (map (λ row. row.name) rows) x ≡ false → row_in rows x ≡ None
+no_row [] x h = refl
+no_row (row ∷ rows) x h = row_step (bytes_eq row.name x) row (row_in rows x) (any_of (map (λ r. r.name) rows) x) h (no_row rows x)
+
+pub no_native : (x : List ℕ) → is_reserved x ≡ false → native x ≡ None
+unfolding is_reserved native
+no_native x h =
+    let three = or_parts (any_of (map (λ row. row.name) table) x || any_of keywords x || any_of define_words x) (any_of left_out x) h in
+    let two = or_parts (any_of (map (λ row. row.name) table) x || any_of keywords x) (any_of define_words x) three.0 in
+    let one = or_parts (any_of (map (λ row. row.name) table) x) (any_of keywords x) two.0 in
+    no_row table x one.0

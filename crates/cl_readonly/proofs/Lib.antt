@@ -1,0 +1,10 @@
+pub mod Heads
+pub mod InOrder
+pub mod Least
+pub mod NodeLaws
+pub mod NodeNames
+pub mod Noting
+pub mod Publics
+pub mod Tests
+pub mod Walking
+pub mod Wrong

@@ -1,0 +1,4 @@
+pub mod Writing
+pub mod Publics
+pub mod Naming
+pub mod Functions

@@ -1,0 +1,31 @@
+-- Whether an expression names what it calls.
+use Rattle.std.specs.Prelude.{◌≡◌, ℕ, Bool, true, false, ◌||◌, ◌&&◌, List, [], ◌∷◌, is_some, None}
+use Rattle.std.specs.List.{list_any}
+use Rattle.cl_sexpr.specs.Tree.{Tree, LeafAt, Named, Forest, Then}
+use Rattle.cl_forms.specs.Heads.{native}
+use Rattle.cl_forms.specs.Names.{same, Place, atoms_in}
+use Rattle.cl_forms.specs.Writes.{applying_natives, is_one_of, Call, calls_in}
+use Rattle.cl_rules.specs.Context.{Context, signature_in}
+use Rattle.cl_code.specs.Typed.{Typed, expression_of}
+
+-- the first item is this name
+abbrev pub gives_it : List ℕ → Forest → Bool
+gives_it x (Then (LeafAt (Named f) at) es) = same x f
+gives_it x es = false
+
+-- a call of a function, or of what applies it by its name
+abbrev pub calls_it : List ℕ → Call → Bool
+calls_it x c = same x c.operator || (is_one_of applying_natives c.operator && gives_it x c.parts)
+
+-- where an expression calls this, it names it, at whatever place it stands
+abbrev pub IsNamed : List ℕ → Tree → Type 0
+IsNamed x e = (place : Place) → list_any (calls_it x) (calls_in e) ≡ true → list_any (same x) (atoms_in place e) ≡ true
+
+-- An expression names what it calls, unless that is a native's name or that of a function that is defined already. A call in a
+-- pair may go unnamed, so it isn't so of each text: it needs that the expression is typed.
+abbrev pub NamesUnknown : Context → Tree → Type 0
+NamesUnknown G e = (x : List ℕ) → native x ≡ None → is_some (signature_in x G.functions) ≡ false → IsNamed x e
+
+abbrev pub AllNameUnknown : Context → List Typed → Type 0
+AllNameUnknown G [] = Unit {0}
+AllNameUnknown G (q ∷ qs) = NamesUnknown G (expression_of q) × AllNameUnknown G qs

@@ -1,0 +1,8 @@
+//! Functions that write.
+#![tactic(auto)]
+
+mod along;
+mod nodes;
+mod walk;
+
+pub use along::first_writing;
