@@ -1,0 +1,7 @@
+use Rattle.std.proofs.Common.{None, ap, map, ◌∙◌}
+use Rattle.cl_typing.specs.Branches.{optional_row}
+use Rattle.cl_typing.proofs.VerdictLaws.{row_concluded}
+use Rattle.cl_judging.proofs.matches.on_optional.Goals as goal
+
+pub returns : goal.returns
+returns c = row_concluded optional_row None 0 c.args.parts.now _ c.match_optional-ruled.result c.conclude.result (ap (map (λ t. t.now)) c.deref.ensures.value ∙ c.in_ok-types.ensures) c.match_optional-ruled.ensures c.conclude.ensures

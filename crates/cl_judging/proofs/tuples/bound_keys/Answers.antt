@@ -1,0 +1,10 @@
+use Rattle.std.proofs.Common.{sym}
+use Rattle.cl_judging.proofs.LetWalks.{sound_next}
+use Rattle.cl_judging.proofs.TupleShapes.{keys_push}
+use Rattle.cl_judging.proofs.tuples.bound_keys.Goals as goal
+
+pub loop-item-preserved : goal.loop-item-preserved
+loop-item-preserved c = record {
+  so_far = keys_push c.args.items.now c.loop-item.item-index c.item-item.result c.in-Some.binding c.in-Some.field-0-1.now c.loop-item.keys.items c.push.new.self.items c.loop-item-test.true (sym c.item-item.is) c.in-Some.ensures.some c.in_ok-push.ensures.items c.loop-item.invariant.so_far;
+  sound = sound_next c.args.items.now c.loop-item.item-index c.item-item.result c.loop-item-test.true (sym c.item-item.is) c.loop-item.invariant.sound;
+}

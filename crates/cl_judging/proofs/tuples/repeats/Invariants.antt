@@ -1,0 +1,6 @@
+use Rattle.std.proofs.Common.{◌≡◌, [], drop}
+use Rattle.cl_forms.specs.FormBreaks.{repeats}
+use Rattle.cl_judging.proofs.tuples.repeats.Given as goal
+
+abbrev pub invariant-loop-key : goal.invariant-loop-key
+invariant-loop-key l = repeats l.seen.keys (drop l.key-index l.keys) ≡ repeats [] l.keys

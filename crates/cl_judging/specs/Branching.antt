@@ -1,0 +1,40 @@
+-- What match binds.
+use Rattle.std.specs.Prelude.{◌+◌, [], ◌∷◌, filter_map, if◌then◌else◌, Option, Some, None, Result}
+use Rattle.cl_types.specs.Types.{PlainType, OptionalType, ResponseType}
+use Rattle.cl_types.specs.declared.fault.Fault.{Fault}
+use Rattle.cl_sexpr.specs.declared.sexpr.Span.{Span}
+use Rattle.cl_sexpr.specs.declared.rule.Rule.{Rule}
+use Rattle.cl_sexpr.specs.declared.rule.Rule.TheVariants.{ShadowedName, BadBinding}
+use Rattle.cl_sexpr.specs.declared.rule.Break.{Break}
+use Rattle.cl_sexpr.specs.Tree.{Tree, forest, forest_depth}
+use Rattle.cl_forms.specs.Heads.{row_of}
+use Rattle.cl_forms.specs.declared.head.Head.TheVariants.{Match}
+use Rattle.cl_rules.specs.Context.{Names}
+use Rattle.cl_rules.specs.ControlShapes.{atom_of, match_shape}
+use Rattle.cl_code.specs.declared.op.Word.{Word}
+use Rattle.cl_code.specs.Expression.{word}
+use Rattle.cl_typing.specs.declared.concluding.Checked.{Checked}
+use Rattle.cl_judging.specs.declared.context.Context.{Context as CodeContext}
+use Rattle.cl_judging.specs.Seen.{shadowed_in}
+use Rattle.cl_judging.specs.Walking.{ChecksAs}
+
+-- the part of an optional
+abbrev pub optional_part : PlainType → Option PlainType
+optional_part (OptionalType t) = Some t
+optional_part t = None
+
+-- the parts of a response
+abbrev pub response_parts : PlainType → Option (PlainType × PlainType)
+response_parts (ResponseType t e) = Some (t, e)
+response_parts t = None
+
+-- a match of an optional, and of a response
+abbrev pub ChecksOptional : CodeContext → Names → Tree → Word → Tree → Tree → Span → Result Checked (Fault Break) → Type 0
+ChecksOptional c B i w a b at result = ChecksAs c (λ G. match_shape (row_of Match) G B (i ∷ word w ∷ a ∷ b ∷ [])) at (forest_depth (forest (i ∷ word w ∷ a ∷ b ∷ [])) + 1) result
+
+abbrev pub ChecksResponse : CodeContext → Names → Tree → Word → Tree → Word → Tree → Span → Result Checked (Fault Break) → Type 0
+ChecksResponse c B i w a w' b at result = ChecksAs c (λ G. match_shape (row_of Match) G B (i ∷ word w ∷ a ∷ word w' ∷ b ∷ [])) at (forest_depth (forest (i ∷ word w ∷ a ∷ word w' ∷ b ∷ [])) + 1) result
+
+-- the rule that two items break of which not both are names
+abbrev pub odd_rule : CodeContext → Names → Tree → Tree → Rule
+odd_rule c B e d = if shadowed_in c B (filter_map atom_of (e ∷ d ∷ [])) then ShadowedName else BadBinding

@@ -1,0 +1,14 @@
+pub mod Seen
+pub mod Walking
+pub mod Natives
+pub mod Keywords
+pub mod LetWalk
+pub mod Calls
+pub mod Controls
+pub mod Named
+pub mod Kinds
+pub mod Judgement
+pub mod Targets
+pub mod MaxLen
+pub mod Branching
+pub mod Uses

@@ -1,0 +1,70 @@
+//! What stands around an expression.
+ghost use Rattle.std.specs.Prelude.{◌≡◌, map, option_copied, is_some};
+ghost use Rattle.std.specs.Option.{option_map};
+ghost use Rattle.std.specs.List.{list_any};
+ghost use Rattle.cl_rules.specs.Context.{Signature as Signed, same, named_in, signature_in};
+ghost use Rattle.cl_judging.specs.Seen.{seen, seen_under, shown, shown_entry};
+
+use cl_c32::Principal;
+use cl_contracts::Deployed;
+use cl_types::{Access, Name, SizedTy};
+use indexmap::{IndexMap, IndexSet};
+
+/// A function as its callers see it. The height is that of its application.
+#[derive(Drop)]
+pub struct Signature {
+    pub access: Access,
+    pub params: Vec<(Name, SizedTy)>,
+    pub returns: SizedTy,
+    pub height: u32,
+}
+
+/// The contract that is checked, the deployed ones, and what the forms before define, each under its name.
+#[derive(Drop)]
+pub struct Context<'a> {
+    pub principal: Principal,
+    pub deployed: &'a Deployed,
+    pub constants: IndexMap<Name, SizedTy>,
+    pub variables: IndexMap<Name, SizedTy>,
+    pub maps: IndexMap<Name, (SizedTy, SizedTy)>,
+    pub fungibles: IndexSet<Name>,
+    pub nonfungibles: IndexMap<Name, SizedTy>,
+    pub functions: IndexMap<Name, Signature>,
+}
+
+/// The type under a name.
+#[tactic(auto, using(crate::proofs::Lookups::under_name))]
+pub(crate) fn type_under<'a>(types: &'a IndexMap<Name, SizedTy>, name: &Name) -> Option<&'a SizedTy>
+    ensures { option_copied result ≡ named_in name.now types.now.entries }
+{
+    types.get(name)
+}
+
+/// The types of keys and values under a name.
+#[tactic(auto, using(crate::proofs::Lookups::under_name))]
+pub(crate) fn map_under<'a>(
+    maps: &'a IndexMap<Name, (SizedTy, SizedTy)>,
+    name: &Name,
+) -> Option<&'a (SizedTy, SizedTy)>
+    ensures { option_copied result ≡ named_in name.now maps.now.entries }
+{
+    maps.get(name)
+}
+
+/// Whether a name is one of these.
+pub(crate) fn is_in(names: &IndexSet<Name>, name: &Name) -> bool
+    ensures { result ≡ list_any (same name.now) names.now.keys }
+{
+    names.contains(name)
+}
+
+/// The function under a name.
+#[tactic(auto, using(crate::proofs::Lookups::under_name))]
+pub(crate) fn function_under<'a>(
+    functions: &'a IndexMap<Name, Signature>,
+    name: &Name,
+) -> Option<&'a Signature>
+    ensures { option_copied result ≡ named_in name.now functions.now.entries }
+{
+    functions.get(name)
+}

@@ -1,0 +1,120 @@
+//! What match takes apart.
+ghost use Rattle.std.specs.Prelude.{◌≡◌, ◌≢◌, ◌∷◌, [], length, IfNone, IfOk, IfSome};
+ghost use Rattle.cl_types.specs.Sized.{IsSized};
+ghost use Rattle.cl_code.specs.Typed.{type_of};
+ghost use Rattle.cl_typing.specs.Branches.{optional_row, response_row};
+ghost use Rattle.cl_typing.specs.Verdicts.{ConcludesRow};
+ghost use Rattle.cl_judging.specs.Branching.{optional_part, response_parts};
+
+use crate::max_len::single;
+use cl_sexpr::{Rule, Sexpr};
+use cl_types::{Fault, NoMemory, SizedTy, Ty, TyKind};
+use cl_typing::{Checked, Concluded, conclude, fit, match_optional, match_response, types_of};
+use std::alloc::{AllocError, Global};
+
+fn sized(alloc: Global, part: &Ty) -> Result<SizedTy, NoMemory>
+    requires { IsSized part.now }
+    ensures { IfOk result (λ t. t ≡ part.now) }
+{
+    let copy = part.copy(alloc)?;
+    fit(alloc, copy)
+}
+
+/// The part of what was found, where it is an optional.
+pub(crate) fn part_of(alloc: Global, found: &Checked) -> Result<Option<SizedTy>, NoMemory>
+    ensures { IfOk result (λ o. o ≡ optional_part (type_of found.now.code)) }
+{
+    optional_part(alloc, found.code.result())
+}
+
+fn optional_part(alloc: Global, ty: &SizedTy) -> Result<Option<SizedTy>, NoMemory>
+    ensures { IfOk result (λ o. o ≡ optional_part ty.now) }
+{
+    match &ty.ty().kind {
+        TyKind::Optional(part) => {
+            let part = sized(alloc, part)?;
+            Ok(Some(part))
+        }
+        _ => Ok(None),
+    }
+}
+
+/// The parts of what was found, where it is a response.
+pub(crate) fn parts_of(
+    alloc: Global,
+    found: &Checked,
+) -> Result<Option<(SizedTy, SizedTy)>, NoMemory>
+    ensures { IfOk result (λ o. o ≡ response_parts (type_of found.now.code)) }
+{
+    response_parts(alloc, found.code.result())
+}
+
+fn response_parts(alloc: Global, ty: &SizedTy) -> Result<Option<(SizedTy, SizedTy)>, NoMemory>
+    ensures { IfOk result (λ o. o ≡ response_parts ty.now) }
+{
+    match &ty.ty().kind {
+        TyKind::Response(good, bad) => {
+            let good = sized(alloc, good)?;
+            let bad = sized(alloc, bad)?;
+            Ok(Some((good, bad)))
+        }
+        _ => Ok(None),
+    }
+}
+
+/// The items of a match of an optional.
+pub(crate) fn four(items: &[Sexpr]) -> Option<(&Sexpr, &Sexpr, &Sexpr, &Sexpr)>
+    ensures some { IfSome result (λ p. items.now ≡ p.0.now ∷ p.1.now ∷ p.2.now ∷ p.3.now ∷ []) }
+    ensures none { IfNone result (length items.now ≢ 4) }
+{
+    if items.len() == 4 {
+        Some((&items[0], &items[1], &items[2], &items[3]))
+    } else {
+        None
+    }
+}
+
+/// The items of a match of a response.
+pub(crate) fn five(items: &[Sexpr]) -> Option<(&Sexpr, &Sexpr, &Sexpr, &Sexpr, &Sexpr)>
+    ensures some { IfSome result (λ p. items.now ≡ p.0.now ∷ p.1.now ∷ p.2.now ∷ p.3.now ∷ p.4.now ∷ []) }
+    ensures none { IfNone result (length items.now ≢ 5) }
+{
+    if items.len() == 5 {
+        Some((&items[0], &items[1], &items[2], &items[3], &items[4]))
+    } else {
+        None
+    }
+}
+
+/// Three parts.
+pub(crate) fn three(
+    alloc: Global,
+    first: Checked,
+    second: Checked,
+    third: Checked,
+) -> Result<Vec<Checked>, AllocError>
+    ensures { IfOk result (λ v. v.items ≡ first ∷ second ∷ third ∷ []) }
+{
+    let mut parts = single(alloc, first)?;
+    parts.push(second)?;
+    parts.push(third)?;
+    Ok(parts)
+}
+
+/// The verdict on a match of an optional.
+pub(crate) fn on_optional(alloc: Global, parts: &[Checked]) -> Result<Concluded, Fault<Rule>>
+    ensures { ConcludesRow optional_row 0 parts.now result }
+{
+    let types = types_of(alloc, parts)?;
+    let ruled = match_optional(alloc, &types);
+    conclude(alloc, ruled, &None, 0, parts)
+}
+
+/// The verdict on a match of a response.
+pub(crate) fn on_response(alloc: Global, parts: &[Checked]) -> Result<Concluded, Fault<Rule>>
+    ensures { ConcludesRow response_row 0 parts.now result }
+{
+    let types = types_of(alloc, parts)?;
+    let ruled = match_response(alloc, &types);
+    conclude(alloc, ruled, &None, 0, parts)
+}
