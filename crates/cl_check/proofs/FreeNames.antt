@@ -1,0 +1,22 @@
+-- A name that isn't reserved is no native's.
+use Rattle.std.proofs.Common.{◌≡◌, ℕ, Bool, true, false, List, [], ◌∷◌, Option, Some, None, refl}
+use Rattle.std.specs.Prelude.{◌||◌, map, if◌then◌else◌}
+use Rattle.std.specs.Str.{bytes_eq}
+use Rattle.std.proofs.lemmas.Bool.{or_parts}
+use Rattle.cl_forms.specs.Heads.{Row, row_in, table, native, keywords, define_words, left_out, is_one_of, is_reserved}
+
+row_step : (b : Bool) (row : Row) (rest : Option Row) (c : Bool) → (b || c) ≡ false → (c ≡ false → rest ≡ None) → (if b then Some row else rest) ≡ None
+row_step true row rest c h k = absurd cc
+row_step false row rest c h k = k h
+
+no_row : (rows : List Row) (x : List ℕ) → is_one_of (map (λ row. row.name) rows) x ≡ false → row_in rows x ≡ None
+no_row [] x h = refl
+no_row (row ∷ rows) x h = row_step (bytes_eq row.name x) row (row_in rows x) (is_one_of (map (λ r. r.name) rows) x) h (no_row rows x)
+
+pub no_native : (x : List ℕ) → is_reserved x ≡ false → native x ≡ None
+unfolding is_reserved native
+no_native x h =
+    let three = or_parts (is_one_of (map (λ row. row.name) table) x || is_one_of keywords x || is_one_of define_words x) (is_one_of left_out x) h in
+    let two = or_parts (is_one_of (map (λ row. row.name) table) x || is_one_of keywords x) (is_one_of define_words x) three.0 in
+    let one = or_parts (is_one_of (map (λ row. row.name) table) x) (is_one_of keywords x) two.0 in
+    no_row table x one.0

@@ -1,0 +1,3 @@
+pub mod JudgingForms
+pub mod Placing
+pub mod Checking
