@@ -4,3 +4,5 @@ pub mod Events
 pub mod Lines
 pub mod StateLines
 pub mod LineSets
+pub mod RowLines
+pub mod Checks

@@ -1,6 +1,7 @@
 //! The text of the report.
 #![tactic(auto)]
 
+mod checks;
 mod costs;
 mod entries;
 mod events;
@@ -8,6 +9,7 @@ mod laws;
 mod refusals;
 mod state;
 
+pub use checks::{accepted_lines, refused_line};
 pub use entries::lines;
 pub use events::event_line;
 pub use laws::a_state_has_one_text;

@@ -43,8 +43,13 @@ fn write_dimension(out: &mut Vec<u8>, rule: Rule) -> Result<(), AllocError>
     }
 }
 
+/// Writes the rule that a source breaks, with its span and names.
 #[tactic(auto, unfolding(crate::specs::Refusals::refusal_text))]
-fn write_refusal(out: &mut Vec<u8>, alloc: Global, refusal: &SourceRefusal) -> Result<(), NoMemory>
+pub(crate) fn write_refusal(
+    out: &mut Vec<u8>,
+    alloc: Global,
+    refusal: &SourceRefusal,
+) -> Result<(), NoMemory>
     ensures { IfOk result (λ _. out.new.items ≡ out.old.items ++ refusal_text refusal.now) }
 {
     let refusal = refusal.refusal();

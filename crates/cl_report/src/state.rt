@@ -1,33 +1,80 @@
 //! The lines of a state.
-ghost use Rattle.std.specs.Prelude.{◌≡◌, IfOk, map};
-ghost use Rattle.cl_state.specs.Variables.{HasVariablesAlone};
-ghost use Rattle.cl_report.specs.StateLines.{IsStateText, ended, variable_line};
+ghost use Rattle.std.specs.Prelude.{◌≡◌, ◌++◌, IfOk, map};
+ghost use Rattle.cl_report.specs.StateLines.{IsStateText, ended};
+ghost use Rattle.cl_report.specs.RowLines.{row_word, contract_part, name_part, key_part, row_line};
 ghost use Rattle.cl_report.specs.LineSets.{IsSetOf};
 
 use crate::events::{write_name, write_value, write_who};
-use cl_state::{Place, World, places_have_own_keys, variables_are_looked_up};
-use cl_types::NoMemory;
+use cl_c32::Principal;
+use cl_state::{RowKind, StateRow, World};
+use cl_types::{Name, NoMemory};
 use cl_values::Val;
 use std::alloc::Global;
 use std::collections::BTreeSet;
 
-#[tactic(auto, unfolding(crate::specs::StateLines::variable_line))]
-fn variable_line(alloc: Global, at: &Place, value: &Val) -> Result<Vec<u8>, NoMemory>
-    ensures { IfOk result (λ line. line.items ≡ variable_line at.now value.now) }
+#[tactic(auto, unfolding(crate::specs::RowLines::row_word))]
+fn row_word(kind: RowKind) -> &'static str
+    ensures { result.now ≡ row_word kind }
 {
-    let mut line = Vec::from_slice(alloc, b"var")?;
-    write_who(&mut line, alloc, &at.contract)?;
-    write_name(&mut line, &at.name)?;
-    write_value(&mut line, alloc, value)?;
+    match kind {
+        RowKind::Variable => "var",
+        RowKind::MapEntry => "map",
+        RowKind::Balance => "ft",
+        RowKind::Supply => "supply",
+        RowKind::Owner => "nft",
+        RowKind::StxBalance => "stx",
+    }
+}
+
+fn write_contract(
+    out: &mut Vec<u8>,
+    alloc: Global,
+    contract: &Option<Principal>,
+) -> Result<(), NoMemory>
+    ensures { IfOk result (λ _. out.new.items ≡ out.old.items ++ contract_part contract.now) }
+{
+    match contract {
+        Some(contract) => write_who(out, alloc, contract),
+        None => Ok(()),
+    }
+}
+
+fn write_name_part(out: &mut Vec<u8>, name: &Option<Name>) -> Result<(), NoMemory>
+    ensures { IfOk result (λ _. out.new.items ≡ out.old.items ++ name_part name.now) }
+{
+    match name {
+        Some(name) => write_name(out, name),
+        None => Ok(()),
+    }
+}
+
+fn write_key(out: &mut Vec<u8>, alloc: Global, key: &Option<Val>) -> Result<(), NoMemory>
+    ensures { IfOk result (λ _. out.new.items ≡ out.old.items ++ key_part key.now) }
+{
+    match key {
+        Some(key) => write_value(out, alloc, key),
+        None => Ok(()),
+    }
+}
+
+#[tactic(auto, unfolding(crate::specs::RowLines::row_line))]
+fn row_line(alloc: Global, row: &StateRow) -> Result<Vec<u8>, NoMemory>
+    ensures { IfOk result (λ line. line.items ≡ row_line row.now) }
+{
+    let mut line = Vec::from_slice(alloc, row_word(row.kind).as_bytes())?;
+    write_contract(&mut line, alloc, &row.contract)?;
+    write_name_part(&mut line, &row.name)?;
+    write_key(&mut line, alloc, &row.key)?;
+    write_value(&mut line, alloc, &row.value)?;
     Ok(line)
 }
 
-fn variable_lines(alloc: Global, rows: &[(Place, Val)]) -> Result<BTreeSet<Vec<u8>>, NoMemory>
-    ensures { IfOk result (λ lines. IsSetOf (map (λ r. variable_line r.0 r.1) rows.now) (map (λ line. line.items) lines.keys)) }
+fn row_lines(alloc: Global, rows: &[StateRow]) -> Result<BTreeSet<Vec<u8>>, NoMemory>
+    ensures { IfOk result (λ lines. IsSetOf (map (λ r. row_line r) rows.now) (map (λ line. line.items) lines.keys)) }
 {
     let mut lines = BTreeSet::new(alloc);
     for row in rows {
-        let line = variable_line(alloc, &row.0, &row.1)?;
+        let line = row_line(alloc, row)?;
         lines.insert(line)?;
     }
     Ok(lines)
@@ -44,14 +91,11 @@ fn ended(alloc: Global, lines: &BTreeSet<Vec<u8>>) -> Result<Vec<u8>, NoMemory>
     Ok(text)
 }
 
-/// The lines of the top state of a world that has variables alone: rising bytewise, each with an LF behind it.
+/// The lines of the top state of a world: rising bytewise, each with an LF behind it.
 pub fn state_lines(alloc: Global, world: &World) -> Result<Vec<u8>, NoMemory>
-    requires alone { HasVariablesAlone world.now.stack.top }
     ensures { IfOk result (λ text. IsStateText world.now.stack.top text.items) }
 {
-    variables_are_looked_up();
-    places_have_own_keys();
-    let rows = world.variables()?;
-    let lines = variable_lines(alloc, &rows)?;
+    let rows = world.rows()?;
+    let lines = row_lines(alloc, &rows)?;
     ended(alloc, &lines)
 }

@@ -4,7 +4,6 @@ pub mod Holders
 pub mod PlaceKeys
 pub mod SamePlaces
 pub mod Places
-pub mod Rows
 pub mod Past
 pub mod Numbered
 pub mod Spelled
@@ -12,3 +11,8 @@ pub mod Changes
 pub mod TokenActs
 pub mod Amounts
 pub mod OwnerKeys
+pub mod KeyReading
+pub mod RowLists
+pub mod MadeRows
+pub mod PlacedRows
+pub mod WholeRows

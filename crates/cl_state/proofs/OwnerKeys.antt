@@ -1,4 +1,4 @@
--- The key of an owner is read back as a principal.
+-- What keys spell is read back: values, and the principals of holders.
 use Rattle.std.proofs.Common.{◌≡◌, ℕ, ◌≤◌, List, length, Option, Some, None, refl, sym, ap, subst, ◌∙◌, lit≤, arith}
 use Rattle.std.specs.Prelude.{T, Result, Ok, Err, is_ok}
 use Rattle.cl_types.specs.Fault.{IfRefused}
@@ -18,33 +18,41 @@ use Rattle.cl_maps.specs.Maps.{Map, get}
 use Rattle.cl_tokens.specs.Owners.{Owners}
 use Rattle.cl_state.specs.Amounts.{owner_in}
 use Rattle.cl_state.specs.Spelled.{IsHolder, Each, AreOwned}
+use Rattle.cl_state.specs.RowParts.{IsSpelling}
 
 part_small : (part : Option (List ℕ)) → IsContractPart part → contract_size part ≤ 129
 part_small None h = lit≤ tt
 part_small (Some name) h = let low : length name ≤ 128 = h.within in omega arith
 
-principal_is_val : (p : Principal) → IsPrincipal p → IsVal (PrincipalV p)
+pub principal_is_val : (p : Principal) → IsPrincipal p → IsVal (PrincipalV p)
 principal_is_val p h =
     let hash : length p.address.hash ≡ 20 = h.0.size in
     let part : contract_size p.contract ≤ 129 = part_small p.contract h.1 in
     record { ranges = h; keys = refl; texts = refl; depth = lit≤ tt; size = omega arith }
 
-pub holder_read : ((v : Tree) → IsVal v → decoded (wire v) ≡ Ok v) → (key : List ℕ) (h : IsHolder key) → decoded key ≡ Ok (PrincipalV h.0)
-holder_read read key h = ap decoded h.2 ∙ read (PrincipalV h.0) (principal_is_val h.0 h.1)
+abbrev pub holder_spells : (key : List ℕ) → IsHolder key → IsSpelling key
+holder_spells key h = (PrincipalV h.0, principal_is_val h.0 h.1, h.2)
+
+-- wire forms are read back
+abbrev pub ReadsBack : Type 0
+ReadsBack = (v : Tree) → IsVal v → decoded (wire v) ≡ Ok v
+
+pub spelling_read : ReadsBack → (bytes : List ℕ) (h : IsSpelling bytes) → decoded bytes ≡ Ok h.0
+spelling_read read bytes h = ap decoded h.2 ∙ read h.0 h.1
 
 abbrev tree_or_none : Result Tree DecodeRefusal → Tree
 tree_or_none (Ok v) = v
 tree_or_none (Err fault) = NoneV
 
--- what the key of a holder spells is its principal
-pub value_read : ((v : Tree) → IsVal v → decoded (wire v) ≡ Ok v) → (key bytes : List ℕ) (v : Tree) (h : IsHolder key) → bytes ≡ key → decoded bytes ≡ Ok v → v ≡ PrincipalV h.0
-value_read read key bytes v h same found = ap tree_or_none (sym found ∙ ap decoded same ∙ holder_read read key h)
+-- what is read is what is spelled
+pub value_read : ReadsBack → (bytes : List ℕ) (v : Tree) (h : IsSpelling bytes) → decoded bytes ≡ Ok v → v ≡ h.0
+value_read read bytes v h found = ap tree_or_none (sym found ∙ spelling_read read bytes h)
 
-pub never_refused : ((v : Tree) → IsVal v → decoded (wire v) ≡ Ok v) → (key bytes : List ℕ) (r : Result Tree (Fault DecodeRefusal)) (f : Fault DecodeRefusal) (x : DecodeRefusal) → IsHolder key → bytes ≡ key → r ≡ Err f → f ≡ Refused x
+pub never_refused : ReadsBack → (bytes : List ℕ) (r : Result Tree (Fault DecodeRefusal)) (f : Fault DecodeRefusal) (x : DecodeRefusal) → IsSpelling bytes → r ≡ Err f → f ≡ Refused x
     → IfRefused r (λ fault. decoded bytes ≡ Err fault) → ⊥
-never_refused read key bytes r f x h same is what given =
+never_refused read bytes r f x h is what given =
     let broken : decoded bytes ≡ Err x = subst (λ (y : Result Tree (Fault DecodeRefusal)). IfRefused y (λ fault. decoded bytes ≡ Err fault)) (is ∙ ap Err what) given in
-    subst (λ (y : Result Tree DecodeRefusal). T (is_ok y)) (sym (holder_read read key h) ∙ sym (ap decoded same) ∙ broken) tt
+    subst (λ (y : Result Tree DecodeRefusal). T (is_ok y)) (sym (spelling_read read bytes h) ∙ broken) tt
 
 -- no other kind of value is a principal
 pub other_kind : (k : Kind) (p : Principal) → tree_of k ≡ PrincipalV p → ((q : Principal) → k ≡ PrincipalK q → ⊥) → ⊥

@@ -6,12 +6,16 @@ mod held;
 mod history;
 mod keys;
 mod laws;
+mod listing;
 mod note;
 mod place;
+mod reading;
+mod row;
 mod tables;
 mod tokens;
 mod world;
 
-pub use laws::{acts_have_answers, places_have_own_keys, variables_are_looked_up};
+pub use laws::{acts_have_answers, places_have_own_keys};
 pub use place::Place;
+pub use row::{RowKind, StateRow};
 pub use world::{TokenAct, World};

@@ -1,9 +1,10 @@
 //! What contracts keep, in one table for each kind of thing. A change gives the note by which it is undone.
-ghost use Rattle.std.specs.Prelude.{◌≡◌, ℕ, List, None, Ok, true, false, IfOk, OnOk, OnErr, OnSome, IfSome, IsSome, is_some, option_copied, map};
+ghost use Rattle.std.specs.Prelude.{◌≡◌, ℕ, List, None, Ok, true, false, IfOk, OnOk, OnErr, OnSome, IfSome, IsSome, is_some, option_copied};
 ghost use Rattle.std.specs.Option.{option_map};
 ghost use Rattle.cl_values.specs.Tree.{PrincipalV};
 ghost use Rattle.cl_values.specs.Reading.{decoded};
-ghost use Rattle.cl_state.specs.Variables.{AreVariables};
+ghost use Rattle.cl_state.specs.StateRows.{IsRow, AreRows};
+ghost use Rattle.cl_state.specs.RowParts.{Adds};
 ghost use Rattle.cl_maps.specs.Maps.{get, put, without};
 ghost use Rattle.cl_events.specs.State.{genesis, holder, holdings, or_as_before, place, spot, with_variables, with_entries, with_fungibles, with_nonfungibles, empty_state, with_stx};
 ghost use Rattle.cl_tokens.specs.Ledger.{minted, no_tokens};
@@ -22,15 +23,17 @@ ghost use Rattle.cl_state.specs.Tables.{held_in, rooms_in, Changes, Stays};
 use crate::deed::{Deed, place_of};
 use crate::held::{HeldValue, Placed};
 use crate::keys::{holder_key, place_key, spot_key, wire_key};
+use crate::listing::{add_entries, add_fungibles, add_holdings, add_nonfungibles, add_variables};
 use crate::note::Note;
 use crate::place::Place;
+use crate::reading::principal_of;
+use crate::row::StateRow;
 use crate::tokens;
 use cl_c32::Principal;
-use cl_codec::decode;
 use cl_events::Asset;
 use cl_tokens::{Act, AssetAct, Fungible, Key, NonFungible, Stored, Table, TokenRefusal};
 use cl_types::{Fault, NoMemory};
-use cl_values::{Kind, Val, read_back};
+use cl_values::Val;
 use indexmap::IndexMap;
 use std::alloc::Global;
 
@@ -101,13 +104,25 @@ impl Tables {
         self.variables.get(key).is_some()
     }
 
-    /// The variables with their places.
-    pub(crate) fn variables(&self, alloc: Global) -> Result<Vec<(Place, Val)>, NoMemory>
+    fn add_rows(&self, alloc: Global, out: &mut Vec<StateRow>) -> Result<(), NoMemory>
         requires { IsSound (held_in self.now) }
-        ensures { IfOk result (λ rows. AreVariables rows.items (state_of (held_in self.now)).variables) }
+        ensures { OnOk result (Adds (IsRow (state_of (held_in self.now))) out.old.items out.new.items) }
     {
-        let rows = self.variables.rows()?;
-        placed_values(alloc, rows)
+        add_variables(out, &self.variables)?;
+        add_entries(out, alloc, &self.entries)?;
+        add_fungibles(out, alloc, &self.fungibles)?;
+        add_nonfungibles(out, alloc, &self.nonfungibles)?;
+        add_holdings(out, alloc, None, &self.stx)
+    }
+
+    /// The rows of what is held. Each value is copied once.
+    pub(crate) fn rows(&self, alloc: Global) -> Result<Vec<StateRow>, NoMemory>
+        requires { IsSound (held_in self.now) }
+        ensures { IfOk result (λ rows. AreRows rows.items (state_of (held_in self.now))) }
+    {
+        let mut rows = Vec::new(alloc);
+        self.add_rows(alloc, &mut rows)?;
+        Ok(rows)
     }
 
     /// The fungible token at a place.
@@ -158,7 +173,7 @@ impl Tables {
         ensures read { IfOk result (λ owner. IfSome owner (λ p. decoded (holder p) ≡ Ok (PrincipalV p))) }
     {
         match owner_in(self.nonfungible(at), id) {
-            Some(owner) => Ok(Some(principal_of(alloc, owner)?)),
+            Some(owner) => Ok(Some(principal_of(alloc, owner.bytes())?)),
             None => Ok(None),
         }
     }
@@ -383,23 +398,6 @@ fn one_if(owner: Option<&Key>, who: &Key) -> u128
     if owner == who { 1 } else { 0 }
 }
 
-// the principal of a holder's key
-fn principal_of(alloc: Global, key: &Key) -> Result<Principal, NoMemory>
-    requires { IsHolder key.now }
-    ensures spelled { IfOk result (λ who. holder who ≡ key.now) }
-    ensures read { IfOk result (λ who. decoded (holder who) ≡ Ok (PrincipalV who)) }
-{
-    read_back();
-    match decode(alloc, key.bytes()) {
-        Ok(value) => match &value.value().kind {
-            Kind::Principal(who) => Ok(*who),
-            _ => unreachable!(),
-        },
-        Err(Fault::NoMemory) => Err(NoMemory),
-        Err(Fault::Refused(_)) => unreachable!(),
-    }
-}
-
 fn copy_found(found: Option<&HeldValue>) -> Result<Option<Val>, NoMemory>
     ensures { IfOk result (λ copy. copy ≡ option_copied found.entry) }
 {
@@ -416,17 +414,6 @@ fn copy_placed(found: Option<&Placed>) -> Result<Option<Val>, NoMemory>
         Some(placed) => Ok(Some(placed.value.copy_out()?)),
         None => Ok(None),
     }
-}
-
-// without the keys
-fn placed_values(alloc: Global, rows: Vec<(Key, Placed)>) -> Result<Vec<(Place, Val)>, NoMemory>
-    ensures { IfOk result (λ values. values.items ≡ map (λ r. (r.1.at, r.1.value)) rows.items) }
-{
-    let values = rows
-        .into_iter()
-        .map(|row| (row.1.at, row.1.value.into_value()))
-        .collect(alloc)?;
-    Ok(values)
 }
 
 // gives what was there before

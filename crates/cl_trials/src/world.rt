@@ -7,7 +7,8 @@ ghost use Rattle.cl_state.specs.Variables.{key_of};
 
 use cl_c32::{Address, ContractName, Principal};
 use cl_events::{Asset, EventKind};
-use cl_state::{Place, TokenAct, World, acts_have_answers};
+use cl_report::state_lines;
+use cl_state::{Place, RowKind, TokenAct, World, acts_have_answers};
 use cl_tokens::TokenRefusal;
 use cl_types::{Fault, Name, NoMemory};
 use cl_values::{Kind, Val, Value, ValueRefusal};
@@ -53,8 +54,14 @@ fn holds(world: &World, at: &Place, number: i128) -> Result<bool, NoMemory> {
 }
 
 fn number_of_variables(world: &World) -> Result<usize, NoMemory> {
-    let rows = world.variables()?;
-    Ok(rows.len())
+    let rows = world.rows()?;
+    let mut count: usize = 0;
+    for row in &rows {
+        if matches!(row.kind, RowKind::Variable) {
+            count = count.saturating_add(1);
+        }
+    }
+    Ok(count)
 }
 
 // A world with holders, of whom one is there twice.
@@ -242,6 +249,42 @@ fn assets_come_and_go(world: &mut World, at: &Place) -> Result<bool, Fail> {
     Ok(minted && burnt && owns(world, at, &int(7)?)?)
 }
 
+fn has_coins(world: &mut World, at: &Place) -> Result<bool, Fail> {
+    if world.has_ft(at) {
+        return Ok(false);
+    }
+    world.define_ft(at, None)?;
+    Ok(mints(world, at, 400))
+}
+
+fn has_an_asset(world: &mut World, at: &Place) -> Result<bool, Fail> {
+    if world.has_nft(at) {
+        return Ok(false);
+    }
+    world.define_nft(at)?;
+    Ok(mints_asset(world, at, int(7)?))
+}
+
+// The lines of a state with one thing of each kind, and two holders of STX.
+const STATE: &str = "\
+ft 'SP3GE1R70W3GE1R70W3GE1R70W3GE1R70Z5ESEBQ.main a 'SP3GE1R70W3GE1R70W3GE1R70W3GE1R70Z5ESEBQ.main u400
+map 'SP3GE1R70W3GE1R70W3GE1R70W3GE1R70Z5ESEBQ.main a 1 4
+nft 'SP3GE1R70W3GE1R70W3GE1R70W3GE1R70Z5ESEBQ.main a 7 'SP3GE1R70W3GE1R70W3GE1R70W3GE1R70Z5ESEBQ.main
+stx 'SPG2081040G2081040G2081040G208107P280EP u1000
+stx 'STG2081040G2081040G2081040G2081066TB8XK u340282366920938463463374607431768210455
+supply 'SP3GE1R70W3GE1R70W3GE1R70W3GE1R70Z5ESEBQ.main a u400
+var 'SP3GE1R70W3GE1R70W3GE1R70W3GE1R70Z5ESEBQ.main a 2
+";
+
+// Puts one thing of each kind into a state, and prints it.
+fn prints_its_lines(alloc: Global, world: &mut World, at: &Place) -> Result<bool, Fail> {
+    world.put_variable(at, int(2)?)?;
+    world.put_entry(at, &int(1)?, int(4)?)?;
+    let filled = has_coins(world, at)? && has_an_asset(world, at)?;
+    let text = state_lines(alloc, world)?;
+    Ok(filled && text.as_slice() == STATE.as_bytes())
+}
+
 // what is tried on a world
 #[derive(Clone, Copy)]
 enum Trial {
@@ -251,9 +294,10 @@ enum Trial {
     Pays,
     Tokens,
     Assets,
+    Lines,
 }
 
-fn goes_well(world: &mut World, trial: Trial) -> Result<bool, Fail> {
+fn goes_well(alloc: Global, world: &mut World, trial: Trial) -> Result<bool, Fail> {
     let at = place("main", "a").ok_or("a place")?;
     match trial {
         Trial::Genesis => Ok(has_told_nothing(world)),
@@ -262,13 +306,14 @@ fn goes_well(world: &mut World, trial: Trial) -> Result<bool, Fail> {
         Trial::Pays => pays(world, &at.contract),
         Trial::Tokens => tokens_come_and_go(world, &at),
         Trial::Assets => assets_come_and_go(world, &at),
+        Trial::Lines => prints_its_lines(alloc, world, &at),
     }
 }
 
 // No other function owns a world, since letting go of one is dear to prove.
 fn goes_well_at_first(alloc: Global, trial: Trial) -> Result<bool, Fail> {
     let mut world = genesis(alloc)?;
-    goes_well(&mut world, trial)
+    goes_well(alloc, &mut world, trial)
 }
 
 #[test]
@@ -304,5 +349,11 @@ fn tokens_are_minted_and_burnt(rt: HostRuntime) -> Result<(), Fail> {
 #[test]
 fn assets_are_minted_and_burnt(rt: HostRuntime) -> Result<(), Fail> {
     assert!(rt; goes_well_at_first(rt.alloc(), Trial::Assets)?);
+    Ok(())
+}
+
+#[test]
+fn a_state_is_printed(rt: HostRuntime) -> Result<(), Fail> {
+    assert!(rt; goes_well_at_first(rt.alloc(), Trial::Lines)?);
     Ok(())
 }

@@ -1,4 +1,4 @@
-use Rattle.std.proofs.Common.{◌++◌, length, ◌≤◌, arith, false, nat_lt}
+use Rattle.std.proofs.Common.{◌++◌, length, ◌≤◌, arith}
 use Rattle.std.proofs.lemmas.Bool.Decides.{nat_tests}
 use Rattle.cl_report.specs.Costs.{bound_lines}
 use Rattle.cl_report.proofs.Functions.{all_written}
