@@ -16,3 +16,4 @@ pub mod RowLists
 pub mod MadeRows
 pub mod PlacedRows
 pub mod WholeRows
+pub mod Listed

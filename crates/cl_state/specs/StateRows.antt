@@ -14,6 +14,7 @@ use Rattle.cl_state.specs.declared.row.RowKind.{RowKind}
 use Rattle.cl_state.specs.declared.row.RowKind.TheVariants.{Variable, MapEntry, Balance, Supply, Owner, StxBalance}
 use Rattle.cl_state.specs.declared.row.StateRow.{StateRow}
 use Rattle.cl_state.specs.Variables.{IsPlace, key_of}
+use Rattle.cl_state.specs.Spelled.{Each, IsSpelled}
 
 -- a row of what a contract has under a name
 abbrev pub placed_row : RowKind → Place → Option Tree → Tree → StateRow
@@ -58,3 +59,14 @@ pub record AreRows (rows : List StateRow) (s : State) : Type 0 where
   pub sound : All (IsRow s) rows
   pub whole : (row : StateRow) → IsRow s row → Contains rows row
   pub once : AllPairs (λ a b. a ≡ b → ⊥) rows
+
+-- the key of what has a place
+abbrev pub IsPlaceKey : List ℕ → Type 0
+IsPlaceKey key = (at : Place) × IsPlace at × (key ≡ key_of at)
+
+-- each key of a state is that of something that has a row, so nothing is kept without one
+pub record IsListed (s : State) : Type 0 where
+  pub variables : Each (λ key v. IsPlaceKey key) s.variables
+  pub fungibles : Each (λ key token. IsPlaceKey key) s.fungibles
+  pub nonfungibles : Each (λ key owners. IsPlaceKey key) s.nonfungibles
+  pub spelled : IsSpelled s

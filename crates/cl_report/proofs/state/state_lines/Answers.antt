@@ -14,4 +14,4 @@ returns c =
     let rows = c.in_ok-rows.rows.items in
     let lines = map (λ (line : Vec ℕ Global). line.items) c.in_ok-lines.lines.keys in
     let set : IsSetOf (map (λ (r : StateRow). row_line r) rows) lines = subst (λ rs. IsSetOf (map (λ (r : StateRow). row_line r) rs) lines) c.deref.ensures.value c.in_ok-lines.ensures in
-    IfOk-weaker c.ended.result _ _ (λ text is. subst (IsStateText state) (sym is) (text_of_rows state rows lines c.in_ok-rows.ensures set)) c.ended.ensures
+    IfOk-weaker c.ended.result _ _ (λ text is. subst (IsStateText state) (sym is) (text_of_rows state rows lines c.in_ok-rows.ensures.rows set)) c.ended.ensures
