@@ -1,0 +1,13 @@
+pub mod Homes
+pub mod Named
+pub mod Seen
+pub mod Runs
+pub mod Tails
+pub mod Branches
+pub mod Across
+pub mod Aborts
+pub mod ActParts
+pub mod Deploys
+pub mod Applying
+pub mod Rows
+pub mod Kept

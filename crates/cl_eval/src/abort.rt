@@ -1,0 +1,57 @@
+//! How a call aborts.
+ghost use Rattle.std.specs.Prelude.{◌≡◌};
+ghost use Rattle.cl_eval.specs.Aborts.{abort_of, fault_of};
+
+use crate::stop::Stop;
+use cl_arith::ArithRefusal;
+use cl_shapes::Over;
+use cl_types::Fault;
+
+/// How a call aborts.
+#[derive(Clone, Copy, Debug, PartialEq, Eq)]
+pub enum Abort {
+    /// A1: a result is above the greatest number of its kind.
+    Overflow,
+    /// A2: a result is below the least number of its kind.
+    Underflow,
+    /// A3: a divisor is zero.
+    DivideByZero,
+    /// A4: an exponent or an argument is negative.
+    NegativeArgument,
+    /// A5: `unwrap-panic` or `unwrap-err-panic` finds nothing.
+    Panic,
+    /// A6: a supply would be above its cap.
+    SupplyOverflow,
+    /// A7: an expression at the top of a contract throws a value, which no function returns.
+    EarlyTop,
+    /// A8: more would have been spent than the limit. The charge that passed isn't spent.
+    CostLimit(Over),
+    /// An expression isn't well typed, or goes deeper than 256.
+    Stuck,
+}
+
+fn arithmetic_abort(refusal: ArithRefusal) -> Abort
+    ensures { result ≡ abort_of refusal }
+{
+    match refusal {
+        ArithRefusal::Overflow => Abort::Overflow,
+        ArithRefusal::Underflow => Abort::Underflow,
+        ArithRefusal::DivideByZero => Abort::DivideByZero,
+        ArithRefusal::NegativeArgument => Abort::NegativeArgument,
+    }
+}
+
+/// The abort, or want of memory, by which an evaluation stops.
+pub(crate) fn fault(stop: Stop) -> Fault<Abort>
+    ensures { result ≡ fault_of stop }
+{
+    match stop {
+        Stop::Arithmetic(refusal) => Fault::Refused(arithmetic_abort(refusal)),
+        Stop::Panic => Fault::Refused(Abort::Panic),
+        Stop::Supply => Fault::Refused(Abort::SupplyOverflow),
+        Stop::Thrown(_) => Fault::Refused(Abort::EarlyTop),
+        Stop::CostLimit(over) => Fault::Refused(Abort::CostLimit(over)),
+        Stop::Stuck => Fault::Refused(Abort::Stuck),
+        Stop::NoMemory => Fault::NoMemory,
+    }
+}

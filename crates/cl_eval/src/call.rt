@@ -1,0 +1,112 @@
+//! Calls from outside.
+ghost use Rattle.std.specs.Prelude.{◌≡◌, ◌≢◌, ◌<◌, length, Some};
+ghost use Rattle.cl_types.specs.Fault.{IfRefused};
+ghost use Rattle.cl_costs.specs.Tables.{function_of as cost_function};
+ghost use Rattle.cl_contracts.specs.Seen.{AreIndexed, IsEntry, contract_seen, deployed_seen};
+ghost use Rattle.cl_meaning.specs.Answers.{with_known};
+ghost use Rattle.cl_meaning.specs.Deployed.{contract_at, function_of};
+ghost use Rattle.cl_meaning.specs.Limits.{limited};
+ghost use Rattle.cl_meaning.specs.Top.{call_from};
+ghost use Rattle.cl_eval.specs.Aborts.{Answers};
+ghost use Rattle.cl_eval.specs.Homes.{frame_seen};
+ghost use Rattle.cl_eval.specs.Runs.{Ends};
+
+use crate::abort::{Abort, fault};
+use crate::calls::enter;
+use crate::context::Context;
+use crate::frame::Frame;
+use crate::home::Home;
+use crate::stop::Stop;
+use cl_contracts::{Contract, Deployed};
+use cl_costs::CostTable;
+use cl_shapes::Meter;
+use cl_state::World;
+use cl_types::{Fault, Name};
+use cl_values::Val;
+use std::alloc::Global;
+
+/// How deep an evaluation goes, calls included.
+pub(crate) const MOST_DEPTH: u32 = 256;
+
+/// Calls a function of a contract that is deployed under the frame's principal.
+fn call_in<'a>(
+    alloc: Global,
+    world: &mut World,
+    deployed: &'a Deployed,
+    contract: &'a Contract,
+    frame: &'a Frame,
+    function: &Name,
+    args: Vec<Val>,
+    costs: &'a CostTable,
+    meter: &mut Meter,
+) -> Result<Val, Stop>
+    requires indexed { AreIndexed deployed.now }
+    requires found { contract_at frame.now.contract (deployed_seen deployed.now) ≡ Some (contract_seen (frame.now.contract, contract.now)) }
+    requires entry { IsEntry (frame.now.contract, contract.now) }
+    requires few { length args.items < 4294967296 }
+    ensures meant { Ends (limited (cost_function costs.now) meter.old (with_known (function_of function.now (Some (contract_seen (frame.now.contract, contract.now)))) (λ f. call_from (deployed_seen deployed.now) (frame_seen frame.now) f args.items) world.old.stack.top)) result meter.new world.new.stack.top }
+    ensures below { world.new.stack.below ≡ world.old.stack.below }
+{
+    let context = Context {
+        alloc,
+        deployed,
+        opening: None,
+        home: Home {
+            checked: &contract.checked,
+            constants: &contract.constants,
+        },
+        frame,
+        costs,
+    };
+    match contract.function(function) {
+        Some(f) => enter(&context, f, args, MOST_DEPTH, world, meter),
+        None => Err(Stop::Stuck),
+    }
+}
+
+fn call_named(
+    alloc: Global,
+    world: &mut World,
+    deployed: &Deployed,
+    frame: &Frame,
+    function: &Name,
+    args: Vec<Val>,
+    costs: &CostTable,
+    meter: &mut Meter,
+) -> Result<Val, Stop>
+    requires indexed { AreIndexed deployed.now }
+    requires few { length args.items < 4294967296 }
+    ensures meant { Ends (limited (cost_function costs.now) meter.old (with_known (function_of function.now (contract_at frame.now.contract (deployed_seen deployed.now))) (λ f. call_from (deployed_seen deployed.now) (frame_seen frame.now) f args.items) world.old.stack.top)) result meter.new world.new.stack.top }
+    ensures below { world.new.stack.below ≡ world.old.stack.below }
+{
+    match deployed.find(&frame.contract) {
+        Some(contract) => call_in(
+            alloc, world, deployed, contract, frame, function, args, costs, meter,
+        ),
+        None => Err(Stop::Stuck),
+    }
+}
+
+/// Calls a function of the frame's contract, which is deployed. What it does is done to the top state of the world, and charged
+/// to the meter. Where a public function answers err, the state is as before and the charges stay. It never aborts by `EarlyTop`.
+pub fn run(
+    alloc: Global,
+    world: &mut World,
+    deployed: &Deployed,
+    frame: &Frame,
+    function: &Name,
+    args: Vec<Val>,
+    costs: &CostTable,
+    meter: &mut Meter,
+) -> Result<Val, Fault<Abort>>
+    requires indexed { AreIndexed deployed.now }
+    requires few { length args.items < 4294967296 }
+    ensures meant { Answers (limited (cost_function costs.now) meter.old (with_known (function_of function.now (contract_at frame.now.contract (deployed_seen deployed.now))) (λ f. call_from (deployed_seen deployed.now) (frame_seen frame.now) f args.items) world.old.stack.top)) result meter.new world.new.stack.top }
+    ensures returned { IfRefused result (λ abort. abort ≢ Abort.EarlyTop) }
+    ensures below { world.new.stack.below ≡ world.old.stack.below }
+{
+    match call_named(alloc, world, deployed, frame, function, args, costs, meter) {
+        Ok(value) => Ok(value),
+        Err(stop) => Err(fault(stop)),
+    }
+}

@@ -1,0 +1,89 @@
+//! The application of functions.
+ghost use Rattle.std.specs.Prelude.{◌≡◌, ◌<◌, length, map};
+ghost use Rattle.cl_contracts.specs.Seen.{function_seen};
+ghost use Rattle.cl_meaning.specs.Scope.{Bound, OwnFunction};
+ghost use Rattle.cl_meaning.specs.Calls.{call_form, body_in};
+ghost use Rattle.cl_code.specs.Typed.{expression_of};
+ghost use Rattle.cl_meaning.specs.Meaning.{means, applied};
+ghost use Rattle.cl_eval.specs.Seen.{scope, scope_of, Fits};
+ghost use Rattle.cl_eval.specs.Runs.{Runs};
+
+use crate::application::{bind, close, is_public, returned};
+use crate::context::Context;
+use crate::evaluate::{evaluate, evaluate_parts};
+use crate::finding::own_function;
+use crate::names::Names;
+use crate::payment::pay;
+use crate::stop::Stop;
+use cl_code::{Code, Function};
+use cl_shapes::{CostName, Meter};
+use cl_state::World;
+use cl_types::Name;
+use cl_values::Val;
+
+/// A call of a function of the contract.
+#[cycle(evaluate)]
+pub(crate) fn evaluate_call(
+    context: &Context,
+    names: &Names,
+    name: &Name,
+    codes: &[Code],
+    below: u32,
+    world: &mut World,
+    meter: &mut Meter,
+) -> Result<Val, Stop>
+    requires { length codes.now < 1048576 }
+    ensures meant { Fits context.now → Runs context.now meter.old (call_form name.now (means below) (applied below) (scope context.now names.now) (map expression_of codes.now) world.old.stack.top) result meter.new world.new.stack.top }
+    ensures below { world.new.stack.below ≡ world.old.stack.below }
+{
+    let values = evaluate_parts(context, names, codes, below, world, meter)?;
+    match own_function(context, name) {
+        Some(function) => enter(context, function, values, below, world, meter),
+        None => Err(Stop::Stuck),
+    }
+}
+
+/// Applies a function to values, to a depth.
+#[cycle(evaluate)]
+pub(crate) fn enter(
+    context: &Context,
+    function: &Function,
+    values: Vec<Val>,
+    depth: u32,
+    world: &mut World,
+    meter: &mut Meter,
+) -> Result<Val, Stop>
+    requires { length values.items < 4294967296 }
+    ensures meant { (outer : Bound) → Fits context.now → Runs context.now meter.old (applied depth (scope_of context.now outer) (OwnFunction (function_seen function.now)) values.items world.old.stack.top) result meter.new world.new.stack.top }
+    ensures below { world.new.stack.below ≡ world.old.stack.below }
+{
+    if depth == 0 {
+        return Err(Stop::Stuck);
+    }
+    pay(context.costs, meter, CostName::Call, values.len() as u64)?;
+    let bound = bind(context.alloc, context.costs, function, values, meter)?;
+    let names = Names::alone(&bound);
+    evaluate_body(context, function, &names, depth - 1, world, meter)
+}
+
+/// The body of a function; where a public one answers err or stops, the state is as it was before.
+#[cycle(evaluate)]
+fn evaluate_body(
+    context: &Context,
+    function: &Function,
+    names: &Names,
+    below: u32,
+    world: &mut World,
+    meter: &mut Meter,
+) -> Result<Val, Stop>
+    ensures meant { (outer : Bound) → Fits context.now → Runs context.now meter.old (body_in (means below) (scope_of context.now outer) (function_seen function.now) names.now.values world.old.stack.top) result meter.new world.new.stack.top }
+    ensures below { world.new.stack.below ≡ world.old.stack.below }
+{
+    if is_public(function.access) {
+        world.push_layer()?;
+        let answer = evaluate(context, names, &function.body, below, world, meter);
+        close(returned(answer), world)
+    } else {
+        returned(evaluate(context, names, &function.body, below, world, meter))
+    }
+}

@@ -1,0 +1,265 @@
+//! The definitions of a contract that is being deployed.
+ghost use Rattle.std.specs.Prelude.{◌≡◌, List, ℕ, Option, Some, None};
+ghost use Rattle.cl_types.specs.Types.{PlainType};
+ghost use Rattle.cl_sexpr.specs.declared.sexpr.Span.{Span};
+ghost use Rattle.cl_maps.specs.Maps.{get};
+ghost use Rattle.cl_events.specs.State.{place};
+ghost use Rattle.cl_code.specs.Typed.{expression_of};
+ghost use Rattle.cl_code.specs.declared.definition.Definition.TheVariants.{Fungible as FungibleOfCode};
+ghost use Rattle.cl_code.specs.Definitions.{form_defined};
+ghost use Rattle.cl_forms.specs.Forms.{ConstantForm, VariableForm, FungibleForm, NonFungibleForm, ExpressionForm};
+ghost use Rattle.cl_meaning.specs.Deployed.{value_of};
+ghost use Rattle.cl_meaning.specs.Deploying.{with_cap};
+ghost use Rattle.cl_meaning.specs.Limits.{limited};
+ghost use Rattle.cl_eval.specs.Runs.{Ends};
+ghost use Rattle.cl_eval.specs.Deploys.{IsDeploying, IsNew, Makes, costs_of, contract_so_far, top_of, defined_by, cap_of};
+
+use crate::call::MOST_DEPTH;
+use crate::context::Context;
+use crate::deploying::Deploying;
+use crate::evaluate::evaluate;
+use crate::home::Home;
+use crate::names::Names;
+use crate::payment::{pay, pay_for};
+use crate::stop::Stop;
+use cl_code::{Code, Definition, Fungible};
+use cl_shapes::{CostName, Meter};
+use cl_state::{Place, World};
+use cl_types::Name;
+use cl_values::{Kind, Val};
+use indexmap::IndexMap;
+
+/// Evaluates an expression at the top.
+fn evaluate_top(
+    deploying: &Deploying,
+    constants: &IndexMap<Name, Val>,
+    code: &Code,
+    world: &mut World,
+    meter: &mut Meter,
+) -> Result<Val, Stop>
+    requires { IsDeploying deploying.now }
+    ensures meant { Ends (limited (costs_of deploying.now) meter.old (top_of deploying.now constants.now.entries (expression_of code.now) world.old.stack.top)) result meter.new world.new.stack.top }
+    ensures below { world.new.stack.below ≡ world.old.stack.below }
+{
+    let home = Home {
+        checked: deploying.checked,
+        constants,
+    };
+    let context = Context {
+        alloc: deploying.alloc,
+        deployed: deploying.deployed,
+        opening: Some(home),
+        home,
+        frame: deploying.frame,
+        costs: deploying.costs,
+    };
+    evaluate(&context, &Names::alone(&[]), code, MOST_DEPTH, world, meter)
+}
+
+/// The place of what the contract has under a name.
+fn place_of(deploying: &Deploying, name: &Name) -> Place
+    ensures contract { result.contract ≡ deploying.now.checked.now.principal }
+    ensures name { result.name ≡ name.now }
+{
+    Place {
+        contract: deploying.checked.principal,
+        name: *name,
+    }
+}
+
+fn define_constant(
+    deploying: &Deploying,
+    constants: &mut IndexMap<Name, Val>,
+    name: &Name,
+    value: &Code,
+    world: &mut World,
+    meter: &mut Meter,
+) -> Result<(), Stop>
+    requires fits { IsDeploying deploying.now }
+    requires new { value_of name.now constants.old.entries ≡ None }
+    ensures meant { (at : Span) → Makes deploying.now meter.old (defined_by deploying.now (record { name = Some name.now; kind = ConstantForm (expression_of value.now); span = at }) constants.old.entries world.old.stack.top) constants.new.entries result meter.new world.new.stack.top }
+    ensures below { world.new.stack.below ≡ world.old.stack.below }
+{
+    let value = evaluate_top(deploying, constants, value, world, meter)?;
+    pay_for(deploying.costs, meter, CostName::Define, &value)?;
+    constants.insert(*name, value)?;
+    Ok(())
+}
+
+fn define_variable(
+    deploying: &Deploying,
+    constants: &IndexMap<Name, Val>,
+    name: &Name,
+    value: &Code,
+    world: &mut World,
+    meter: &mut Meter,
+) -> Result<(), Stop>
+    requires fits { IsDeploying deploying.now }
+    ensures meant { (type : PlainType) (at : Span) → Makes deploying.now meter.old (defined_by deploying.now (record { name = Some name.now; kind = VariableForm type (expression_of value.now); span = at }) constants.now.entries world.old.stack.top) constants.now.entries result meter.new world.new.stack.top }
+    ensures below { world.new.stack.below ≡ world.old.stack.below }
+{
+    let value = evaluate_top(deploying, constants, value, world, meter)?;
+    pay_for(deploying.costs, meter, CostName::Define, &value)?;
+    world.put_variable(&place_of(deploying, name), value)?;
+    Ok(())
+}
+
+/// The supply cap that a value is.
+fn cap_of(value: &Val) -> Option<u128>
+    ensures { result ≡ cap_of value.now }
+{
+    match &value.value().kind {
+        Kind::Uint(cap) => Some(*cap),
+        _ => None,
+    }
+}
+
+/// Charges the supply cap of a token, and puts the token in the world.
+fn put_capped(
+    deploying: &Deploying,
+    constants: &IndexMap<Name, Val>,
+    name: &Name,
+    cap: &Val,
+    world: &mut World,
+    meter: &mut Meter,
+) -> Result<(), Stop>
+    requires new { get (place deploying.now.checked.now.principal name.now) world.old.stack.top.fungibles ≡ None }
+    ensures meant { Makes deploying.now meter.old (with_cap (contract_so_far deploying.now constants.now.entries) name.now cap.now world.old.stack.top) constants.now.entries result meter.new world.new.stack.top }
+    ensures below { world.new.stack.below ≡ world.old.stack.below }
+{
+    match cap_of(cap) {
+        Some(most) => {
+            pay_for(deploying.costs, meter, CostName::Define, cap)?;
+            world.define_ft(&place_of(deploying, name), Some(most))?;
+            Ok(())
+        }
+        None => Err(Stop::Stuck),
+    }
+}
+
+fn define_capped(
+    deploying: &Deploying,
+    constants: &IndexMap<Name, Val>,
+    name: &Name,
+    cap: &Code,
+    world: &mut World,
+    meter: &mut Meter,
+) -> Result<(), Stop>
+    requires fits { IsDeploying deploying.now }
+    requires new { get (place deploying.now.checked.now.principal name.now) world.old.stack.top.fungibles ≡ None }
+    ensures meant { (at : Span) → Makes deploying.now meter.old (defined_by deploying.now (record { name = Some name.now; kind = FungibleForm (Some (expression_of cap.now)); span = at }) constants.now.entries world.old.stack.top) constants.now.entries result meter.new world.new.stack.top }
+    ensures below { world.new.stack.below ≡ world.old.stack.below }
+{
+    let cap = evaluate_top(deploying, constants, cap, world, meter)?;
+    put_capped(deploying, constants, name, &cap, world, meter)
+}
+
+fn define_uncapped(
+    deploying: &Deploying,
+    constants: &IndexMap<Name, Val>,
+    name: &Name,
+    world: &mut World,
+    meter: &mut Meter,
+) -> Result<(), Stop>
+    requires new { get (place deploying.now.checked.now.principal name.now) world.old.stack.top.fungibles ≡ None }
+    ensures meant { (at : Span) → Makes deploying.now meter.old (defined_by deploying.now (record { name = Some name.now; kind = FungibleForm None; span = at }) constants.now.entries world.old.stack.top) constants.now.entries result meter.new world.new.stack.top }
+    ensures below { world.new.stack.below ≡ world.old.stack.below }
+{
+    pay(deploying.costs, meter, CostName::Define, 0)?;
+    world.define_ft(&place_of(deploying, name), None)?;
+    Ok(())
+}
+
+fn define_fungible(
+    deploying: &Deploying,
+    constants: &IndexMap<Name, Val>,
+    token: &Fungible,
+    world: &mut World,
+    meter: &mut Meter,
+) -> Result<(), Stop>
+    requires fits { IsDeploying deploying.now }
+    requires new { get (place deploying.now.checked.now.principal token.now.name) world.old.stack.top.fungibles ≡ None }
+    ensures meant { Makes deploying.now meter.old (defined_by deploying.now (form_defined (FungibleOfCode token.now)) constants.now.entries world.old.stack.top) constants.now.entries result meter.new world.new.stack.top }
+    ensures below { world.new.stack.below ≡ world.old.stack.below }
+{
+    match &token.supply {
+        Some(cap) => define_capped(deploying, constants, &token.name, cap, world, meter),
+        None => define_uncapped(deploying, constants, &token.name, world, meter),
+    }
+}
+
+fn define_nonfungible(
+    deploying: &Deploying,
+    constants: &IndexMap<Name, Val>,
+    name: &Name,
+    world: &mut World,
+    meter: &mut Meter,
+) -> Result<(), Stop>
+    requires new { get (place deploying.now.checked.now.principal name.now) world.old.stack.top.nonfungibles ≡ None }
+    ensures meant { (type : PlainType) (at : Span) → Makes deploying.now meter.old (defined_by deploying.now (record { name = Some name.now; kind = NonFungibleForm type; span = at }) constants.now.entries world.old.stack.top) constants.now.entries result meter.new world.new.stack.top }
+    ensures below { world.new.stack.below ≡ world.old.stack.below }
+{
+    pay(deploying.costs, meter, CostName::Define, 0)?;
+    world.define_nft(&place_of(deploying, name))?;
+    Ok(())
+}
+
+/// An expression whose value is dropped.
+fn evaluate_alone(
+    deploying: &Deploying,
+    constants: &IndexMap<Name, Val>,
+    code: &Code,
+    world: &mut World,
+    meter: &mut Meter,
+) -> Result<(), Stop>
+    requires fits { IsDeploying deploying.now }
+    ensures meant { (name : Option (List ℕ)) (at : Span) → Makes deploying.now meter.old (defined_by deploying.now (record { name = name; kind = ExpressionForm (expression_of code.now); span = at }) constants.now.entries world.old.stack.top) constants.now.entries result meter.new world.new.stack.top }
+    ensures below { world.new.stack.below ≡ world.old.stack.below }
+{
+    evaluate_top(deploying, constants, code, world, meter)?;
+    Ok(())
+}
+
+/// Evaluates a definition, charges it, and puts it among the constants or in the world.
+pub(crate) fn define(
+    deploying: &Deploying,
+    constants: &mut IndexMap<Name, Val>,
+    definition: &Definition,
+    world: &mut World,
+    meter: &mut Meter,
+) -> Result<(), Stop>
+    requires fits { IsDeploying deploying.now }
+    requires new { (x : List ℕ) → (form_defined definition.now).name ≡ Some x → IsNew deploying.now.checked.now.principal x constants.old.entries world.old.stack.top }
+    ensures meant { Makes deploying.now meter.old (defined_by deploying.now (form_defined definition.now) constants.old.entries world.old.stack.top) constants.new.entries result meter.new world.new.stack.top }
+    ensures below { world.new.stack.below ≡ world.old.stack.below }
+{
+    match definition {
+        Definition::Constant(constant) => define_constant(
+            deploying,
+            constants,
+            &constant.name,
+            &constant.value,
+            world,
+            meter,
+        ),
+        Definition::Variable(variable) => define_variable(
+            deploying,
+            constants,
+            &variable.name,
+            &variable.value,
+            world,
+            meter,
+        ),
+        Definition::Fungible(token) => {
+            define_fungible(deploying, constants, token, world, meter)
+        }
+        Definition::NonFungible(token) => {
+            define_nonfungible(deploying, constants, &token.name, world, meter)
+        }
+        Definition::MapOf(_) => pay(deploying.costs, meter, CostName::Define, 0),
+        Definition::Function(_) => pay(deploying.costs, meter, CostName::Define, 0),
+        Definition::TopLevel(expression) => {
+            evaluate_alone(deploying, constants, &expression.value, world, meter)
+        }
+    }
+}

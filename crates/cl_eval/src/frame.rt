@@ -1,0 +1,43 @@
+//! Where code is evaluated.
+ghost use Rattle.std.specs.Prelude.{◌≡◌};
+ghost use Rattle.cl_meaning.specs.Scope.{as_contract, called};
+ghost use Rattle.cl_eval.specs.Homes.{frame_seen};
+
+use cl_c32::Principal;
+
+/// Where code is evaluated.
+#[derive(Clone, Copy, Debug, PartialEq, Eq)]
+pub struct Frame {
+    /// The contract whose code it is.
+    pub contract: Principal,
+    /// Who sent the transaction.
+    pub sender: Principal,
+    /// Who called the contract.
+    pub caller: Principal,
+    /// The height of the block.
+    pub height: u128,
+}
+
+/// The frame in which sender and caller are the contract itself.
+pub(crate) fn as_contract(frame: &Frame) -> Frame
+    ensures { frame_seen result ≡ as_contract (frame_seen frame.now) }
+{
+    Frame {
+        contract: frame.contract,
+        sender: frame.contract,
+        caller: frame.contract,
+        height: frame.height,
+    }
+}
+
+/// The frame of a contract that the frame's contract calls.
+pub(crate) fn called(frame: &Frame, target: Principal) -> Frame
+    ensures { frame_seen result ≡ called target (frame_seen frame.now) }
+{
+    Frame {
+        contract: target,
+        sender: frame.sender,
+        caller: frame.contract,
+        height: frame.height,
+    }
+}

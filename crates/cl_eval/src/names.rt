@@ -1,0 +1,83 @@
+//! Names that are bound to values.
+ghost use Rattle.std.specs.Prelude.{◌≡◌, ◌++◌, [], option_copied};
+ghost use Rattle.cl_meaning.specs.Deployed.{value_of};
+ghost use Rattle.cl_meaning.specs.Names.{first_of};
+
+use cl_types::Name;
+use cl_values::Val;
+use std::marker::Model;
+
+/// Names that are bound to values: those of the scope round this one, if there is one, and then its own. Contracts see them in
+/// this order.
+#[derive(Drop)]
+pub(crate) struct Names<'a> {
+    outer: Option<&'a Names<'a>>,
+    own: &'a [(Name, Val)],
+}
+
+impl<'a> Model for Names<'a> {
+    ghost use Rattle.cl_eval.specs.Named.{Named, named, named_code};
+
+    ghost Value = { Named };
+
+    ghost coded = { named_code };
+
+    ghost view = { λ n. named n.outer n.own.now };
+
+    ghost size = { λ n. n.depth };
+}
+
+impl<'a> Names<'a> {
+    /// The names of a scope that stands alone.
+    pub(crate) fn alone(own: &'a [(Name, Val)]) -> Names<'a>
+        ensures { result.values ≡ own.now }
+    {
+        Names { outer: None, own }
+    }
+
+    /// The names of a scope within another.
+    pub(crate) fn within(outer: &'a Names<'a>, own: &'a [(Name, Val)]) -> Names<'a>
+        ensures { result.values ≡ outer.now.values ++ own.now }
+    {
+        Names {
+            outer: Some(outer),
+            own,
+        }
+    }
+
+    /// The first value of a name.
+    pub(crate) fn find(&self, name: &Name) -> Option<&Val>
+        ensures { option_copied result ≡ value_of name.now self.now.values }
+    {
+        match self.outer {
+            Some(outer) => or_first_under(outer.find(name), self.own, name),
+            None => first_under(self.own, name),
+        }
+    }
+}
+
+/// What was found, or else the first value of a name among these.
+fn or_first_under<'a>(
+    found: Option<&'a Val>,
+    own: &'a [(Name, Val)],
+    name: &Name,
+) -> Option<&'a Val>
+    ensures { option_copied result ≡ first_of (option_copied found.entry) (value_of name.now own.now) }
+{
+    match found {
+        Some(value) => Some(value),
+        None => first_under(own, name),
+    }
+}
+
+/// The first value of a name among these.
+fn first_under<'a>(own: &'a [(Name, Val)], name: &Name) -> Option<&'a Val>
+    ensures { option_copied result ≡ value_of name.now own.now }
+{
+    for entry in own {
+        if entry.0.bytes() == name.bytes() {
+            return Some(&entry.1);
+        }
+    }
+    None
+}

@@ -1,0 +1,105 @@
+//! The evaluation of a deployment.
+ghost use Rattle.std.specs.Prelude.{◌≡◌, ◌<◌, [], length, slice_get, Some, Ok};
+ghost use Rattle.cl_costs.specs.Tables.{function_of};
+ghost use Rattle.cl_forms.specs.Order.{ordered};
+ghost use Rattle.cl_contracts.specs.Seen.{forms_of, deployed_seen, IsIndexed, AreIndexed};
+ghost use Rattle.cl_meaning.specs.Deploying.{deployment};
+ghost use Rattle.cl_meaning.specs.Limits.{limited};
+ghost use Rattle.cl_eval.specs.Homes.{frame_seen};
+ghost use Rattle.cl_eval.specs.Deploys.{IsDeploying, AreNew, HasNoTokens, Makes, Deploys, contract_with, all_by, all_charged};
+
+use crate::abort::{Abort, fault};
+use crate::definitions::define;
+use crate::deploying::Deploying;
+use crate::frame::Frame;
+use crate::payment::pay;
+use crate::stop::Stop;
+use cl_code::Definition;
+use cl_contracts::{Checked, Deployed};
+use cl_costs::CostTable;
+use cl_shapes::{CostName, Meter};
+use cl_state::World;
+use cl_types::{Fault, Name};
+use cl_values::Val;
+use indexmap::IndexMap;
+use std::alloc::Global;
+
+/// The definition at a place of the text.
+fn definition_at(checked: &Checked, place: usize) -> &Definition
+    requires { place < length checked.now.definitions.items }
+    ensures { slice_get checked.now.definitions.items place ≡ Some result.now }
+{
+    &checked.definitions[place]
+}
+
+/// The definitions one after another, at the places of the order of evaluation.
+fn define_all(
+    deploying: &Deploying,
+    places: &[usize],
+    constants: &mut IndexMap<Name, Val>,
+    world: &mut World,
+    meter: &mut Meter,
+) -> Result<(), Stop>
+    requires fits { IsDeploying deploying.now }
+    requires order { places.now ≡ deploying.now.checked.now.order.items }
+    requires new { AreNew deploying.now.checked.now 0 constants.old.entries world.old.stack.top }
+    ensures meant { Makes deploying.now meter.old (all_by deploying.now places.now constants.old.entries world.old.stack.top) constants.new.entries result meter.new world.new.stack.top }
+    ensures below { world.new.stack.below ≡ world.old.stack.below }
+{
+    for place in places {
+        let definition = definition_at(deploying.checked, *place);
+        define(deploying, constants, definition, world, meter)?;
+    }
+    Ok(())
+}
+
+/// Charges the text, and evaluates the definitions.
+fn deploy(
+    deploying: &Deploying,
+    constants: &mut IndexMap<Name, Val>,
+    world: &mut World,
+    meter: &mut Meter,
+) -> Result<(), Stop>
+    requires fits { IsDeploying deploying.now }
+    requires new { AreNew deploying.now.checked.now 0 constants.old.entries world.old.stack.top }
+    ensures meant { Makes deploying.now meter.old (all_charged deploying.now constants.old.entries world.old.stack.top) constants.new.entries result meter.new world.new.stack.top }
+    ensures below { world.new.stack.below ≡ world.old.stack.below }
+{
+    let length = u64::from(deploying.checked.source_length);
+    pay(deploying.costs, meter, CostName::Deploy, length)?;
+    let places = deploying.checked.order.as_slice();
+    define_all(deploying, places, constants, world, meter)
+}
+
+/// Evaluates the deployment of the frame's contract after the deployed ones, and gives the values of its constants. What it does
+/// is done to the top state of the world, which has no token of the contract yet, and charged to the meter.
+pub fn run_top(
+    alloc: Global,
+    world: &mut World,
+    deployed: &Deployed,
+    checked: &Checked,
+    frame: &Frame,
+    costs: &CostTable,
+    meter: &mut Meter,
+) -> Result<IndexMap<Name, Val>, Fault<Abort>>
+    requires indexed { AreIndexed deployed.now }
+    requires names { IsIndexed checked.now }
+    requires order { ordered (forms_of checked.now) ≡ Ok checked.now.order.items }
+    requires home { checked.now.principal ≡ frame.now.contract }
+    requires tokens { HasNoTokens frame.now.contract world.old.stack.top }
+    ensures meant { Deploys (limited (function_of costs.now) meter.old (deployment (deployed_seen deployed.now) (frame_seen frame.now) (contract_with checked.now []) world.old.stack.top)) checked.now result meter.new world.new.stack.top }
+    ensures below { world.new.stack.below ≡ world.old.stack.below }
+{
+    let deploying = Deploying {
+        alloc,
+        deployed,
+        checked,
+        frame,
+        costs,
+    };
+    let mut constants = IndexMap::new(alloc);
+    match deploy(&deploying, &mut constants, world, meter) {
+        Ok(()) => Ok(constants),
+        Err(stop) => Err(fault(stop)),
+    }
+}
