@@ -1,6 +1,6 @@
 #!/usr/bin/env bash
-# Reads texts of 64 KiB to 1 MiB that hold every kind of token, and puts their forms in order. Each isn't accepted yet, or breaks
-# a rule, so nothing comes after that. Flat nanoseconds a byte say that it is linear. Run by hand; python3 measures.
+# Reads texts of 64 KiB to 1 MiB that hold every kind of token. Each breaks a rule, so nothing comes after that, or is deployed and
+# has no function to call. Flat nanoseconds a byte say that it is linear. Run by hand; python3 measures.
 set -eu
 cd "$(dirname "$0")"
 ../clarity call ../examples/inc.clar add1 41 >/dev/null
@@ -28,15 +28,17 @@ def row(part):
 
 
 table([
-    ("contract", contracts, "N0 NotYet"),
-    ("names", row("a "), "N0 NotYet"),
-    ("lists", row("()"), "N0 NotYet"),
-    ("tuples", row("{a:1}"), "N0 NotYet"),
-    ("strings", row('""'), "N0 NotYet"),
-    ("comments", lambda size: "x" + ";;\n" * ((size - 1) // 3), "N0 NotYet"),
+    ("contract", contracts, "C15 NoSuchToken"),
+    ("names", row("a "), "C1 UnknownName"),
+    ("lists", row("()"), "C20 EmptyForm"),
+    ("comments", lambda size: "x" + ";;\n" * ((size - 1) // 3), "C1 UnknownName"),
     ("digits", row("1"), "T3 NumberTooWide"),
     ("marks", row("'"), "T9 BadAddress"),
     ("string", lambda size: '"' + "a" * (size - 1), "T4 Unclosed"),
     ("escapes", lambda size: '"' + "\\" * (size - 2), "T4 Unclosed"),
 ], ["f"], 6)
+table([
+    ("tuples", row("{a:1}"), "E2 NoFunction"),
+    ("strings", row('""'), "E2 NoFunction"),
+], ["f"], 7)
 PYTHON

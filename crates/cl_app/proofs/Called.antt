@@ -5,7 +5,9 @@ use Rattle.cl_types.specs.declared.fault.NoMemory.{NoMemory}
 use Rattle.cl_values.specs.Tree.{Tree}
 use Rattle.cl_tx.specs.declared.entry.Entry.{Entry}
 use Rattle.cl_tx.specs.Seen.{TxFileSeen}
-use Rattle.cl_engine.specs.Seen.{Seen, node_with}
+use Rattle.cl_events.specs.State.{State}
+use Rattle.cl_tx.specs.Nodes.{NodeSeen}
+use Rattle.cl_engine.specs.Seen.{Seen}
 use Rattle.cl_report.specs.Lines.{lines_of}
 use Rattle.cl_app.specs.declared.call.Both.{Both}
 use Rattle.cl_app.specs.declared.entries.End.{End}
@@ -24,7 +26,7 @@ is_report_of first second both answer are is =
     record {
       deployed = are.deployed;
       called = are.called;
-      after = node_with are.reaches.known are.after;
+      after = are.reaches.node;
       runs = are.reaches.runs;
       is =
           is
@@ -44,9 +46,9 @@ called_entries r source function given args first second one two same answers =
 pub is_run : (file : TxFileSeen) (state : Bool) (text state_text : List ℕ) (after : Seen) (answer : Answer) → Reports file.entries text after → IsStatePart state after.state state_text → answer ≡ record { bytes = text ++ state_text; status = 0 } → IsRun file state answer
 is_run file state text state_text after answer reports stated is = record {
   results = reports.results;
-  after = node_with reports.reaches.known after;
+  after = reports.reaches.node;
   runs = reports.reaches.runs;
   state_text = state_text;
-  is_state = stated;
+  is_state = subst (λ (s : State). IsStatePart state s state_text) (sym (ap (λ (m : NodeSeen). m.state) reports.reaches.is_node.is)) stated;
   is = is ∙ ap (λ (t : List ℕ). record { bytes = t ++ state_text; status = 0 }) reports.is_report;
 }

@@ -1,5 +1,11 @@
 pub mod Reached
 pub mod Called
+pub mod Components
+pub mod WordSources
+pub mod Returned
+pub mod Judged
+pub mod ReadSo
+pub mod CheckSo
 pub mod Once
 pub mod Arguments
 pub mod Spellings

@@ -1,9 +1,18 @@
 -- Words and files have one answer.
-use Rattle.std.proofs.Common.{◌≡◌, ℕ, List, [], ◌∷◌, ◌++◌, length, Ok, Err, Bool, true, false, sym, ap, ◌∙◌, subst}
-use Rattle.std.specs.Prelude.{Option, Some, None, nat_lt}
+use Rattle.std.proofs.Common.{◌≡◌, ℕ, List, [], ◌∷◌, ◌++◌, length, Ok, Err, Bool, true, false, inl, inr, sym, ap, ◌∙◌, subst}
+use Rattle.std.specs.Prelude.{Option, Some, None, Result}
 use Rattle.cl_ports.specs.Files.{Held, content_of}
 use Rattle.cl_ports.specs.Growth.{GrowsPart}
-use Rattle.cl_ports.specs.declared.TheConstants.{MAX_FILE_BYTES}
+use Rattle.cl_shapes.specs.Names.{unit_function}
+use Rattle.cl_c32.specs.Address.{AddressParts}
+use Rattle.cl_shapes.specs.declared.function.CostFn.{CostFn}
+use Rattle.cl_costs.specs.declared.refusal.CostRefusal.{CostRefusal}
+use Rattle.cl_costs.specs.CostFile.{table_of}
+use Rattle.cl_costs.specs.Tables.{function_of}
+use Rattle.cl_rules.specs.Context.{CostTable, Known}
+use Rattle.cl_rules.specs.FormRules.{Defined}
+use Rattle.cl_rules.specs.Acceptance.{known_of}
+use Rattle.cl_rules.specs.Laws.{AcceptedIsClean, OneDefined, OneFirstOf, OneOrder}
 use Rattle.cl_values.specs.Tree.{Tree}
 use Rattle.cl_text.specs.Parsed.{Outcome, Stands, Broken, NotALiteral, TooDeep, TooLarge, Parses}
 use Rattle.cl_events.specs.State.{State}
@@ -11,17 +20,20 @@ use Rattle.cl_tx.specs.declared.outcome.TxResult.{TxResult}
 use Rattle.cl_tx.specs.declared.refusal.TxRefusal.TheVariants.{NotYet}
 use Rattle.cl_tx.specs.Seen.{TxFileSeen}
 use Rattle.cl_tx.specs.Readings.{Read}
-use Rattle.cl_tx.specs.Laws.{OneFile}
+use Rattle.cl_tx.specs.Laws.{OneFile, OneRun}
 use Rattle.cl_tx.specs.Nodes.{NodeSeen}
-use Rattle.cl_engine.specs.Laws.{OneRun}
+use Rattle.cl_tx.specs.Step.{told_of}
 use Rattle.cl_report.specs.Lines.{report_from}
 use Rattle.cl_report.specs.StateLines.{IsStateText}
-use Rattle.cl_app.specs.Words.{Command, Call, Run, Value, Wire}
+use Rattle.cl_app.specs.declared.sources.Source.{Source}
+use Rattle.cl_app.specs.Words.{Command, Call, Run, Check, Value, Wire}
 use Rattle.cl_app.specs.Argument.{Arguments, before, from_word, Spell}
 use Rattle.cl_app.specs.Spelling.{Answer, wire_answer}
 use Rattle.cl_app.specs.Called.{deployment, call, called_answer, IsCalled}
 use Rattle.cl_app.specs.Ran.{IsStatePart, IsRun, IsRunOf, IsRan}
-use Rattle.cl_app.specs.Answer.{IsAnswerByLength, IsFileAnswer, IsArgumentsAnswer, IsCallAnswer, IsAnswerTo, arguments_named}
+use Rattle.cl_app.specs.Answer.{IsArgumentsAnswer, IsCallAnswer, IsAnswerTo, arguments_named}
+use Rattle.cl_app.specs.Checked.{IsAnswerUnder, IsCheckAnswer, IsReport, IsSourcesAnswer, Sources, accepted_answer, refused_answer, sources_under}
+use Rattle.cl_app.specs.FileAnswers.{IsAnswerByLength, IsFileAnswer, is_long}
 use Rattle.cl_app.specs.Top.{IsAnswer, AnswersPart, AsksPart}
 
 abbrev pub OneOutcome : Type 0
@@ -30,12 +42,20 @@ OneOutcome = (text : List ℕ) (a b : Outcome) → Parses text a → Parses text
 abbrev pub OneStateText : Type 0
 OneStateText = (s : State) (a b : List ℕ) → IsStateText s a → IsStateText s b → a ≡ b
 
--- what comes of a text, of a transaction file, of entries and of a state is one
+-- a source is accepted or refused in one way
+pub record OneOfSources : Type 0 where
+  pub clean : AcceptedIsClean
+  pub defined : OneDefined
+  pub first : OneFirstOf
+  pub order : OneOrder
+
+-- what comes of a text, of a transaction file, of entries, of a state and of sources is one
 pub record OneOfEach : Type 0 where
   pub outcome : OneOutcome
   pub file : OneFile
   pub run : OneRun
   pub state : OneStateText
+  pub sources : OneOfSources
 
 -- at most one answer
 abbrev OneAnswer : (Answer → Type 0) → Type 0
@@ -47,13 +67,13 @@ by_length_same false file Is once x y p q = once x y p q
 
 file_same : (file : List ℕ) (Is : List ℕ → Answer → Type 0) → ((bytes : List ℕ) → OneAnswer (Is bytes)) → (content : Option (List ℕ)) → OneAnswer (IsFileAnswer file Is content)
 file_same file Is once None x y p q = absurd p
-file_same file Is once (Some bytes) x y p q = by_length_same (nat_lt MAX_FILE_BYTES (length bytes)) file (Is bytes) (once bytes) x y p q
+file_same file Is once (Some bytes) x y p q = by_length_same (is_long bytes) file (Is bytes) (once bytes) x y p q
 
 called_same : OneRun → (function : List ℕ) (args : List Tree) (source : List ℕ) → OneAnswer (IsCalled source function args)
 called_same once function args source x y p q =
     let first = deployment source in
     let second = call function args in
-    let same : p.deployed ∷ p.called ∷ [] ≡ q.deployed ∷ q.called ∷ [] = (once (first ∷ second ∷ []) (p.deployed ∷ p.called ∷ []) (q.deployed ∷ q.called ∷ []) p.after q.after p.runs q.runs).0 in
+    let same : p.deployed ∷ p.called ∷ [] ≡ q.deployed ∷ q.called ∷ [] = (once unit_function (record { entries = first ∷ second ∷ [] }) (p.deployed ∷ p.called ∷ []) (q.deployed ∷ q.called ∷ []) p.after q.after p.runs q.runs).0 in
     let deployed : p.deployed ≡ q.deployed = cc in
     let called : p.called ≡ q.called = cc in
     p.is ∙ ap (λ (r : TxResult). called_answer first second r p.called) deployed ∙ ap (called_answer first second q.deployed) called ∙ sym q.is
@@ -64,7 +84,7 @@ state_same once false s a b p q = p ∙ sym q
 
 run_same : OneOfEach → (file : TxFileSeen) (state : Bool) → OneAnswer (IsRun file state)
 run_same laws file state x y p q =
-    let both = laws.run file.entries p.results q.results p.after q.after p.runs q.runs in
+    let both = laws.run unit_function file p.results q.results p.after q.after p.runs q.runs in
     let text : p.state_text ≡ q.state_text = state_same laws.state state q.after.state p.state_text q.state_text (subst (λ (n : NodeSeen). IsStatePart state n.state p.state_text) both.1 p.is_state) q.is_state in
     p.is
     ∙ ap (λ (rs : List TxResult). record { bytes = report_from 0 file.entries rs ++ p.state_text; status = 0 }) both.0
@@ -78,6 +98,35 @@ run_of_same laws name state (Err NotYet) x y p q = p ∙ sym q
 ran_same : OneOfEach → (name : List ℕ) (state : Bool) (bytes : List ℕ) → OneAnswer (IsRan name state bytes)
 ran_same laws name state bytes x y p q =
     run_of_same laws name state q.0 x y (subst (λ (read : Read TxFileSeen). IsRunOf name state read x) (laws.file bytes p.0 q.0 p.1 q.1) p.2) q.2
+
+report_same : OneOfSources → (table : CostTable) (known : List Known) (sources : List Source) → OneAnswer (IsReport table known sources)
+report_same laws table known [] x y p q = p ∙ sym q
+report_same laws table known (s ∷ sources) x y (inl p) (inl q) =
+    let defined : p.0.defined ≡ q.0.defined = laws.defined known s.principal table s.text p.0 q.0 in
+    let forms : p.0.forms ≡ q.0.forms = (laws.order s.text p.0.forms q.0.forms p.0.order q.0.order p.0.typed.is_ordered q.0.typed.is_ordered).0 in
+    let rest : p.1 ≡ q.1 =
+    report_same laws table (known ++ known_of s.principal (length s.text) q.0.defined ∷ []) sources p.1 q.1
+    (subst (λ (D : Defined). IsReport table (known ++ known_of s.principal (length s.text) D ∷ []) sources p.1) defined p.2) q.2
+    in
+    p.3 ∙ (λ i. accepted_answer s (told_of table (defined i) (forms i)) (rest i)) ∙ sym q.3
+report_same laws table known (s ∷ sources) x y (inl p) (inr q) = absurd (laws.clean known s.principal table s.text q.0.rule q.0.span q.0.names p.0 q.1)
+report_same laws table known (s ∷ sources) x y (inr p) (inl q) = absurd (laws.clean known s.principal table s.text p.0.rule p.0.span p.0.names q.0 p.1)
+report_same laws table known (s ∷ sources) x y (inr p) (inr q) =
+    let same = laws.first known s.principal table s.text p.0.rule q.0.rule p.0.span q.0.span p.0.names q.0.names p.1 q.1 in
+    p.2 ∙ (λ i. refused_answer s (record { rule = same.0 i; span = same.1 i; names = same.2 i })) ∙ sym q.2
+
+sources_same : OneOfSources → (table : CostTable) (sources : Option Sources) → OneAnswer (IsSourcesAnswer table sources)
+sources_same laws table None x y p q = absurd p
+sources_same laws table (Some (Err long)) x y p q = p ∙ sym q
+sources_same laws table (Some (Ok sources)) x y p q = report_same laws table [] sources x y p q
+
+under_same : OneOfSources → (files : Held) (costs : List ℕ) (address : AddressParts) (paths : List (List ℕ)) (read : Result (List CostFn) CostRefusal) → OneAnswer (IsAnswerUnder files costs address paths read)
+under_same laws files costs address paths (Err fault) x y p q = p ∙ sym q
+under_same laws files costs address paths (Ok table) x y p q = sources_same laws (function_of table) (sources_under files address paths) x y p q
+
+check_same : OneOfSources → (files : Held) (costs : List ℕ) (address : AddressParts) (paths : List (List ℕ)) → OneAnswer (IsCheckAnswer files costs address paths)
+check_same laws files costs address paths =
+    file_same costs (λ bytes. IsAnswerUnder files costs address paths (table_of bytes)) (λ bytes. under_same laws files costs address paths (table_of bytes)) (content_of files costs)
 
 from_same : (o : Outcome) (Behind : Arguments → Type 0) → ((a b : Arguments) → Behind a → Behind b → a ≡ b) → (a b : Arguments) → from_word o Behind a → from_word o Behind b → a ≡ b
 from_same (Stands v) Behind once a b p q = p.2 ∙ ap (before v) (once p.0 q.0 p.1 q.1) ∙ sym q.2
@@ -107,6 +156,7 @@ answer_same : OneOfEach → (command : Option Command) (files : Held) → OneAns
 answer_same laws None files x y p q = p ∙ sym q
 answer_same laws (Some (Call file function words)) files x y p q = call_same laws file function words files x y p q
 answer_same laws (Some (Run file state)) files x y p q = file_same file (IsRan file state) (ran_same laws file state) (content_of files file) x y p q
+answer_same laws (Some (Check costs address paths)) files x y p q = check_same laws.sources files costs address paths x y p q
 answer_same laws (Some (Value word)) files x y p q = p ∙ sym q
 answer_same laws (Some (Wire word)) files x y p q = p.2 ∙ ap wire_answer (laws.outcome word p.0 q.0 p.1 q.1) ∙ sym q.2
 

@@ -1,30 +1,18 @@
 -- What the program writes for its words and the files that are held, and the status that it ends with.
-use Rattle.std.specs.Prelude.{◌≡◌, ℕ, Bool, true, false, List, [], ◌∷◌, ◌++◌, length, Option, Some, None, Ok, Err, codes, nat_lt}
+use Rattle.std.specs.Prelude.{◌≡◌, ℕ, List, [], ◌∷◌, Option, Some, None, Ok, Err, codes}
 use Rattle.cl_ports.specs.Files.{Held, content_of}
-use Rattle.cl_ports.specs.declared.TheConstants.{MAX_FILE_BYTES}
 use Rattle.cl_text.specs.Parsed.{Outcome, Parses}
-use Rattle.cl_app.specs.Words.{Command, Call, Run, Value, Wire}
+use Rattle.cl_app.specs.Words.{Command, Call, Run, Check, Value, Wire}
 use Rattle.cl_app.specs.Argument.{Arguments, Spell}
 use Rattle.cl_app.specs.Spelling.{Answer, no_value_answer, value_answer, wire_answer}
+use Rattle.cl_app.specs.FileAnswers.{IsFileAnswer}
 use Rattle.cl_app.specs.Called.{IsCalled}
+use Rattle.cl_app.specs.Checked.{IsCheckAnswer, check_named}
 use Rattle.cl_app.specs.Ran.{IsRan}
 
 -- words that are not of the table
 abbrev pub usage_answer : Answer
 usage_answer = record { bytes = codes "usage: clarity COMMAND WORDS\n"; status = 2 }
-
--- a file that is longer than a file may be
-abbrev pub long_file_answer : List ℕ → Answer
-long_file_answer name = record { bytes = codes "bad file " ++ (name ++ codes " TooLong\n"); status = 5 }
-
-abbrev pub IsAnswerByLength : Bool → List ℕ → (Answer → Type 0) → Answer → Type 0
-IsAnswerByLength true file Is answer = answer ≡ long_file_answer file
-IsAnswerByLength false file Is answer = Is answer
-
--- the answer for what is held under a file's name, by what is one for its bytes; none where nothing is held
-abbrev pub IsFileAnswer : List ℕ → (List ℕ → Answer → Type 0) → Option (List ℕ) → Answer → Type 0
-IsFileAnswer file Is None answer = ⊥
-IsFileAnswer file Is (Some bytes) answer = IsAnswerByLength (nat_lt MAX_FILE_BYTES (length bytes)) file (Is bytes) answer
 
 -- the answer to `call` for its arguments
 abbrev pub IsArgumentsAnswer : List ℕ → List ℕ → Arguments → Held → Answer → Type 0
@@ -44,6 +32,7 @@ abbrev pub IsAnswerTo : Option Command → Held → Answer → Type 0
 IsAnswerTo None files answer = answer ≡ usage_answer
 IsAnswerTo (Some (Call file function words)) files answer = IsCallAnswer file function words files answer
 IsAnswerTo (Some (Run file state)) files answer = IsFileAnswer file (IsRan file state) (content_of files file) answer
+IsAnswerTo (Some (Check costs address paths)) files answer = IsCheckAnswer files costs address paths answer
 IsAnswerTo (Some (Value word)) files answer = answer ≡ value_answer word
 IsAnswerTo (Some (Wire word)) files answer = IsWireAnswer word answer
 
@@ -52,9 +41,10 @@ abbrev pub arguments_named : List ℕ → Arguments → List (List ℕ)
 arguments_named file (Err outcome) = []
 arguments_named file (Ok args) = file ∷ []
 
-abbrev pub IsNamed : Option Command → List (List ℕ) → Type 0
-IsNamed None names = names ≡ []
-IsNamed (Some (Call file function words)) names = (args : Arguments) × Spell words args × (names ≡ arguments_named file args)
-IsNamed (Some (Run file state)) names = names ≡ file ∷ []
-IsNamed (Some (Value word)) names = names ≡ []
-IsNamed (Some (Wire word)) names = names ≡ []
+abbrev pub IsNamed : Option Command → Held → List (List ℕ) → Type 0
+IsNamed None files names = names ≡ []
+IsNamed (Some (Call file function words)) files names = (args : Arguments) × Spell words args × (names ≡ arguments_named file args)
+IsNamed (Some (Run file state)) files names = names ≡ file ∷ []
+IsNamed (Some (Check costs address paths)) files names = names ≡ check_named files costs paths
+IsNamed (Some (Value word)) files names = names ≡ []
+IsNamed (Some (Wire word)) files names = names ≡ []

@@ -1,13 +1,14 @@
 -- The report of `call`: a source is deployed, and then one of its functions is called.
 use Rattle.std.specs.Prelude.{◌≡◌, ℕ, List, [], ◌∷◌, ◌++◌, replicate, codes}
 use Rattle.cl_c32.specs.Address.{AddressParts}
+use Rattle.cl_shapes.specs.Names.{unit_function}
 use Rattle.cl_values.specs.Tree.{Tree}
 use Rattle.cl_tx.specs.declared.entry.Common.{Common}
 use Rattle.cl_tx.specs.declared.entry.Entry.{Entry}
 use Rattle.cl_tx.specs.declared.entry.Entry.TheVariants.{Deploy, Call}
 use Rattle.cl_tx.specs.declared.outcome.TxResult.{TxResult}
 use Rattle.cl_tx.specs.Nodes.{NodeSeen, contract_of}
-use Rattle.cl_engine.specs.Steps.{RunsSoFar}
+use Rattle.cl_tx.specs.Step.{Runs}
 use Rattle.cl_report.specs.Lines.{report_from}
 use Rattle.cl_app.specs.declared.entries.End.{End}
 use Rattle.cl_app.specs.declared.entries.End.TheVariants.{Good, Aborted, Refused}
@@ -56,7 +57,7 @@ pub record IsReportOf (first second : Entry) (answer : Answer) : Type 0 where
   pub deployed : TxResult
   pub called : TxResult
   pub after : NodeSeen
-  pub runs : RunsSoFar (first ∷ second ∷ []) (deployed ∷ called ∷ []) after
+  pub runs : Runs unit_function (record { entries = first ∷ second ∷ [] }) (deployed ∷ called ∷ []) after
   pub is : answer ≡ called_answer first second deployed called
 
 -- the answer for a source, a function and its arguments

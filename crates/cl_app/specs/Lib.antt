@@ -1,7 +1,10 @@
+pub mod Sources
 pub mod Words
 pub mod Seen
 pub mod Argument
 pub mod Spelling
+pub mod FileAnswers
+pub mod Checked
 pub mod Entries
 pub mod Called
 pub mod Both
@@ -9,3 +12,6 @@ pub mod Ran
 pub mod Answer
 pub mod Top
 pub mod Reply
+pub mod Checking
+pub mod Reading
+pub mod CheckReply

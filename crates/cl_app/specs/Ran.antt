@@ -1,5 +1,6 @@
 -- The report of `run`: what the entries of a transaction file come to.
 use Rattle.std.specs.Prelude.{◌≡◌, ℕ, Bool, true, false, List, [], ◌++◌, codes, Ok, Err}
+use Rattle.cl_shapes.specs.Names.{unit_function}
 use Rattle.cl_events.specs.State.{State}
 use Rattle.cl_tx.specs.declared.outcome.TxResult.{TxResult}
 use Rattle.cl_tx.specs.declared.refusal.TxRefusal.TheVariants.{NotYet}
@@ -7,7 +8,7 @@ use Rattle.cl_tx.specs.Seen.{TxFileSeen}
 use Rattle.cl_tx.specs.Readings.{Read}
 use Rattle.cl_tx.specs.Files.{FileReads}
 use Rattle.cl_tx.specs.Nodes.{NodeSeen}
-use Rattle.cl_engine.specs.Steps.{RunsSoFar}
+use Rattle.cl_tx.specs.Step.{Runs}
 use Rattle.cl_report.specs.Lines.{report_from}
 use Rattle.cl_report.specs.StateLines.{IsStateText}
 use Rattle.cl_app.specs.Spelling.{Answer}
@@ -25,7 +26,7 @@ IsStatePart false s text = text ≡ []
 pub record IsRun (file : TxFileSeen) (state : Bool) (answer : Answer) : Type 0 where
   pub results : List TxResult
   pub after : NodeSeen
-  pub runs : RunsSoFar file.entries results after
+  pub runs : Runs unit_function file results after
   pub state_text : List ℕ
   pub is_state : IsStatePart state after.state state_text
   pub is : answer ≡ record { bytes = report_from 0 file.entries results ++ state_text; status = 0 }

@@ -5,7 +5,7 @@ use Rattle.std.specs.declared.alloc.Global.{Global}
 use Rattle.cl_ports.specs.Growth.{Rose}
 use Rattle.cl_ports.specs.Files.{Held, content_of}
 use Rattle.cl_app.specs.Spelling.{Answer}
-use Rattle.cl_app.specs.Answer.{IsFileAnswer}
+use Rattle.cl_app.specs.FileAnswers.{IsFileAnswer}
 use Rattle.cl_app.specs.declared.pieces.Reply.{Reply}
 use Rattle.cl_app.specs.declared.pieces.Stop.{Stop}
 use Rattle.cl_app.specs.declared.pieces.Stop.TheVariants.{ReadFailed}

@@ -1,10 +1,11 @@
 -- A command as the definitions speak of it.
-use Rattle.cl_app.specs.Words.{Command, Call, Run, Value, Wire, texts}
+use Rattle.cl_app.specs.Words.{Command, Call, Run, Check, Value, Wire, texts}
 use Rattle.cl_app.specs.declared.words.Command.{Command as CommandOfWords}
 use Rattle.cl_app.specs.declared.words.Command.TheVariants as word
 
 abbrev pub command_seen : CommandOfWords → Command
 command_seen (word.Call file function args) = Call file.now function.now (texts args.now)
 command_seen (word.Run file state) = Run file.now state
+command_seen (word.Check words) = Check words.costs.now words.address (texts words.paths.now)
 command_seen (word.Value text) = Value text.now
 command_seen (word.Wire text) = Wire text.now

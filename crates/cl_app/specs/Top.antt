@@ -28,4 +28,4 @@ pub record AnswersPart (command : Option Command) (held : Option Held) (before n
 
 -- a first part of the names of the words was asked for
 pub record AsksPart (command : Option Command) (held : Option Held) (before now : Option (List (List ℕ))) : Type 0 where
-  pub told : (files : Held) (names : List (List ℕ)) → held ≡ Some files → IsNamed command names → GrowsPart before now names
+  pub told : (files : Held) (names : List (List ℕ)) → held ≡ Some files → IsNamed command files names → GrowsPart before now names

@@ -1,7 +1,11 @@
 -- What the words of a command line ask for.
-use Rattle.std.specs.Prelude.{ℕ, Bool, true, false, List, [], ◌∷◌, Option, Some, None, codes, if◌then◌else◌, ◌==◌, ◌&&◌, string_bytes, map}
+use Rattle.std.specs.Prelude.{ℕ, Bool, true, false, List, [], ◌∷◌, Option, Some, None, Result, Ok, Err, codes, if◌then◌else◌, ◌==◌, ◌&&◌, string_bytes, map}
 use Rattle.std.specs.List.{list_any}
 use Rattle.std.specs.Str.{bytes_eq}
+use Rattle.cl_c32.specs.Address.{AddressParts}
+use Rattle.cl_c32.specs.Codec.{decoded}
+use Rattle.cl_c32.specs.declared.codec.C32Refusal.{C32Refusal}
+use Rattle.cl_app.specs.Sources.{are_sources}
 use Rattle.std.specs.declared.alloc.Global.{Global}
 use Rattle.std.specs.declared.string.String.{String}
 
@@ -14,6 +18,8 @@ pub data Command : Type 0 where
   Call : (file function : List ℕ) (args : List (List ℕ)) → Command
   -- what the entries of a transaction file come to, and the state after them where it is asked for
   Run : (file : List ℕ) (state : Bool) → Command
+  -- what becomes of the sources under these paths, as contracts under an address
+  Check : (costs : List ℕ) (address : AddressParts) (paths : List (List ℕ)) → Command
   -- the text of the value with this wire form
   Value : (word : List ℕ) → Command
   -- the wire form of the value with this text
@@ -30,12 +36,22 @@ command_with name word =
     else (if bytes_eq name (codes "wire") then Some (Wire word)
     else (if bytes_eq name (codes "run") then Some (Run word false) else None))
 
+abbrev pub check_under : List ℕ → List (List ℕ) → Result AddressParts C32Refusal → Option Command
+check_under costs paths (Ok address) = if are_sources paths then Some (Check costs address paths) else None
+check_under costs paths (Err refusal) = None
+
+-- a command with more words
+abbrev pub command_with_words : List ℕ → List ℕ → List ℕ → List (List ℕ) → Option Command
+command_with_words name first second words =
+    if bytes_eq name (codes "call") then Some (Call first second words)
+    else (if bytes_eq name (codes "check") then check_under first words (decoded second) else None)
+
 -- the command of the first word, where it has its number of words
 abbrev pub command_of : List (List ℕ) → Option Command
 command_of [] = None
 command_of (name ∷ []) = None
 command_of (name ∷ word ∷ []) = command_with name word
-command_of (name ∷ file ∷ function ∷ args) = if bytes_eq name (codes "call") then Some (Call file function args) else None
+command_of (name ∷ first ∷ second ∷ words) = command_with_words name first second words
 
 -- `run`, a file and `--state`
 abbrev pub command_with_state : List (List ℕ) → Option Command

@@ -10,8 +10,8 @@ use crate::entries::{End, Ended, next};
 use crate::pieces::{Reply, two_pieces, whole_piece};
 use cl_c32::{Address, ContractName, Principal};
 use cl_costs::CostTable;
-use cl_engine::Node;
-use cl_tx::{Common, Entry, Row, nodes_stay_nodes};
+use cl_engine::{Node, nodes_are_known_in_one_way};
+use cl_tx::{Common, Entry, Row};
 use cl_types::NoMemory;
 use cl_values::Val;
 use std::alloc::{AllocError, Global};
@@ -72,10 +72,10 @@ fn run_both(alloc: Global, node: &mut Node, first: &Entry, second: &Entry) -> Re
     requires { IsFirst node.now }
     ensures { IfOk result (AreBoth first.now second.now) }
 {
-    nodes_stay_nodes();
-    let costs = CostTable::builtin();
-    let deployed = next(alloc, node, 0, first, &costs)?;
-    let called = next(alloc, node, 1, second, &costs)?;
+    nodes_are_known_in_one_way();
+    CostTable::functions_by_name();
+    let deployed = next(alloc, node, 0, first)?;
+    let called = next(alloc, node, 1, second)?;
     Ok(Both { deployed, called })
 }
 
@@ -138,7 +138,7 @@ fn report_from_genesis(alloc: Global, first: &Entry, second: &Entry) -> Result<R
     ensures answer { IfOk result (λ reply. IsReportOf first.now second.now (answer_of reply)) }
     ensures status { IfOk result (λ reply. IsOwnStatus reply.status × (reply.status ≢ 2)) }
 {
-    let mut node = Node::genesis(alloc)?;
+    let mut node = Node::genesis(alloc, &CostTable::builtin())?;
     report_of(alloc, &mut node, first, second)
 }
 

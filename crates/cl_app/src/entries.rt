@@ -1,14 +1,13 @@
 //! Entries one after another, each with its lines.
 ghost use Rattle.std.specs.Prelude.{◌≡◌, ◌≤◌, length, IfOk};
-ghost use Rattle.cl_costs.specs.Tables.{unit_table};
 ghost use Rattle.cl_app.specs.Entries.{end_of, IsFirst, Ends, Reports};
 ghost use Rattle.cl_app.specs.Reply.{bytes_of};
 ghost use Rattle.cl_report.specs.Lines.{lines_of};
 
 use cl_costs::CostTable;
-use cl_engine::{Node, entries_have_one_result};
+use cl_engine::{Node, nodes_are_known_in_one_way};
 use cl_report::lines;
-use cl_tx::{Entry, Outcome, TxResult, nodes_stay_nodes};
+use cl_tx::{Entry, Outcome, TxResult};
 use cl_types::NoMemory;
 use std::alloc::Global;
 
@@ -59,12 +58,10 @@ pub(crate) fn next(
     node: &mut Node,
     number: u32,
     entry: &Entry,
-    costs: &CostTable,
 ) -> Result<Ended, NoMemory>
-    requires unit { costs.now ≡ unit_table }
     ensures { IfOk result (λ e. Ends number node.old entry.now node.new e.end e.text.items) }
 {
-    let given = node.step(alloc, entry, costs)?;
+    let given = node.step(alloc, entry)?;
     told(alloc, number, entry, &given)
 }
 
@@ -78,12 +75,11 @@ pub(crate) fn run_entries(
     requires few { length entries.now ≤ 100000 }
     ensures { IfOk result (λ pieces. Reports entries.now (bytes_of pieces.items) node.new) }
 {
-    nodes_stay_nodes();
-    entries_have_one_result();
-    let costs = CostTable::builtin();
+    nodes_are_known_in_one_way();
+    CostTable::functions_by_name();
     let mut pieces = Vec::new(alloc);
     for entry in entries {
-        let ended = next(alloc, node, pieces.len() as u32, entry, &costs)?;
+        let ended = next(alloc, node, pieces.len() as u32, entry)?;
         pieces.push(ended.text)?;
     }
     Ok(pieces)

@@ -4,10 +4,14 @@
 
 mod argument;
 mod call;
+mod check;
 mod entries;
+mod judge;
 mod pieces;
+mod reading;
 mod reply;
 mod run;
+mod sources;
 mod spelling;
 mod top;
 mod words;

@@ -1,7 +1,7 @@
 //! The reply to a command: the pieces that are written, and the status.
 ghost use Rattle.std.specs.Prelude.{◌≡◌, ◌≢◌, ◌↔◌, ◌∷◌, [], None, Some, IfOk, IfErr};
 ghost use Rattle.cl_ports.specs.Growth.{GrowsPart};
-ghost use Rattle.cl_app.specs.Answer.{usage_answer, long_file_answer};
+ghost use Rattle.cl_app.specs.Answer.{usage_answer};
 ghost use Rattle.cl_app.specs.Called.{IsCalled};
 ghost use Rattle.cl_app.specs.Ran.{IsRan};
 ghost use Rattle.cl_app.specs.Words.{Call, Run, taken, texts};
@@ -10,7 +10,9 @@ ghost use Rattle.cl_app.specs.Top.{IsAnswer, IsOwnStatus, AsksPart};
 
 use crate::argument::values;
 use crate::call::call_reply;
-use crate::pieces::{Reply, Stop, fixed_line, one_piece};
+use crate::check::check_words;
+use crate::pieces::{Reply, Stop, fixed_line};
+use crate::reading::long_file;
 use crate::run::run_reply;
 use crate::spelling::{no_value, value_reply, wire_reply};
 use crate::words::{Command, taken};
@@ -25,14 +27,6 @@ fn usage(alloc: Global) -> Result<Reply, AllocError>
     ensures { IfOk result (λ reply. answer_of reply ≡ usage_answer) }
 {
     fixed_line(alloc, "usage: clarity COMMAND WORDS\n", 2)
-}
-
-/// The reply to a file that is too long.
-fn long_file(alloc: Global, name: &str) -> Result<Reply, AllocError>
-    ensures { IfOk result (λ reply. answer_of reply ≡ long_file_answer name.now) }
-{
-    let line = format!(in alloc; "bad file {name} TooLong\n")?;
-    one_piece(alloc, line, 5)
 }
 
 /// The reply to `call` whose arguments are values.
@@ -114,6 +108,7 @@ pub(crate) fn reply_to<F: Files>(
             },
         ) => call_words(alloc, file, function, args, files),
         Some(Command::Run { file, state }) => ran(alloc, file, state, files),
+        Some(Command::Check(words)) => check_words(alloc, &words, files),
         Some(Command::Value(word)) => Ok(value_reply(alloc, word.as_bytes())?),
         Some(Command::Wire(word)) => Ok(wire_reply(alloc, word.as_bytes())?),
         None => Ok(usage(alloc)?),

@@ -7,6 +7,7 @@ ghost use Rattle.cl_app.specs.Top.{IsOwnStatus};
 
 use crate::entries::run_entries;
 use crate::pieces::{Reply, one_piece};
+use cl_costs::CostTable;
 use cl_engine::Node;
 use cl_report::state_lines;
 use cl_tx::{TxFile, read};
@@ -53,7 +54,7 @@ fn file_report(alloc: Global, file: &TxFile, state: bool) -> Result<Reply, NoMem
     ensures answer { IfOk result (λ reply. IsRun file.now state (answer_of reply)) }
     ensures status { IfOk result (λ reply. IsOwnStatus reply.status × (reply.status ≢ 2)) }
 {
-    let mut node = Node::genesis(alloc)?;
+    let mut node = Node::genesis(alloc, &CostTable::builtin())?;
     report(alloc, &mut node, file, state)
 }
 

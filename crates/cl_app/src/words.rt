@@ -1,8 +1,20 @@
 //! The words of the command line.
 ghost use Rattle.std.specs.Prelude.{◌≡◌, option_map};
 ghost use Rattle.std.specs.List.{list_any};
-ghost use Rattle.cl_app.specs.Words.{begins_with_dash, texts, command_with, command_of, command_with_state, taken};
+ghost use Rattle.cl_app.specs.Words.{begins_with_dash, texts, check_under, command_with, command_with_words, command_of, command_with_state, taken};
 ghost use Rattle.cl_app.specs.Seen.{command_seen};
+ghost use Rattle.cl_c32.specs.Codec.{decoded};
+
+use crate::sources::are_sources;
+use cl_c32::{Address, decode};
+
+/// The words of `check`.
+#[derive(Clone, Copy)]
+pub(crate) struct CheckWords<'a> {
+    pub(crate) costs: &'a str,
+    pub(crate) address: Address,
+    pub(crate) paths: &'a [String],
+}
 
 /// A command with its words.
 #[derive(Clone, Copy)]
@@ -18,6 +30,8 @@ pub(crate) enum Command<'a> {
         file: &'a str,
         state: bool,
     },
+    /// What becomes of the sources under these paths, one after another, as contracts under an address.
+    Check(CheckWords<'a>),
     /// The text of the value with this wire form.
     Value(&'a str),
     /// The wire form of the value with this text.
@@ -64,21 +78,53 @@ fn command_with<'a>(name: &str, word: &'a str) -> Option<Command<'a>>
     None
 }
 
+/// `check` under this address.
+fn check_under<'a>(costs: &'a str, address: &str, paths: &'a [String]) -> Option<Command<'a>>
+    ensures { option_map command_seen result ≡ check_under costs.now (texts paths.now) (decoded address.now) }
+{
+    let Ok(address) = decode(address.as_bytes()) else {
+        return None;
+    };
+    if !are_sources(paths) {
+        return None;
+    }
+    Some(Command::Check(CheckWords {
+        costs,
+        address,
+        paths,
+    }))
+}
+
+/// The command with this name and at least two more words.
+fn command_with_words<'a>(
+    name: &str,
+    first: &'a str,
+    second: &'a str,
+    words: &'a [String],
+) -> Option<Command<'a>>
+    ensures { option_map command_seen result ≡ command_with_words name.now first.now second.now (texts words.now) }
+{
+    if name == "call" {
+        return Some(Command::Call {
+            file: first,
+            function: second,
+            args: words,
+        });
+    }
+    if name == "check" {
+        return check_under(first, second, words);
+    }
+    None
+}
+
 /// The command of words of which none begins with a dash.
 fn command_of(words: &[String]) -> Option<Command<'_>>
     ensures { option_map command_seen result ≡ command_of (texts words.now) }
 {
     match words {
         [name, word] => command_with(name.as_str(), word.as_str()),
-        [name, file, function, args @ ..] => {
-            if name.as_str() != "call" {
-                return None;
-            }
-            Some(Command::Call {
-                file: file.as_str(),
-                function: function.as_str(),
-                args,
-            })
+        [name, first, second, words @ ..] => {
+            command_with_words(name.as_str(), first.as_str(), second.as_str(), words)
         }
         _ => None,
     }

@@ -1,148 +1,215 @@
--- What a deployment makes of a node.
-use Rattle.std.proofs.Common.{◌≡◌, ℕ, false, List, [], ◌∷◌, ◌++◌, map, length, Some, None, refl, sym, ap, subst, ◌∙◌}
+-- What a deployment makes of a sound node.
+use Rattle.std.proofs.Common.{◌≡◌, inl, inr, ℕ, List, [], ◌∷◌, ◌++◌, length, Some, None, sym, ap, subst, ◌∙◌}
 use Rattle.std.proofs.lemmas.List.{map_push}
 use Rattle.cl_c32.specs.declared.principal.Principal.{Principal}
 use Rattle.cl_shapes.specs.declared.cost.Cost5.{Cost5}
-use Rattle.cl_shapes.specs.Names.{unit_function}
+use Rattle.cl_shapes.specs.declared.function.CostFn.{CostFn}
+use Rattle.cl_costs.specs.Tables.{function_of}
+use Rattle.cl_shapes.specs.declared.cost.Dimension.{Dimension}
 use Rattle.cl_sexpr.specs.declared.rule.Rule.{Rule}
-use Rattle.cl_sexpr.specs.declared.rule.Rule.TheVariants.{NotYet}
+use Rattle.cl_sexpr.specs.declared.rule.Rule.TheVariants.{BoundTooLarge}
 use Rattle.cl_sexpr.specs.declared.sexpr.Span.{Span}
-use Rattle.cl_int_code.specs.Definitions.{form_defined}
 use Rattle.cl_forms.specs.Forms.{Form}
-use Rattle.cl_events.specs.State.{State, at_rest}
+use Rattle.cl_events.specs.State.{State}
+use Rattle.cl_events.specs.declared.event.Event.{Event}
 use Rattle.cl_meaning.specs.Deployed.{Contract}
-use Rattle.cl_meaning.specs.Deploying.{deployment}
-use Rattle.cl_meaning.specs.Limits.{Limited, Gave, limited}
+use Rattle.cl_meaning.specs.Deploying.{deployment, forms_by, forms_at}
+use Rattle.cl_meaning.specs.Limits.{Limited, Lost, limited}
 use Rattle.cl_meaning.specs.Scope.{Frame}
-use Rattle.cl_int_eval.specs.Deploys.{contract_of as contract_made}
-use Rattle.cl_rules.specs.Acceptance.{known_of, unordered}
-use Rattle.cl_rules.specs.Context.{Known, known_at}
-use Rattle.cl_rules.specs.Laws.{OneOrder, OrderedIsClean}
-use Rattle.cl_int_check.specs.Laws.{IsAcceptedAs, TakenIsAccepted, TakenOrNot}
-use Rattle.cl_int_check.specs.Refusal.{IsRefusedBy, broken, not_yet}
-use Rattle.cl_int_check.specs.Taken.{Definitions, IsTaken, IsNotYet}
+use Rattle.cl_rules.specs.Context.{CostTable, Known, known_at}
+use Rattle.cl_rules.specs.FormRules.{Defined, nothing_defined}
+use Rattle.cl_rules.specs.FormTyping.{FormsTyped}
+use Rattle.cl_rules.specs.Acceptance.{Accepted, Bounded, FirstBreakOf, NoneWrites, TypedAs, in_bounds, in_deployment, known_of}
+use Rattle.cl_rules.specs.Laws.{AcceptedIsClean, IsFirstAboveLimit, OneOrder}
+use Rattle.cl_contracts.specs.declared.checked.Checked.{Checked}
+use Rattle.cl_contracts.specs.declared.contract.Contract.{Contract as ContractOfCode}
+use Rattle.cl_contracts.specs.Seen.{IsIndexed, contract_seen, forms_of}
+use Rattle.cl_contracts.specs.Standings.{AllStand, AreStanding, StandsAfter, definitions_in_order}
+use Rattle.cl_contracts.specs.Known.{DefinedAsKept}
+use Rattle.cl_eval.specs.Deploys.{contract_with}
+use Rattle.cl_node_sound.specs.Sound.{HasParts}
+use Rattle.cl_node_sound.specs.Laws.{DeploymentsStep}
 use Rattle.cl_tx.specs.declared.entry.Common.{Common}
+use Rattle.cl_tx.specs.declared.entry.Entry.{Entry}
 use Rattle.cl_tx.specs.declared.entry.Entry.TheVariants.{Deploy}
+use Rattle.cl_tx.specs.declared.outcome.Bounds.{Bounds}
 use Rattle.cl_tx.specs.declared.outcome.EntryRefusal.TheVariants.{NameTaken, ContractRefused}
 use Rattle.cl_tx.specs.declared.outcome.Outcome.TheVariants.{Done, Aborted, Refused}
 use Rattle.cl_tx.specs.declared.outcome.Stop.{Stop}
 use Rattle.cl_tx.specs.declared.outcome.TxResult.{TxResult}
-use Rattle.cl_tx.specs.Laws.{IsNode}
-use Rattle.cl_tx.specs.Nodes.{NodeSeen, Stepped, Told, nothing_told, result_of, contract_of, frame_of, no_limit, moves_on, with_contract, deployment_ended, aborted}
-use Rattle.cl_tx.specs.Step.{run_deployment, contract_with, name_taken, source_refused, evaluated}
-use Rattle.cl_engine.specs.declared.contract.Contract.{Contract as ContractOfCode}
-use Rattle.cl_engine.specs.Deploying.{is_deployed, IsDone, IsStopped, Comes}
-use Rattle.cl_engine.specs.declared.deployment.Ran.{Ran}
-use Rattle.cl_engine.specs.Laws.{TakenTells}
-use Rattle.cl_engine.specs.Seen.{Seen, node_with, contract_seen, contracts_seen, seen}
-use Rattle.cl_engine.specs.Steps.{IsWaiting, StepsSoFar, by_the_rules, waits, Makes, not_yet as n0}
-use Rattle.cl_engine.specs.Told.{told_taken}
-use Rattle.cl_engine.proofs.Principals.{new_unknown, known_so}
+use Rattle.cl_tx.specs.Nodes.{NodeSeen, Stepped, Told, nothing_told, result_of, contract_of, person, frame_of, no_limit, deployment_ended}
+use Rattle.cl_tx.specs.Step.{DeploySteps, run_deployment, contract_with as contract_deployed, told_of, name_taken, source_refused, evaluated}
+use Rattle.cl_engine.specs.Seen.{Seen, node_with, seen}
+use Rattle.cl_engine.specs.Known.{AreKnown}
+use Rattle.cl_engine.specs.Sound.{Contracts, contracts_seen, IsSoundWith}
+use Rattle.cl_engine.specs.Deploying.{Constants, IsBounded, IsChecked, IsDone, IsFound, IsStopped, MakesWith, told_with}
+use Rattle.cl_engine.proofs.Knowing.{known_push, standing_push, types_told}
 
-module _ (known : List Known) (before : Seen) (common : Common) (name text : List ℕ) where
+-- a bound above the limit is the first break
+pub above_breaks : (known : List Known) (p : Principal) (table : CostTable) (source : List ℕ) (forms : List Form) (order : List ℕ) (defined : Defined) (dimension : Dimension) (rule : Rule) (span : Span) (names : List (List ℕ)) → TypedAs known p source forms order defined → NoneWrites known p forms →
+    rule ≡ BoundTooLarge dimension → names ≡ [] → IsFirstAboveLimit defined forms order table dimension span → FirstBreakOf known p table source rule span names
+above_breaks known p table source forms order defined d rule span names typed none r n (inl first) = in_bounds forms order defined d typed none first r n
+above_breaks known p table source forms order defined d rule span names typed none r n (inr above) = in_deployment forms order defined d typed none above.0 r above.1 n
+
+-- what the checker gives is a contract that stands for the source
+pub checked_so : (es : Contracts) (q p : Principal) (source : List ℕ) (c : Checked) → q ≡ p → c.principal ≡ q → c.source_length ≡ length source → IsIndexed c →
+    ((known : List Known) → AreStanding [] es known → (defined : Defined) × TypedAs known q source (forms_of c) c.order.items defined × NoneWrites known q (forms_of c) × AllStand (nothing_defined known q (length source)) (definitions_in_order c) defined) →
+    IsChecked es p source c
+checked_so es q p source c same principal size indexed found = record {
+  principal_is = principal ∙ same;
+  size = size;
+  indexed = indexed;
+  found = λ known knows.
+      let f = found known knows in (
+        f.0,
+        subst (λ r. TypedAs known r source (forms_of c) c.order.items f.0) same f.1,
+        subst (λ r. NoneWrites known r (forms_of c)) same f.2,
+        subst (λ (n : Principal × ℕ). AllStand (nothing_defined known n.0 n.1) (definitions_in_order c) f.0) (λ i. (sym principal i, sym size i)) f.3,
+      );
+}
+
+module _ (costs : List CostFn) (es : Contracts) (s : State) (height : ℕ) (common : Common) (name source : List ℕ) (known : List Known) (sound : IsSoundWith es (seen s (contracts_seen es) height costs) known) where
+  abbrev before : Seen
+  before = seen s (contracts_seen es) height costs
+
   abbrev node : NodeSeen
   node = node_with known before
 
-  abbrev principal : Principal
-  principal = contract_of common.sender name
+  abbrev p : Principal
+  p = contract_of common.sender name
 
-  abbrev left : List Form → Limited Contract
-  left forms = limited unit_function no_limit (deployment before.contracts (frame_of node common.sender principal) (contract_with principal text forms) before.state)
+  abbrev entry : Entry
+  entry = Deploy common name source
 
-  -- what came of it, in the frame of the code
-  pub came : (forms : List Form) (F : Frame) → F ≡ frame_of node common.sender principal → (ran : Ran) (after : State) →
-      Comes (limited unit_function no_limit (deployment before.contracts F (contract_made F.contract forms (length text) []) before.state)) (contract_made F.contract forms (length text) []) ran before.state after →
-      (o : Ran) → ran ≡ o → Comes (left forms) (contract_with principal text forms) o before.state after
-  came forms F is ran after comes o so =
-      subst (λ r. Comes (left forms) (contract_with principal text forms) r before.state after) so
-      (subst (λ G. Comes (limited unit_function no_limit (deployment before.contracts G (contract_made G.contract forms (length text) []) before.state)) (contract_made G.contract forms (length text) []) ran before.state after) is comes)
+  -- nothing changes
+  stays : (r : TxResult) → DeploySteps (function_of costs) node common p source (record { node = node; result = r }) → MakesWith known before entry r es before
+  stays r steps = record { now = known; trees = sound.trees; forms = sound.forms; steps = steps }
 
-  -- the deployment of a taken text
-  pub taken_steps : TakenIsAccepted → OneOrder → TakenOrNot → TakenTells → (forms : List Form) (D : Definitions) → IsTaken text forms D → known_at principal known ≡ None →
-      (s : Known → Stepped) → ((K : Known) → deployment_ended node (told_taken D) K (left forms) ≡ Some (s K)) → (K : Known) × StepsSoFar node (Deploy common name text) (s K)
-  unfolding run_deployment
-  taken_steps accepts one either tells forms D taken new s ended =
-      let accepted = (accepts known principal text forms D taken).accepted in
-      let K = known_of principal (length text) accepted.defined in (
-        K,
-        by_the_rules (λ waiting. either text forms D taken waiting.1)
-            (evaluated new accepted
-            (ap (λ told. deployment_ended node told K (left accepted.forms)) (tells known principal text forms D taken accepted)
-            ∙ ap (λ fs. deployment_ended node (told_taken D) K (left fs)) (one text accepted.forms forms accepted.order taken.order accepted.typed.is_ordered taken.ordered).0
-            ∙ ended K)),
-      )
+  -- a contract of this name is deployed
+  pub name_is_taken : (k : Known) → known_at p known ≡ Some k → (r : TxResult) → r ≡ result_of nothing_told (Refused NameTaken) None [] → MakesWith known before entry r es before
+  name_is_taken k there r is = stays r (name_taken k there (λ i. record { node = node; result = is i }))
 
-  -- a name that is there
-  pub taken_name : (k : Known) → known_at principal known ≡ Some k → (r : TxResult) → r ≡ result_of nothing_told (Refused NameTaken) None [] →
-      Makes known before (Deploy common name text) r before
-  taken_name k there r is = record {
-    now = known;
-    steps = by_the_rules (λ waiting. some_none (sym there ∙ waiting.0)) (name_taken k there (λ i. record { node = node; result = is i }));
-  }
-    where
-      some_none : Some k ≡ None → ⊥
-      some_none e = cc
+  -- the source breaks a rule
+  pub source_is_refused : (rule : Rule) (span : Span) (names : List (List ℕ)) → known_at p known ≡ None → FirstBreakOf known p (function_of costs) source rule span names →
+      (r : TxResult) → r ≡ result_of nothing_told (Refused (ContractRefused (record { rule = rule; span = span; names = names }))) None [] → MakesWith known before entry r es before
+  source_is_refused rule span names new first r is = stays r (source_refused rule span names new first (λ i. record { node = node; result = is i }))
 
-  -- a source that is refused
-  pub refused_source : OrderedIsClean → (rule : Rule) (span : Span) (names : List (List ℕ)) → IsRefusedBy text rule span names → known_at principal known ≡ None →
-      (r : TxResult) → r ≡ result_of nothing_told (Refused (ContractRefused (record { rule = rule; span = span; names = names }))) None [] →
-      Makes known before (Deploy common name text) r before
-  refused_source clean rule span names (broken first) new r is = record {
-    now = known;
-    steps = by_the_rules (λ waiting. clean text waiting.1.forms waiting.1.order rule span names waiting.1.ordered first)
-        (source_refused rule span names new (unordered first) (λ i. record { node = node; result = is i }));
-  }
-  refused_source clean rule span names (not_yet waiting n s m) new r is = record {
-    now = known;
-    steps = waits (new, waiting) (λ i. record {
-      node = node;
-      result = (is ∙ (λ j. result_of nothing_told (Refused (ContractRefused (record { rule = n j; span = s j; names = m j }))) None [])) i;
-    });
-  }
+  module _ (c : Checked) (checked : IsChecked es p source c) where
+    abbrev found : (defined : Defined) × TypedAs known p source (forms_of c) c.order.items defined × NoneWrites known p (forms_of c) × StandsAfter known c defined
+    found = checked.found known sound.trees
 
--- what holds of a deployment of a taken text under a new name
-pub record IsTakenUp (known : List Known) (s : State) (contracts : List (Principal × ContractOfCode)) (height : ℕ) (common : Common) (name text : List ℕ) (forms : List Form) (D : Definitions) : Type 0 where
-  pub accepts : TakenIsAccepted
-  pub one : OneOrder
-  pub either : TakenOrNot
-  pub tells : TakenTells
-  pub taken : IsTaken text forms D
-  pub new : is_deployed (contract_of common.sender name) contracts ≡ false
-  pub is_node : IsNode unit_function (node_with known (seen s contracts height))
+    -- a bound is above the limit
+    pub bound_is_refused : (dimension : Dimension) (rule : Rule) (span : Span) (names : List (List ℕ)) → known_at p known ≡ None → rule ≡ BoundTooLarge dimension → names ≡ [] → IsFirstAboveLimit found.0 (forms_of c) c.order.items (function_of costs) dimension span →
+        (r : TxResult) → r ≡ result_of nothing_told (Refused (ContractRefused (record { rule = rule; span = span; names = names }))) None [] → MakesWith known before entry r es before
+    bound_is_refused dimension rule span names new rule_is no_names above r is =
+        source_is_refused rule span names new (above_breaks known p (function_of costs) source (forms_of c) c.order.items found.0 dimension rule span names found.1 found.2 rule_is no_names above) r is
 
-module _ (known : List Known) (s rested : State) (contracts after : List (Principal × ContractOfCode)) (height : ℕ) (common : Common) (name text : List ℕ) (forms : List Form) (D : Definitions)
-    (up : IsTakenUp known s contracts height common name text forms D) (told : Told) (told_is : told ≡ told_taken D) (cost : Cost5) (r : TxResult) where
-  abbrev before : Seen
-  before = seen s contracts height
+    module _ (bounds : Bounds) (bounded : IsBounded (function_of costs) es c bounds) where
+      abbrev within : Bounded found.0 (forms_of c) (function_of costs) × ((told_of (function_of costs) found.0 (forms_of c)).bounds ≡ Some bounds)
+      within = bounded.found known sound.trees found.0 found.3
 
-  unknown : known_at (contract_of common.sender name) known ≡ None
-  unknown = new_unknown (contract_of common.sender name) contracts known up.new up.is_node.same
+      abbrev accepted : Accepted known p (function_of costs) source
+      accepted = record { forms = forms_of c; order = c.order.items; defined = found.0; typed = found.1; none_writes = found.2; bounded = within.0 }
 
-  steps_so : (z : Known → Stepped) → ((K : Known) → deployment_ended (node known before common name text) (told_taken D) K (left known before common name text forms) ≡ Some (z K)) →
-      (K : Known) × StepsSoFar (node_with known before) (Deploy common name text) (z K)
-  steps_so z ended = taken_steps known before common name text up.accepts up.one up.either up.tells forms D up.taken unknown z ended
+      abbrev told : Told
+      told = told_of (function_of costs) found.0 (forms_of c)
 
-  pub makes_stopped : (why : Stop) → IsStopped (left known before common name text forms) why cost s rested → r ≡ result_of told (Aborted why) (Some cost) [] → after ≡ contracts →
-      Makes known before (Deploy common name text) r (seen rested after height)
-  makes_stopped why stopped r_is same =
-      let so : result_of (told_taken D) (Aborted why) (Some cost) [] ≡ r = (λ j. result_of (sym told_is j) (Aborted why) (Some cost) []) ∙ sym r_is in
-      let z : Known → Stepped = λ K. record { node = node_with known (seen rested after height); result = r } in
-      let m = steps_so z (λ K. stopped.ended (node known before common name text) (told_taken D) K
-      ∙ (λ i. Some (record { node = node_with known (seen (sym stopped.undone i) (sym same i) height); result = so i }))) in
-      record { now = known; steps = m.1 }
+      abbrev one : Known
+      one = known_of p (length source) found.0
 
-  pub makes_done : IsDone (left known before common name text forms) (contract_with (contract_of common.sender name) text forms) cost s rested → r ≡ result_of told Done (Some cost) [] →
-      contracts_seen after ≡ contracts_seen contracts ++ contract_with (contract_of common.sender name) text forms ∷ [] →
-      Makes known before (Deploy common name text) r (seen rested after height)
-  makes_done done r_is grown =
-      let so : result_of (told_taken D) Done (Some done.purse.spent) done.state.events ≡ r =
-      (λ j. result_of (sym told_is j) Done (Some (done.spent j)) ((done.events ∙ up.is_node.no_events) j)) ∙ sym r_is in
-      let z : Known → Stepped = λ K. record { node = node_with (known ++ K ∷ []) (seen rested after height); result = r } in
-      let m = steps_so z (λ K. ap (deployment_ended (node known before common name text) (told_taken D) K) done.gave
-      ∙ (λ i. Some (record { node = record { state = sym done.rests i; contracts = sym grown i; known = known ++ K ∷ []; height = height }; result = so i }))) in
-      record { now = known ++ m.0 ∷ []; steps = m.1 }
+      -- what the limit leaves of the deployment
+      abbrev left : Limited Contract
+      left = limited (function_of costs) no_limit (deployment (contracts_seen es) (frame_of node common.sender p) (contract_deployed p source (forms_of c)) s)
 
--- one more contract
-pub grown_by : (contracts after : List (Principal × ContractOfCode)) (p : Principal) (c : ContractOfCode) (contract : Contract) → after ≡ contracts ++ (p, c) ∷ [] → contract_seen (p, c) ≡ contract →
-    contracts_seen after ≡ contracts_seen contracts ++ contract ∷ []
-grown_by contracts after p c contract grown is = ap contracts_seen grown ∙ map_push contract_seen contracts (p, c) ∙ ap (λ d. contracts_seen contracts ++ d ∷ []) is
+      abbrev left_in : Frame → Limited Contract
+      left_in F = limited (function_of costs) no_limit (deployment (contracts_seen es) F (contract_with c []) s)
+
+      abbrev frame : Principal → Frame
+      frame q = record { contract = q; sender = person common.sender; caller = person common.sender; height = height }
+
+      pub same_left : (F : Frame) → F ≡ frame c.principal → left_in F ≡ left
+      same_left F is = λ i. limited (function_of costs) no_limit (deployment (contracts_seen es) ((is ∙ ap frame checked.principal_is) i) (record { principal = checked.principal_is i; forms = forms_of c; source_length = checked.size i; constants = [] }) s)
+
+      -- what is told is what the bounds and the typed functions tell
+      pub same_told : DefinedAsKept → told ≡ told_with bounds c.definitions.items
+      same_told law = λ i. record {
+        bounds = within.1 i;
+        types = types_told law known c found.0 checked.indexed found.3 i;
+      }
+
+      -- something comes of it: it is neither wrong, nor does it need more depth
+      pub is_found : DeploymentsStep → AcceptedIsClean → OneOrder → HasParts entry → known_at p known ≡ None → IsFound left
+      unfolding run_deployment
+      is_found step clean one_order parts new = by (step (function_of costs) node common name source parts sound.sound new accepted)
+        where
+          none_known : (k : Known) → known_at p known ≡ Some k → ⊥
+          none_known k there = no_some (sym new ∙ there)
+            where
+              no_some : None ≡ Some k → ⊥
+              no_some e = cc
+
+          none_ended : (t : Stepped) → None ≡ Some t → ⊥
+          none_ended t e = cc
+
+          by_steps : (t : Stepped) → DeploySteps (function_of costs) node common p source t → IsFound left
+          by_steps t (name_taken k there is) = absurd (none_known k there)
+          by_steps t (source_refused rule span names n first is) = absurd (clean known p (function_of costs) source rule span names accepted first)
+          by_steps t (evaluated n other run) = record {
+            found = λ purse lost.
+                let same : other.forms ≡ forms_of c = (one_order source other.forms (forms_of c) other.order c.order.items other.typed.is_ordered found.1.is_ordered).0 in
+                let gone : limited (function_of costs) no_limit (deployment (contracts_seen es) (frame_of node common.sender p) (contract_deployed p source other.forms) s) ≡ Lost purse =
+                ap (λ fs. limited (function_of costs) no_limit (deployment (contracts_seen es) (frame_of node common.sender p) (contract_deployed p source fs) s)) same ∙ lost in
+                none_ended t (sym (ap (deployment_ended node (told_of (function_of costs) other.defined other.forms) (known_of p (length source) other.defined)) gone) ∙ run);
+          }
+
+          by : (t : Stepped) × DeploySteps (function_of costs) node common p source t → IsFound left
+          by found_step = by_steps found_step.0 found_step.1
+
+      steps_so : (z : Stepped) → known_at p known ≡ None → deployment_ended node told one left ≡ Some z → DeploySteps (function_of costs) node common p source z
+      unfolding run_deployment
+      steps_so z new ended = evaluated new accepted ended
+
+      -- it stops
+      pub makes_stopped : DefinedAsKept → known_at p known ≡ None → (why : Stop) (cost : Cost5) (after : State) (r : TxResult) → IsStopped left why cost s after →
+          r ≡ result_of (told_with bounds c.definitions.items) (Aborted why) (Some cost) [] → MakesWith known before entry r es (seen after (contracts_seen es) height costs)
+      makes_stopped law new why cost after r stopped is = record {
+        now = known;
+        trees = sound.trees;
+        forms = sound.forms;
+        steps = steps_so (record { node = node_with known (seen after (contracts_seen es) height costs); result = r }) new
+            (stopped.ended node told one
+            ∙ (λ i. Some (record {
+              node = node_with known (seen (sym stopped.undone i) (contracts_seen es) height costs);
+              result = (ap (λ t. result_of t (Aborted why) (Some cost) []) (same_told law) ∙ sym is) i;
+            })));
+      }
+
+      abbrev put : Constants → Principal × ContractOfCode
+      put constants = (c.principal, record { checked = c; constants = constants })
+
+      grown : (constants : Constants) → contracts_seen (es ++ put constants ∷ []) ≡ contracts_seen es ++ contract_with c constants.entries ∷ []
+      grown constants = map_push contract_seen es (put constants)
+
+      same_known : known_of c.principal c.source_length found.0 ≡ one
+      same_known = λ i. known_of (checked.principal_is i) (checked.size i) found.0
+
+      -- it is done
+      pub makes_done : DefinedAsKept → known_at p known ≡ None → (cost : Cost5) (constants : Constants) (events : List Event) (after : State) (r : TxResult) → IsDone left c cost constants.entries events after →
+          r ≡ result_of (told_with bounds c.definitions.items) Done (Some cost) events →
+          MakesWith known before entry r (es ++ put constants ∷ []) (seen after (contracts_seen (es ++ put constants ∷ [])) height costs)
+      makes_done law new cost constants events after r done is = record {
+        now = known ++ one ∷ [];
+        trees = subst (λ k. AreStanding [] (es ++ put constants ∷ []) (known ++ k ∷ [])) same_known
+            (standing_push [] es known (put constants) found.0 sound.trees found.3);
+        forms = subst (λ cs. AreKnown [] cs (known ++ one ∷ [])) (sym (grown constants))
+            (subst (λ k. AreKnown [] (contracts_seen es ++ contract_with c constants.entries ∷ []) (known ++ k ∷ [])) same_known
+            (known_push [] (contracts_seen es) known (contract_with c constants.entries) (forms_at (forms_of c) c.order.items) found.0 sound.forms
+            (ap (forms_by (forms_of c)) found.1.is_ordered.order_is)
+            (subst (λ (n : Principal × ℕ). FormsTyped (nothing_defined known n.0 n.1) (forms_at (forms_of c) c.order.items) found.0) (λ i. (sym checked.principal_is i, sym checked.size i)) found.1.are_typed)));
+        steps = steps_so (record { node = node_with (known ++ one ∷ []) (seen after (contracts_seen (es ++ put constants ∷ [])) height costs); result = r }) new
+            (ap (deployment_ended node told one) done.gave
+            ∙ (λ i. Some (record {
+              node = record { state = sym done.rests i; contracts = sym (grown constants) i; known = known ++ one ∷ []; height = height };
+              result = ((λ j. result_of (same_told law j) Done (Some (done.spent j)) (sym done.told j)) ∙ sym is) i;
+            })));
+      }

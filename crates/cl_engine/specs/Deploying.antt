@@ -1,7 +1,9 @@
--- What comes of the deployment of a taken text.
-use Rattle.std.specs.Prelude.{◌≡◌, ℕ, Bool, List, [], ◌∷◌, Some, Result, Ok, Err}
-use Rattle.std.specs.List.{list_any}
-use Rattle.std.proofs.Common.{Vec, Global}
+-- What comes of the deployment of a source.
+use Rattle.std.specs.Prelude.{◌≡◌, ℕ, List, [], ◌∷◌, ◌++◌, length, filter_map, Option, Some, None, Result, Ok, Err}
+use Rattle.std.specs.declared.hash.FoldHasher.{FoldHasher}
+use Rattle.std.specs.declared.hash.BuildHasherDefault.{BuildHasherDefault}
+use Rattle.indexmap.specs.IndexMap.{IndexMap}
+use Rattle.cl_types.specs.Types.{PlainType}
 use Rattle.cl_types.specs.declared.fault.Fault.{Fault}
 use Rattle.cl_types.specs.declared.fault.Fault.TheVariants.{Refused, NoMemory as OutOfMemory}
 use Rattle.cl_c32.specs.declared.principal.Principal.{Principal}
@@ -9,33 +11,69 @@ use Rattle.cl_shapes.specs.declared.cost.Cost5.{Cost5}
 use Rattle.cl_shapes.specs.Limits.{Purse}
 use Rattle.cl_values.specs.Tree.{Tree as Val}
 use Rattle.cl_events.specs.State.{State, at_rest}
+use Rattle.cl_events.specs.declared.event.Event.{Event}
 use Rattle.cl_state.specs.Stack.{Stack}
-use Rattle.cl_meaning.specs.Deployed.{Contract}
-use Rattle.cl_meaning.specs.Limits.{Limited, Gave}
-use Rattle.cl_int_eval.specs.declared.abort.Abort.{Abort}
-use Rattle.cl_rules.specs.Context.{Known, same_principal}
+use Rattle.cl_meaning.specs.Limits.{Costs, Limited, Gave, Lost}
+use Rattle.cl_meaning.specs.Deployed.{Contract, contract_at}
+use Rattle.cl_code.specs.declared.definition.Definition.{Definition}
+use Rattle.cl_code.specs.declared.definition.Definition.TheVariants.{Function}
+use Rattle.cl_rules.specs.Context.{Known}
+use Rattle.cl_rules.specs.FormRules.{Defined}
+use Rattle.cl_rules.specs.Acceptance.{Bounded, NoneWrites, TypedAs}
+use Rattle.cl_contracts.specs.declared.checked.Checked.{Checked}
+use Rattle.cl_contracts.specs.Seen.{IsIndexed, contract_under, forms_of}
+use Rattle.cl_contracts.specs.Standings.{AreStanding, StandsAfter}
+use Rattle.cl_eval.specs.declared.abort.Abort.{Abort}
+use Rattle.cl_eval.specs.Deploys.{contract_with}
+use Rattle.cl_tx.specs.declared.entry.Entry.{Entry}
+use Rattle.cl_tx.specs.declared.outcome.Bounds.{Bounds}
 use Rattle.cl_tx.specs.declared.outcome.Stop.{Stop}
+use Rattle.cl_tx.specs.declared.outcome.TxResult.{TxResult}
 use Rattle.cl_tx.specs.Nodes.{NodeSeen, Told, deployment_ended, aborted}
-use Rattle.cl_engine.specs.Calls.{stop_by, cost_by, IsStuck}
-use Rattle.cl_engine.specs.declared.contract.Contract.{Contract as ContractOfCode}
+use Rattle.cl_tx.specs.Step.{Steps, told_of}
+use Rattle.cl_engine.specs.Seen.{Seen, costs_of, node_with}
+use Rattle.cl_engine.specs.Known.{AreKnown}
+use Rattle.cl_engine.specs.Sound.{Contracts, contracts_seen, IsSoundWith}
+use Rattle.cl_engine.specs.Calling.{IsStuck, cost_by, stop_by}
 use Rattle.cl_engine.specs.declared.told.Told.{Told as ToldOfCode}
 use Rattle.cl_engine.specs.declared.deployment.Ran.{Ran}
 use Rattle.cl_engine.specs.declared.deployment.Ran.TheVariants.{Done, Stopped}
 
--- whether a contract of this principal is among the deployed ones
-abbrev pub is_deployed : Principal → List (Principal × ContractOfCode) → Bool
-is_deployed p contracts = list_any (λ c. same_principal c.0 p) contracts
+-- ---- accepted sources
 
-abbrev pub told_seen : ToldOfCode → Told
-told_seen told = record { bounds = Some told.bounds; types = told.types }
+-- no contract of this principal is deployed
+pub record IsNew (contracts : Contracts) (principal : Principal) : Type 0 where
+  pub none : contract_under principal contracts ≡ None
+  pub none_seen : contract_at principal (contracts_seen contracts) ≡ None
 
--- the contract is given at this cost; the state then, at rest, is the one after, and nothing was told
-pub record IsDone (l : Limited Contract) (c : Contract) (cost : Cost5) (before after : State) : Type 0 where
+-- a contract of this principal stands for a source that breaks no rule before the bounds
+pub record IsChecked (contracts : Contracts) (principal : Principal) (source : List ℕ) (c : Checked) : Type 0 where
+  pub principal_is : c.principal ≡ principal
+  pub size : c.source_length ≡ length source
+  pub indexed : IsIndexed c
+  pub found : (known : List Known) → AreStanding [] contracts known → (defined : Defined) × TypedAs known principal source (forms_of c) c.order.items defined × NoneWrites known principal (forms_of c) × StandsAfter known c defined
+
+-- and its bounds are within the limit, and these
+pub record IsBounded (costs : Costs) (contracts : Contracts) (c : Checked) (bounds : Bounds) : Type 0 where
+  pub found : (known : List Known) → AreStanding [] contracts known → (defined : Defined) → StandsAfter known c defined → Bounded defined (forms_of c) costs × ((told_of costs defined (forms_of c)).bounds ≡ Some bounds)
+
+-- ---- evaluated ones
+
+-- the constants with their values, and the hash by which they are found
+abbrev pub Constants : Type 0
+Constants = IndexMap (List ℕ) Val (BuildHasherDefault FoldHasher)
+
+-- the evaluation is neither wrong, nor does it need more depth than there is
+pub record IsFound (l : Limited Contract) : Type 0 where
+  pub found : (purse : Purse) → l ≡ Lost purse → ⊥
+
+-- the contract is given with these constants, at this cost and with these events; the state then, at rest, is the one after
+pub record IsDone (l : Limited Contract) (c : Checked) (cost : Cost5) (constants : List (List ℕ × Val)) (events : List Event) (after : State) : Type 0 where
   pub state : State
   pub purse : Purse
-  pub gave : l ≡ Gave c state purse
+  pub gave : l ≡ Gave (contract_with c constants) state purse
   pub spent : purse.spent ≡ cost
-  pub events : state.events ≡ before.events
+  pub told : events ≡ state.events
   pub rests : after ≡ at_rest state
 
 -- it stops so, at this cost, whatever is told; the state is as before
@@ -44,19 +82,48 @@ pub record IsStopped (l : Limited Contract) (why : Stop) (cost : Cost5) (before 
   pub undone : after ≡ before
 
 -- what a limit leaves of the deployment of a contract, by how it ran
-abbrev pub Comes : Limited Contract → Contract → Ran → State → State → Type 0
-Comes l c (Done cost) before after = IsDone l c cost before after
-Comes l c (Stopped why cost) before after = IsStopped l why cost before after
+abbrev pub Runs : Limited Contract → Checked → Ran → State → State → Type 0
+Runs l c (Done cost constants events) before after = IsDone l c cost constants.entries events.items after
+Runs l c (Stopped why cost) before after = IsStopped l why cost before after
 
--- how an evaluation of a taken text may end; it is never stuck
-abbrev pub MayEnd : Result (Vec (List ℕ × Val) Global) (Fault Abort) → Type 0
+-- how an evaluation may end; it is never stuck
+abbrev pub MayEnd : Result Constants (Fault Abort) → Type 0
 MayEnd (Ok constants) = Unit {0}
 MayEnd (Err (Refused abort)) = IsStuck abort → ⊥
 MayEnd (Err OutOfMemory) = Unit {0}
 
 -- an evaluation that ended so on a layer, where so much is spent: it is done, and the layer's state is the one after; or it
 -- stops, and the one below is
-abbrev pub EndsAs : Result (Vec (List ℕ × Val) Global) (Fault Abort) → Cost5 → Ran → Stack → State → Type 0
-EndsAs (Ok constants) spent (Done cost) layer after = (cost ≡ spent) × (after ≡ at_rest layer.top)
+abbrev pub EndsAs : Result Constants (Fault Abort) → Cost5 → Ran → Stack → State → Type 0
+EndsAs (Ok given) spent (Done cost constants events) layer after = (constants ≡ given) × (cost ≡ spent) × (events.items ≡ layer.top.events) × (after ≡ at_rest layer.top)
 EndsAs (Err (Refused abort)) spent (Stopped why cost) layer after = (stop_by abort ≡ Some why) × (cost ≡ cost_by abort spent) × (after ∷ [] ≡ layer.below)
 EndsAs ended spent ran layer after = ⊥
+
+-- ---- steps
+
+abbrev pub told_seen : ToldOfCode → Told
+told_seen told = record { bounds = Some told.bounds; types = told.types }
+
+-- the return type of a definition that is a function
+abbrev pub type_returned : Definition → Option PlainType
+type_returned (Function f) = Some f.returns
+type_returned d = None
+
+-- types, and behind them one more if there is one
+abbrev pub with_type : List PlainType → Option PlainType → List PlainType
+with_type types None = types
+with_type types (Some t) = types ++ t ∷ []
+
+-- what is told of a contract with these bounds
+abbrev pub told_with : Bounds → List Definition → Told
+told_with bounds definitions = record { bounds = Some bounds; types = filter_map type_returned definitions }
+
+-- what an entry makes of a sound node: callers know something of the contracts after it, by their trees and by their forms
+pub record MakesWith (known : List Known) (before : Seen) (entry : Entry) (result : TxResult) (contracts : Contracts) (after : Seen) : Type 0 where
+  pub now : List Known
+  pub trees : AreStanding [] contracts now
+  pub forms : AreKnown [] after.contracts now
+  pub steps : Steps (costs_of before) (node_with known before) entry (record { node = node_with now after; result = result })
+
+abbrev pub MakesSound : Contracts → Seen → Entry → TxResult → Contracts → Seen → Type 0
+MakesSound contracts before entry result contracts_after after = (known : List Known) → IsSoundWith contracts before known → MakesWith known before entry result contracts_after after

@@ -1,8 +1,8 @@
 pub mod Seen
 pub mod Codes
+pub mod Known
 pub mod Steps
-pub mod Sound
-pub mod Told
-pub mod Calls
-pub mod Deploying
 pub mod Laws
+pub mod Sound
+pub mod Calling
+pub mod Deploying

@@ -1,44 +1,46 @@
 //! The evaluation of deployments.
-ghost use Rattle.std.specs.Prelude.{◌≡◌, ◌≤◌, ◌∷◌, [], length, map, IfOk, OnOk, OnErr};
-ghost use Rattle.cl_costs.specs.Tables.{unit_table};
-ghost use Rattle.cl_shapes.specs.Names.{unit_function};
-ghost use Rattle.cl_int_code.specs.Definitions.{form_defined};
-ghost use Rattle.cl_events.specs.State.{at_rest};
-ghost use Rattle.cl_meaning.specs.Deployed.{Deployed};
+ghost use Rattle.std.specs.Prelude.{◌≡◌, ◌∷◌, [], Ok, length, IfOk, OnErr};
+ghost use Rattle.cl_costs.specs.Tables.{function_of};
+ghost use Rattle.cl_forms.specs.Order.{ordered};
 ghost use Rattle.cl_meaning.specs.Deploying.{deployment};
 ghost use Rattle.cl_meaning.specs.Limits.{limited};
-ghost use Rattle.cl_int_eval.specs.Seen.{frame_seen};
-ghost use Rattle.cl_int_eval.specs.Deploys.{contract_of};
-ghost use Rattle.cl_int_check.specs.Taken.{IsTaken};
-ghost use Rattle.cl_int_check.specs.Room.{definitions_of};
+ghost use Rattle.cl_contracts.specs.Seen.{AreIndexed, IsIndexed, deployed_seen, forms_of};
+ghost use Rattle.cl_eval.specs.Homes.{frame_seen};
+ghost use Rattle.cl_eval.specs.Deploys.{HasNoTokens, contract_with};
 ghost use Rattle.cl_tx.specs.Nodes.{no_limit};
-ghost use Rattle.cl_engine.specs.Deploying.{MayEnd, EndsAs, Comes};
+ghost use Rattle.cl_engine.specs.Deploying.{MayEnd, EndsAs, IsFound, Runs};
 
 use crate::layer::keep;
 use crate::result::{cost_of, stop_of, unlimited};
+use cl_contracts::{Checked, Deployed};
 use cl_costs::CostTable;
-use cl_int_check::{Checked, taken_texts_are_accepted};
-use cl_int_eval::{Abort, Frame, run_top};
-use cl_int_sound::{deployments_are_sound, limits_leave_sound_answers};
+use cl_eval::{Abort, Frame, run_top};
+use cl_events::Event;
 use cl_shapes::Cost5;
 use cl_state::World;
 use cl_tx::Stop;
 use cl_types::{Fault, Name, NoMemory};
 use cl_values::Val;
+use indexmap::IndexMap;
 use std::alloc::Global;
 
-/// How the deployment of a taken text ran, and at what cost.
-#[derive(Clone, Copy, Debug)]
+/// How the deployment of an accepted contract ran, and at what cost.
+#[derive(Drop)]
 pub(crate) enum Ran {
-    Done(Cost5),
+    Done {
+        cost: Cost5,
+        constants: IndexMap<Name, Val>,
+        events: Vec<Event>,
+    },
     Stopped(Stop, Cost5),
 }
 
 /// Ends a deployment that was evaluated on a layer of its own and has spent so much. The layer becomes the base where the
 /// deployment is done, and is dropped where it stops.
 fn finish(
+    alloc: Global,
     world: &mut World,
-    ended: Result<Vec<(Name, Val)>, Fault<Abort>>,
+    ended: Result<IndexMap<Name, Val>, Fault<Abort>>,
     spent: Cost5,
 ) -> Result<Ran, NoMemory>
     requires fine { MayEnd ended }
@@ -48,9 +50,13 @@ fn finish(
     ensures refused { OnErr result (world.new.stack.top ∷ [] ≡ world.old.stack.below) }
 {
     match ended {
-        Ok(_constants) => {
-            keep(world)?;
-            Ok(Ran::Done(spent))
+        Ok(constants) => {
+            let events = keep(alloc, world)?;
+            Ok(Ran::Done {
+                cost: spent,
+                constants,
+                events,
+            })
         }
         Err(Fault::Refused(abort)) => {
             world.drop_layer();
@@ -63,39 +69,29 @@ fn finish(
     }
 }
 
-/// Evaluates the deployment of a taken text as the frame's contract.
+/// Evaluates the deployment of an accepted contract, on a layer of its own.
 pub(crate) fn run(
     alloc: Global,
     world: &mut World,
-    source: &[u8],
+    deployed: &Deployed,
     checked: &Checked,
     frame: &Frame,
     costs: &CostTable,
 ) -> Result<Ran, NoMemory>
     requires base { world.old.stack.below ≡ [] }
-    requires unit { costs.now ≡ unit_table }
-    requires size { length source.now ≤ 1048576 }
-    requires taken { IsTaken source.now (map form_defined checked.now.definitions.items) (definitions_of checked.now.scope) }
-    ensures comes { IfOk result (λ ran. (W : Deployed) →
-        Comes (limited unit_function no_limit (deployment W (frame_seen frame.now) (contract_of frame.now.contract (map form_defined checked.now.definitions.items) (length source.now) []) world.old.stack.top))
-        (contract_of frame.now.contract (map form_defined checked.now.definitions.items) (length source.now) []) ran world.old.stack.top world.new.stack.top) }
+    requires indexed { AreIndexed deployed.now }
+    requires own { IsIndexed checked.now }
+    requires ordered { ordered (forms_of checked.now) ≡ Ok checked.now.order.items }
+    requires home { checked.now.principal ≡ frame.now.contract }
+    requires tokens { HasNoTokens frame.now.contract world.old.stack.top }
+    requires found { IsFound (limited (function_of costs.now) no_limit (deployment (deployed_seen deployed.now) (frame_seen frame.now) (contract_with checked.now []) world.old.stack.top)) }
+    ensures runs { IfOk result (λ ran. Runs (limited (function_of costs.now) no_limit (deployment (deployed_seen deployed.now) (frame_seen frame.now) (contract_with checked.now []) world.old.stack.top))
+        checked.now ran world.old.stack.top world.new.stack.top) }
     ensures base { world.new.stack.below ≡ [] }
     ensures refused { OnErr result (world.new.stack.top ≡ world.old.stack.top) }
 {
-    taken_texts_are_accepted();
-    deployments_are_sound();
-    limits_leave_sound_answers();
-    CostTable::functions_by_name();
     world.push_layer()?;
     let mut meter = unlimited();
-    let ended = run_top(
-        alloc,
-        world,
-        &checked.definitions,
-        source.len() as u32,
-        frame,
-        costs,
-        &mut meter,
-    );
-    finish(world, ended, meter.spent())
+    let ended = run_top(alloc, world, deployed, checked, frame, costs, &mut meter);
+    finish(alloc, world, ended, meter.spent())
 }

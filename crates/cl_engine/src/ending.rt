@@ -4,15 +4,14 @@ ghost use Rattle.cl_shapes.specs.Limits.{Purse};
 ghost use Rattle.cl_values.specs.Tree.{Tree, ResponseV};
 ghost use Rattle.cl_events.specs.State.{State, at_rest};
 ghost use Rattle.cl_meaning.specs.Limits.{Limited};
-ghost use Rattle.cl_int_eval.specs.Aborts.{Answers};
+ghost use Rattle.cl_eval.specs.Aborts.{Answers};
 ghost use Rattle.cl_tx.specs.declared.outcome.Stop.{Stop};
-ghost use Rattle.cl_tx.specs.Laws.{IsKept};
 ghost use Rattle.cl_tx.specs.Nodes.{NodeSeen, nothing_told, result_of, answered, call_ended};
-ghost use Rattle.cl_engine.specs.Calls.{EndsWell, MayAnswer, IsResponse, IsStuck, stop_by, cost_by};
+ghost use Rattle.cl_engine.specs.Calling.{AbortsCall, MayAnswer, IsResponse, stop_by, cost_by};
 
 use crate::layer;
 use crate::result::{cost_of, result_with, stop_of};
-use cl_int_eval::Abort;
+use cl_eval::Abort;
 use cl_shapes::Cost5;
 use cl_state::World;
 use cl_tx::{Outcome, TxResult};
@@ -34,7 +33,7 @@ fn opened(response: Val) -> (bool, Val)
     }
 }
 
-/// Makes the layer the base.
+/// Makes the layer the base, whose events are handed out.
 fn keep(
     alloc: Global,
     world: &mut World,
@@ -42,13 +41,13 @@ fn keep(
     spent: Cost5,
 ) -> Result<TxResult, NoMemory>
     requires { length world.old.stack.below ≡ 1 }
-    ensures told { IfOk result (λ r. r ≡ result_of nothing_told outcome (Some spent) []) }
+    ensures told { IfOk result (λ r. r ≡ result_of nothing_told outcome (Some spent) world.old.stack.top.events) }
     ensures kept { IfOk result (λ r. world.new.stack.top ≡ at_rest world.old.stack.top) }
     ensures base { world.new.stack.below ≡ [] }
     ensures refused { OnErr result (world.new.stack.top ∷ [] ≡ world.old.stack.below) }
 {
-    layer::keep(world)?;
-    Ok(result_with(alloc, outcome, Some(spent)))
+    let events = layer::keep(alloc, world)?;
+    Ok(result_with(alloc, outcome, Some(spent), events))
 }
 
 /// Takes the layer off.
@@ -59,7 +58,7 @@ fn undo(alloc: Global, world: &mut World, outcome: Outcome, spent: Cost5) -> TxR
     ensures undone { world.new.stack.top ∷ [] ≡ world.old.stack.below }
 {
     world.drop_layer();
-    result_with(alloc, outcome, Some(spent))
+    result_with(alloc, outcome, Some(spent), Vec::new(alloc))
 }
 
 /// Ends a call that gave a value: a public function's err undoes what was done.
@@ -72,10 +71,9 @@ fn answer_with(
 ) -> Result<TxResult, NoMemory>
     requires response { access ≡ Access.Public → IsResponse value }
     requires layer { length world.old.stack.below ≡ 1 }
-    ensures ended { IfOk result (λ r. (node : NodeSeen) → node.state ∷ [] ≡ world.old.stack.below → world.old.stack.top.events ≡ [] →
+    ensures ended { IfOk result (λ r. (node : NodeSeen) → node.state ∷ [] ≡ world.old.stack.below →
         answered access value node spent world.old.stack.top ≡ Some (record { node = record node { state = world.new.stack.top }; result = r })) }
     ensures base { world.new.stack.below ≡ [] }
-    ensures undone { IfOk result (λ r. (IsKept r.outcome → ⊥) → world.new.stack.top ∷ [] ≡ world.old.stack.below) }
     ensures refused { OnErr result (world.new.stack.top ∷ [] ≡ world.old.stack.below) }
 {
     match access {
@@ -93,7 +91,7 @@ fn answer_with(
 
 /// Ends a call that aborts.
 fn abort_with(alloc: Global, world: &mut World, abort: Abort, spent: Cost5) -> TxResult
-    requires stuck { IsStuck abort → ⊥ }
+    requires fine { AbortsCall abort }
     requires layer { length world.old.stack.below ≡ 1 }
     ensures told { (stop : Stop) → stop_by abort ≡ Some stop → result ≡ result_of nothing_told (Outcome.Aborted stop) (Some (cost_by abort spent)) [] }
     ensures base { world.new.stack.below ≡ [] }
@@ -118,10 +116,9 @@ pub(crate) fn finish(
     requires fine { MayAnswer access answer }
     requires layer { length world.old.stack.below ≡ 1 }
     ensures ended { IfOk result (λ r. (l : Limited Tree) (q : Purse) (node : NodeSeen) →
-        EndsWell access l → Answers l answer q world.old.stack.top → q.spent ≡ spent → node.state ∷ [] ≡ world.old.stack.below →
+        Answers l answer q world.old.stack.top → q.spent ≡ spent → node.state ∷ [] ≡ world.old.stack.below →
         call_ended access node l ≡ Some (record { node = record node { state = world.new.stack.top }; result = r })) }
     ensures base { world.new.stack.below ≡ [] }
-    ensures undone { IfOk result (λ r. (IsKept r.outcome → ⊥) → world.new.stack.top ∷ [] ≡ world.old.stack.below) }
     ensures refused { OnErr result (world.new.stack.top ∷ [] ≡ world.old.stack.below) }
 {
     match answer {

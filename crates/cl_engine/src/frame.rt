@@ -1,19 +1,29 @@
-//! Where a sender's transaction is evaluated.
+//! Who sends a transaction, and where it is evaluated.
 ghost use Rattle.std.specs.Prelude.{◌≡◌};
-ghost use Rattle.cl_int_eval.specs.Seen.{frame_seen};
-ghost use Rattle.cl_tx.specs.Nodes.{person};
+ghost use Rattle.cl_eval.specs.Homes.{frame_seen};
+ghost use Rattle.cl_tx.specs.Nodes.{contract_of, person};
 
-use cl_c32::Principal;
-use cl_int_eval::Frame;
+use cl_c32::{ContractName, Principal};
+use cl_eval::Frame;
 use cl_tx::Common;
 
 /// The sender, who is no contract.
-fn person(common: &Common) -> Principal
+pub(crate) fn person(common: &Common) -> Principal
     ensures { result ≡ person common.now.sender }
 {
     Principal {
         address: common.sender,
         contract: None,
+    }
+}
+
+/// The principal of a sender's contract.
+pub(crate) fn principal_of(common: &Common, name: &ContractName) -> Principal
+    ensures { result ≡ contract_of common.now.sender name.now }
+{
+    Principal {
+        address: common.sender,
+        contract: Some(*name),
     }
 }
 

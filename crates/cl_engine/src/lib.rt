@@ -2,7 +2,6 @@
 #![tactic(auto)]
 
 mod call;
-mod contract;
 mod deploy;
 mod deployment;
 mod ending;
@@ -11,11 +10,9 @@ mod laws;
 mod layer;
 mod lookup;
 mod node;
+mod parts;
 mod result;
 mod told;
 
-pub use laws::{
-    costs_stay_within_bounds, entries_have_one_result, failed_entries_undo, nodes_stay_sound,
-    taken_texts_tell,
-};
+pub use laws::nodes_are_known_in_one_way;
 pub use node::Node;

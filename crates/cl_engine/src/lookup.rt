@@ -1,69 +1,31 @@
 //! What an entry names, and whether it may be called.
 ghost use Rattle.std.specs.Prelude.{◌≡◌, ◌<◌, ◌^◌, length, Some, IfSome, IfNone, option_map};
-ghost use Rattle.std.specs.Bool.{Decides};
-ghost use Rattle.cl_values.specs.Valid.{IsPrincipal};
-ghost use Rattle.cl_events.specs.State.{is_principal};
-ghost use Rattle.cl_int_eval.specs.Seen.{function_seen};
+ghost use Rattle.cl_types.specs.Name.{IsName};
 ghost use Rattle.cl_c32.specs.declared.principal.Principal.{Principal};
-ghost use Rattle.cl_meaning.specs.Deployed.{contract_at};
+ghost use Rattle.cl_meaning.specs.Deployed.{Function as FunctionSeen, function_in};
 ghost use Rattle.cl_meaning.specs.Limits.{Costs};
+ghost use Rattle.cl_contracts.specs.Seen.{IsIndexed, forms_of, function_seen};
 ghost use Rattle.cl_tx.specs.declared.entry.Common.{Common};
 ghost use Rattle.cl_tx.specs.Nodes.{NodeSeen, refused};
 ghost use Rattle.cl_tx.specs.Step.{first_misfit, if_open};
-ghost use Rattle.cl_engine.specs.Seen.{contract_seen, contracts_seen};
-ghost use Rattle.cl_engine.specs.Calls.{MayBeCalled};
+ghost use Rattle.cl_engine.specs.Calling.{MayBeCalled};
 
-use crate::contract::Contract;
-use cl_c32::Principal;
-use cl_int_code::Function;
+use cl_code::Function;
+use cl_contracts::Contract;
 use cl_tx::EntryRefusal;
 use cl_types::{Access, Name, SizedTy};
-use cl_values::{Val, inhabits, one_spelling};
-use indexmap::IndexMap;
+use cl_values::{Val, inhabits};
 
-/// A law of each principal: it is valid.
-fn is_valid(principal: &Principal)
-    ensures { IsPrincipal principal.now }
+/// The function of a contract that these bytes name.
+pub(crate) fn function_named<'a>(contract: &'a Contract, name: &[u8]) -> Option<&'a Function>
+    requires indexed { IsIndexed contract.now.checked }
+    requires named { (f : FunctionSeen) → function_in name.now (forms_of contract.now.checked) ≡ Some f → IsName name.now }
+    ensures { option_map (λ f. function_seen f.now) result ≡ function_in name.now (forms_of contract.now.checked) }
 {
-    let _version = principal.address.version;
-    if let Some(name) = &principal.contract {
-        let _bytes = name.bytes();
+    match Name::make(name) {
+        Some(name) => contract.function(&name),
+        None => None,
     }
-}
-
-fn is_one(a: &Principal, b: &Principal) -> bool
-    ensures { Decides result (a.now ≡ b.now) }
-{
-    a == b
-}
-
-/// Whether two principals are one.
-fn is_same(a: &Principal, b: &Principal) -> bool
-    ensures same { result ≡ is_principal a.now b.now }
-    ensures one { Decides result (a.now ≡ b.now) }
-{
-    one_spelling();
-    is_valid(a);
-    is_valid(b);
-    is_one(a, b)
-}
-
-/// The contract that is deployed at a principal.
-pub(crate) fn deployed_at<'a>(
-    contracts: &'a IndexMap<Principal, Contract>,
-    principal: &Principal,
-) -> Option<&'a Contract>
-    ensures { option_map (λ c. contract_seen (principal.now, c.now)) result ≡ contract_at principal.now (contracts_seen contracts.now.entries) }
-{
-    for index in 0..contracts.len() {
-        let Some((key, deployed)) = contracts.get_index(index) else {
-            unreachable!()
-        };
-        if is_same(key, principal) {
-            return Some(deployed);
-        }
-    }
-    None
 }
 
 /// The place of the first argument that isn't of its parameter's type.

@@ -1,9 +1,10 @@
 //! Results of entries.
 ghost use Rattle.std.specs.Prelude.{◌≡◌, [], Option, Some, None};
 ghost use Rattle.cl_tx.specs.Nodes.{nothing_told, no_limit, result_of};
-ghost use Rattle.cl_engine.specs.Calls.{stop_by, cost_by, IsStuck};
+ghost use Rattle.cl_engine.specs.Calling.{stop_by, cost_by, IsStuck};
 
-use cl_int_eval::Abort;
+use cl_eval::Abort;
+use cl_events::Event;
 use cl_shapes::{Cost5, Meter};
 use cl_tx::{EntryRefusal, Outcome, Row, Stop, TxResult};
 use std::alloc::Global;
@@ -15,16 +16,21 @@ pub(crate) fn unlimited() -> Meter
     Meter::new([u64::MAX; 5])
 }
 
-/// A result without bounds and events.
-pub(crate) fn result_with(alloc: Global, outcome: Outcome, cost: Option<Cost5>) -> TxResult
-    ensures { result ≡ result_of nothing_told outcome cost [] }
+/// A result without bounds.
+pub(crate) fn result_with(
+    alloc: Global,
+    outcome: Outcome,
+    cost: Option<Cost5>,
+    events: Vec<Event>,
+) -> TxResult
+    ensures { result ≡ result_of nothing_told outcome cost events.items }
 {
     TxResult {
         outcome,
         cost,
         bounds: None,
         types: Row::new(Vec::new(alloc)),
-        events: Row::new(Vec::new(alloc)),
+        events: Row::new(events),
     }
 }
 
@@ -32,7 +38,7 @@ pub(crate) fn result_with(alloc: Global, outcome: Outcome, cost: Option<Cost5>) 
 pub(crate) fn refused(alloc: Global, refusal: EntryRefusal) -> TxResult
     ensures { result ≡ result_of nothing_told (Outcome.Refused refusal) None [] }
 {
-    result_with(alloc, Outcome::Refused(refusal), None)
+    result_with(alloc, Outcome::Refused(refusal), None, Vec::new(alloc))
 }
 
 /// The abort that the result of an entry has.
@@ -45,6 +51,9 @@ pub(crate) fn stop_of(abort: Abort) -> Stop
         Abort::Underflow => Stop::Underflow,
         Abort::DivideByZero => Stop::DivideByZero,
         Abort::NegativeArgument => Stop::NegativeArgument,
+        Abort::Panic => Stop::Panic,
+        Abort::SupplyOverflow => Stop::SupplyOverflow,
+        Abort::EarlyTop => Stop::EarlyTop,
         Abort::CostLimit(over) => Stop::CostLimit(over),
         Abort::Stuck => unreachable!(),
     }

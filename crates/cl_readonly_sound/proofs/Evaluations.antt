@@ -1,6 +1,6 @@
 -- An expression that is quiet leaves the state untouched, at each depth.
 use Rattle.std.proofs.Common.{◌≡◌, ℕ, zero, suc, List, [], ◌∷◌, ◌++◌, true, false, map, Option, Some, None, refl, sym, subst}
-use Rattle.std.specs.Prelude.{option_and_then, if◌then◌else◌, codes, Bool}
+use Rattle.std.specs.Prelude.{option_and_then, if◌then◌else◌, codes, Bool, Result, Ok, Err}
 use Rattle.std.specs.Str.{bytes_eq}
 use Rattle.cl_types.specs.Types.{PlainType}
 use Rattle.cl_types.specs.declared.sized.Access.{Access}
@@ -9,6 +9,7 @@ use Rattle.cl_c32.specs.declared.principal.Principal.{Principal}
 use Rattle.cl_shapes.specs.declared.name.CostName.{CostName}
 use Rattle.cl_sexpr.specs.Tree.{Tree, LeafAt, ListAt, TupleAt, Leaf, Named, Signed, Unsigned, Bytes, Ascii, Unicode, Standing, Local, Forest, Empty, Then, Pairs, NoPair, Pair, span_of}
 use Rattle.cl_values.specs.declared.native.Native.{Native}
+use Rattle.cl_values.specs.declared.refusal.ValueRefusal.{ValueRefusal}
 use Rattle.cl_values.specs.Tree.{Tree as Val, UintV, BoolV, PrincipalV, NoneV, SomeV, ResponseV}
 use Rattle.cl_values.specs.Sequences.{entries_of}
 use Rattle.cl_values.specs.Wire.{wire, size_of}
@@ -23,7 +24,7 @@ use Rattle.cl_events.specs.State.{State}
 use Rattle.cl_meaning.specs.Answers.{Outcome, Given, Thrown, Aborted, Wrong, Deeper, Answer, Note, stop, and_then, then_on}
 use Rattle.cl_meaning.specs.Deployed.{Deployed, Function, contract_at, function_in, function_of, value_of, constant_of}
 use Rattle.cl_meaning.specs.Scope.{Frame, Bound, Callee, OwnFunction, ByName, Take, Enter, parts, taken_with, called, as_contract}
-use Rattle.cl_meaning.specs.Names.{standing, name_form, leaf_form, first_of}
+use Rattle.cl_meaning.specs.Names.{standing, literal, name_form, leaf_form, first_of}
 use Rattle.cl_meaning.specs.Control.{if_form, begin_form, last_of, let_in, let_form, and_on, or_on, and_form, or_form, throwing, asserts_form, wanted_part, err_part, tried, unwrap_form, unwrap_err_form, try_form, match_optional, match_response, match_form, as_contract_form}
 use Rattle.cl_meaning.specs.Values.{on_values, strict_form, tuple_form, get_form, as_max_len_form}
 use Rattle.cl_meaning.specs.Data.{here, var_get_form, map_get_form, only_if}
@@ -86,6 +87,10 @@ module _ (W : Deployed) (Q : Principal → Function → Type 0) where
   leaves_standing : (name : CostName) (v : Val) (s : State) → Leaves s (standing name v s)
   unfolding standing
   leaves_standing name v s = leaves_charged _ _ (leaves_stop (Given v) s)
+
+  leaves_literal : (o : Result Val ValueRefusal) (s : State) → Leaves s (literal o s)
+  leaves_literal (Ok v) s = leaves_standing _ v s
+  leaves_literal (Err refusal) s = leaves_stop _ s
 
   leaves_values : (n : Native) (cost : CostName) (vs : List Val) (s : State) → Leaves s (on_values n cost vs s)
   unfolding on_values
@@ -386,9 +391,9 @@ module _ (W : Deployed) (Q : Principal → Function → Type 0) where
     leaves_leaf F E (Named x) s = leaves_name F E x s
     leaves_leaf F E (Signed z) s = leaves_standing _ _ s
     leaves_leaf F E (Unsigned m) s = leaves_standing _ _ s
-    leaves_leaf F E (Bytes bytes) s = leaves_standing _ _ s
-    leaves_leaf F E (Ascii bytes) s = leaves_standing _ _ s
-    leaves_leaf F E (Unicode characters) s = leaves_standing _ _ s
+    leaves_leaf F E (Bytes bytes) s = leaves_literal _ s
+    leaves_leaf F E (Ascii bytes) s = leaves_literal _ s
+    leaves_leaf F E (Unicode characters) s = leaves_literal _ s
     leaves_leaf F E (Standing p) s = leaves_standing _ _ s
     leaves_leaf F E (Local x) s = leaves_standing _ _ s
 

@@ -1,7 +1,7 @@
 -- Lists of rules that rise.
 use Rattle.std.proofs.Common.{◌≡◌, inl, inr, ℕ, ◌≤◌, Bool, true, false, List, [], ◌∷◌, refl, sym, ap, ◌∙◌, subst, arith, lit≤, ◌==◌, if◌then◌else◌}
 use Rattle.cl_sexpr.specs.declared.rule.Rule.{Rule}
-use Rattle.cl_sexpr.specs.declared.rule.Rule.TheVariants.{BadByte, BadToken, NumberTooWide, Unclosed, StrayClose, TooNested, BadEscape, BadTuple, BadAddress, SourceTooLong, BadDefinition, BadType, BadName, NotInProfile, NameUsed, Cycle, UnknownName, ArgumentCount, ArgumentKind, NotSame, TooLarge, TooDeep, Undetermined, ThrownDiffer, NotResponse, UnusedResponse, ShadowedName, NoSuchKey, NoSuchVariable, NoSuchMap, NoSuchToken, NoSuchContract, NoSuchFunction, NotAFunction, LiteralExpected, EmptyForm, BadBinding, TooDeepCalls, KeyTwice, NotAValue, WritesInReadOnly, BoundTooLarge, NotYet}
+use Rattle.cl_sexpr.specs.declared.rule.Rule.TheVariants.{BadByte, BadToken, NumberTooWide, Unclosed, StrayClose, TooNested, BadEscape, BadTuple, BadAddress, SourceTooLong, BadDefinition, BadType, BadName, NotInProfile, NameUsed, Cycle, UnknownName, ArgumentCount, ArgumentKind, NotSame, TooLarge, TooDeep, Undetermined, ThrownDiffer, NotResponse, UnusedResponse, ShadowedName, NoSuchKey, NoSuchVariable, NoSuchMap, NoSuchToken, NoSuchContract, NoSuchFunction, NotAFunction, LiteralExpected, EmptyForm, BadBinding, TooDeepCalls, KeyTwice, NotAValue, WritesInReadOnly, BoundTooLarge}
 use Rattle.cl_sexpr.specs.Rules.{number_of, phase_of}
 use Rattle.cl_rules.specs.Faults.{when, ShapeFaults, shape_rules, TypeFaults, type_rules, FormFaults, form_rules}
 use Rattle.cl_rules.specs.Typing.{Among}
@@ -141,7 +141,6 @@ again NameUsed p = absurd (omega (arith, p))
 again Cycle p = absurd (omega (arith, p))
 again WritesInReadOnly p = absurd (omega (arith, p))
 again (BoundTooLarge d) p = absurd (omega (arith, p))
-again NotYet p = absurd (omega (arith, p))
 
 pub number_tells : (r q : Rule) → phase_of r ≡ 3 → phase_of q ≡ 3 → number_of r ≡ number_of q → r ≡ q
 number_tells r q p h e = sym (again r p) ∙ ap rule_at e ∙ again q h

@@ -11,7 +11,7 @@ use Rattle.cl_shapes.specs.declared.cost.Dimension.{Dimension}
 use Rattle.cl_types.specs.Types.{PlainType}
 use Rattle.cl_sexpr.specs.declared.sexpr.Span.{Span}
 use Rattle.cl_sexpr.specs.declared.rule.Rule.{Rule}
-use Rattle.cl_sexpr.specs.declared.rule.Rule.TheVariants.{NotYet}
+use Rattle.cl_sexpr.specs.declared.rule.Rule.TheVariants.{TooDeepCalls}
 use Rattle.hex.specs.Hex.{decode_pairs}
 use Rattle.cl_sexpr.specs.Leaf.{run_token}
 use Rattle.cl_sexpr.specs.Quote.{escape_of, string_at, text_in}
@@ -63,11 +63,11 @@ deployment text = deployment_by unit_function (checked text)
 abbrev pub bound_break : List ℕ → Judged (Option (Dimension × Span))
 bound_break text = bound_stop_of unit_function (program_of text) (checked text)
 
--- the rule that is broken, if one is
+-- the rule that is broken, if one is; what the plain program doesn't reach counts as too deep
 abbrev pub rule_of : Judged Defined → Option Rule
 rule_of (Holds defined) = None
 rule_of (Fails rule s) = Some rule
-rule_of Deeper = Some NotYet
+rule_of Deeper = Some TooDeepCalls
 
 -- ---- the number of one charge
 

@@ -2,7 +2,7 @@
 use Rattle.std.specs.Prelude.{ℕ, List, [], ◌∷◌, ◌++◌, codes}
 use Rattle.cl_shapes.specs.Costs.{dimension_name}
 use Rattle.cl_sexpr.specs.declared.rule.Rule.{Rule}
-use Rattle.cl_sexpr.specs.declared.rule.Rule.TheVariants.{BadByte, BadToken, NumberTooWide, Unclosed, StrayClose, TooNested, BadEscape, BadTuple, BadAddress, SourceTooLong, BadDefinition, BadType, BadName, NotInProfile, NameUsed, Cycle, UnknownName, ArgumentCount, ArgumentKind, NotSame, TooLarge, TooDeep, Undetermined, ThrownDiffer, NotResponse, UnusedResponse, ShadowedName, NoSuchKey, NoSuchVariable, NoSuchMap, NoSuchToken, NoSuchContract, NoSuchFunction, NotAFunction, LiteralExpected, EmptyForm, BadBinding, TooDeepCalls, KeyTwice, NotAValue, WritesInReadOnly, BoundTooLarge, NotYet}
+use Rattle.cl_sexpr.specs.declared.rule.Rule.TheVariants.{BadByte, BadToken, NumberTooWide, Unclosed, StrayClose, TooNested, BadEscape, BadTuple, BadAddress, SourceTooLong, BadDefinition, BadType, BadName, NotInProfile, NameUsed, Cycle, UnknownName, ArgumentCount, ArgumentKind, NotSame, TooLarge, TooDeep, Undetermined, ThrownDiffer, NotResponse, UnusedResponse, ShadowedName, NoSuchKey, NoSuchVariable, NoSuchMap, NoSuchToken, NoSuchContract, NoSuchFunction, NotAFunction, LiteralExpected, EmptyForm, BadBinding, TooDeepCalls, KeyTwice, NotAValue, WritesInReadOnly, BoundTooLarge}
 
 -- how a refusal prints a rule
 abbrev pub rule_text : Rule → List ℕ
@@ -48,7 +48,6 @@ rule_text KeyTwice = codes "C23 KeyTwice"
 rule_text NotAValue = codes "C24 NotAValue"
 rule_text WritesInReadOnly = codes "C25 WritesInReadOnly"
 rule_text (BoundTooLarge d) = codes "B1 BoundTooLarge"
-rule_text NotYet = codes "N0 NotYet"
 
 -- the passes in which rules are looked at: texts, forms, their order, expressions, writing functions, bounds
 abbrev pub phase_of : Rule → ℕ
@@ -94,7 +93,6 @@ phase_of KeyTwice = 3
 phase_of NotAValue = 3
 phase_of WritesInReadOnly = 4
 phase_of (BoundTooLarge d) = 5
-phase_of NotYet = 6
 
 -- the number of a rule within its letter
 abbrev pub number_of : Rule → ℕ
@@ -140,4 +138,3 @@ number_of KeyTwice = 23
 number_of NotAValue = 24
 number_of WritesInReadOnly = 25
 number_of (BoundTooLarge d) = 1
-number_of NotYet = 0

@@ -96,8 +96,6 @@ pub enum Rule {
     WritesInReadOnly,
     /// B1: a bound is above 2^128-1 in this dimension; the span is that of the function, or empty at the beginning.
     BoundTooLarge(Dimension),
-    /// N0: nothing is wrong, but such contracts aren't taken yet; the span is empty, at the beginning.
-    NotYet,
 }
 
 impl Rule {
@@ -148,7 +146,6 @@ impl Rule {
             Rule::NotAValue => "C24 NotAValue",
             Rule::WritesInReadOnly => "C25 WritesInReadOnly",
             Rule::BoundTooLarge(_) => "B1 BoundTooLarge",
-            Rule::NotYet => "N0 NotYet",
         }
     }
 }

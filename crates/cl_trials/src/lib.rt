@@ -3,20 +3,10 @@
 #![tactic(auto)]
 
 #[cfg(test)]
-mod bounds;
-#[cfg(test)]
-mod costs;
-#[cfg(test)]
 mod files;
-#[cfg(test)]
-mod natives;
 #[cfg(test)]
 mod orders;
 #[cfg(test)]
 mod principals;
-#[cfg(test)]
-mod texts;
-#[cfg(test)]
-mod tokens;
 #[cfg(test)]
 mod world;

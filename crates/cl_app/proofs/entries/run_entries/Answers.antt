@@ -7,7 +7,7 @@ use Rattle.cl_app.proofs.entries.run_entries.Goals as goal
 
 pub loop-entry-init : goal.loop-entry-init
 loop-entry-init c = record {
-  reports = subst (λ (pieces : List (Vec ℕ Global)). Reports [] (bytes_of pieces) c.args.node.now) (sym c.new-pieces.ensures.items) (reports_first c.nodes_stay_nodes.ensures.first c.args.node.now c.requires.first);
+  reports = subst (λ (pieces : List (Vec ℕ Global)). Reports [] (bytes_of pieces) c.args.node.now) (sym c.new-pieces.ensures.items) (reports_first c.args.node.now c.requires.first);
   count = ap length c.new-pieces.ensures.items;
 }
 
@@ -16,7 +16,7 @@ loop-entry-preserved c =
     let numbered : c.len.result ≡ c.loop-entry.entry-index = grind (arith, common_steps) in
     record {
       reports = rw c.in_ok-push.ensures.items
-          (reports_piece c.entries_have_one_result.ensures.each c.nodes_stay_nodes.ensures.step c.args.entries.now c.loop-entry.entry-index c.len.result
+          (reports_piece c.nodes_are_known_in_one_way.ensures c.functions_by_name.ensures c.args.entries.now c.loop-entry.entry-index c.len.result
           c.loop-entry.pieces.items c.in_ok-ended.ended.text c.loop-entry.node c.next.new.node c.entry-item.result c.entry-item.result c.in_ok-ended.ended.end
           c.loop-entry-test.true c.entry-item.is numbered c.loop-entry.invariant.reports c.in_ok-ended.ensures);
       count = grind (arith, common_steps);

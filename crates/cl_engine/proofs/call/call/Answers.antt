@@ -1,85 +1,79 @@
-use Rattle.std.proofs.Common.{◌≡◌, List, map, None, Some, refl, sym, ap, subst, ◌∙◌}
-use Rattle.cl_shapes.specs.Names.{unit_function}
-use Rattle.cl_int_code.specs.declared.definition.Definition.{Definition}
-use Rattle.cl_int_code.specs.Definitions.{form_defined}
+use Rattle.std.proofs.Common.{◌≡◌, ℕ, ◌<◌, ◌^◌, Some, None, refl, sym, ap, subst, ◌∙◌}
+use Rattle.cl_costs.specs.Tables.{function_of}
 use Rattle.cl_meaning.specs.Deployed.{Contract, contract_at, function_in}
-use Rattle.cl_meaning.specs.Limits.{limited}
-use Rattle.cl_meaning.specs.Scope.{Frame}
-use Rattle.cl_meaning.specs.Top.{call_from}
-use Rattle.cl_int_eval.specs.Seen.{frame_seen, function_seen}
+use Rattle.cl_contracts.specs.Seen.{contract_seen, deployed_seen, function_seen}
+use Rattle.cl_eval.specs.Homes.{frame_seen}
 use Rattle.cl_tx.specs.declared.outcome.TxResult.{TxResult}
-use Rattle.cl_tx.specs.Nodes.{NodeSeen, call_ended, no_limit, person}
-use Rattle.cl_engine.specs.Seen.{node_with, contract_seen, contracts_seen, seen}
-use Rattle.cl_engine.specs.Calls.{IsReady}
+use Rattle.cl_tx.specs.Nodes.{NodeSeen}
+use Rattle.cl_engine.specs.Seen.{node_with, seen}
 use Rattle.cl_engine.proofs.Ends.{ok_also}
-use Rattle.cl_engine.proofs.Steps.{no_contract, no_function, in_function, applied}
+use Rattle.cl_engine.proofs.CallSteps.{no_contract, no_function, in_function, ended_so, comes_so}
 use Rattle.cl_engine.proofs.call.call.Goals as goal
 
 pub returns-in_default-clause-steps : goal.returns-in_default-clause-steps
-returns-in_default-clause-steps c = λ known is.
-    let node : NodeSeen = node_with known (seen c.args.world.now.stack.top c.args.contracts.now.entries c.args.height) in
-    let none : contract_at c.args.contract.now node.contracts ≡ None = sym c.in_default.ensures in
-    no_contract node c.args.common.now c.args.contract.now c.args.function.now c.args.args.now none
+returns-in_default-clause-steps c = λ known.
+    let node : NodeSeen = node_with known (seen c.args.world.now.stack.top (deployed_seen c.args.deployed.now) c.args.height c.args.costs.now) in
+    let none : contract_at c.args.contract.now node.contracts ≡ None = sym (c.in_default.ensures.seen c.requires.indexed) in
+    no_contract (function_of c.args.costs.now) node c.args.common.now c.args.contract.now c.args.function.now c.args.args.now none
     ∙ ap (λ (r : TxResult). Some (record { node = node; result = r })) (sym c.refused.ensures)
 
+pub function_named-requires-clause-named : goal.function_named-requires-clause-named
+function_named-requires-clause-named c = λ f is.
+    let W = deployed_seen c.args.deployed.now in
+    let contract : Contract = contract_seen (c.args.contract.now, c.in-Some.found.now) in
+    let there : contract_at c.args.contract.now W ≡ Some contract = sym (c.in-Some.ensures.seen c.requires.indexed) in
+    (c.functions_are_named.ensures (function_of c.args.costs.now) W c.requires.sound.known c.requires.sound.is_sound.sound.contracts c.args.contract.now c.requires.parts.1 contract there c.args.function.now f is).0
+
 pub returns-in_default-function_named-clause-steps : goal.returns-in_default-function_named-clause-steps
-returns-in_default-function_named-clause-steps c = λ known is.
-    let node : NodeSeen = node_with known (seen c.args.world.now.stack.top c.args.contracts.now.entries c.args.height) in
-    let contract : Contract = contract_seen (c.args.contract.now, c.in-Some.deployed.now) in
-    let there : contract_at c.args.contract.now node.contracts ≡ Some contract = sym c.in-Some.ensures in
-    let none : function_in c.args.function.now contract.forms ≡ None =
-    sym (c.in_default-function_named.ensures.found ∙ ap (λ (ds : List Definition). function_in c.args.function.now (map form_defined ds)) c.deref.ensures.value) in
-    no_function node c.args.common.now c.args.contract.now c.args.function.now c.args.args.now contract there none
+returns-in_default-function_named-clause-steps c = λ known.
+    let node : NodeSeen = node_with known (seen c.args.world.now.stack.top (deployed_seen c.args.deployed.now) c.args.height c.args.costs.now) in
+    let contract : Contract = contract_seen (c.args.contract.now, c.in-Some.found.now) in
+    let there : contract_at c.args.contract.now node.contracts ≡ Some contract = sym (c.in-Some.ensures.seen c.requires.indexed) in
+    let none : function_in c.args.function.now contract.forms ≡ None = sym c.in_default-function_named.ensures in
+    no_function (function_of c.args.costs.now) node c.args.common.now c.args.contract.now c.args.function.now c.args.args.now contract there none
     ∙ ap (λ (r : TxResult). Some (record { node = node; result = r })) (sym c.refused-in_default-function_named.ensures)
 
 pub refusal_of-requires : goal.refusal_of-requires
 refusal_of-requires c =
-    let contract : Contract = contract_seen (c.args.contract.now, c.in-Some.deployed.now) in
-    let found : function_in c.args.function.now contract.forms ≡ Some (function_seen c.in-Some-function_named.called.now) =
-    sym (c.in-Some-function_named.ensures.found ∙ ap (λ (ds : List Definition). function_in c.args.function.now (map form_defined ds)) c.deref.ensures.value) in
-    c.calls_are_ready.ensures.few (seen c.args.world.now.stack.top c.args.contracts.now.entries c.args.height) c.requires.sound c.args.contract.now contract (sym c.in-Some.ensures) c.args.function.now (function_seen c.in-Some-function_named.called.now) found
+    let W = deployed_seen c.args.deployed.now in
+    let contract : Contract = contract_seen (c.args.contract.now, c.in-Some.found.now) in
+    let there : contract_at c.args.contract.now W ≡ Some contract = sym (c.in-Some.ensures.seen c.requires.indexed) in
+    (c.functions_are_named.ensures (function_of c.args.costs.now) W c.requires.sound.known c.requires.sound.is_sound.sound.contracts c.args.contract.now c.requires.parts.1 contract there c.args.function.now (function_seen c.in-Some-function_named.called.now) (sym c.in-Some-function_named.ensures)).1
 
 pub returns-in-Some-refusal_of-clause-steps : goal.returns-in-Some-refusal_of-clause-steps
-returns-in-Some-refusal_of-clause-steps c = λ known is.
-    let node : NodeSeen = node_with known (seen c.args.world.now.stack.top c.args.contracts.now.entries c.args.height) in
-    let contract : Contract = contract_seen (c.args.contract.now, c.in-Some.deployed.now) in
-    let there : contract_at c.args.contract.now node.contracts ≡ Some contract = sym c.in-Some.ensures in
-    let found : function_in c.args.function.now contract.forms ≡ Some (function_seen c.in-Some-function_named.called.now) =
-    sym (c.in-Some-function_named.ensures.found ∙ ap (λ (ds : List Definition). function_in c.args.function.now (map form_defined ds)) c.deref.ensures.value) in
-    in_function node c.args.common.now c.args.contract.now c.args.function.now c.args.args.now contract (function_seen c.in-Some-function_named.called.now) there found
-    ∙ c.in-Some-refusal_of.ensures.refused unit_function node c.args.common.now c.args.contract.now
+returns-in-Some-refusal_of-clause-steps c = λ known.
+    let node : NodeSeen = node_with known (seen c.args.world.now.stack.top (deployed_seen c.args.deployed.now) c.args.height c.args.costs.now) in
+    let contract : Contract = contract_seen (c.args.contract.now, c.in-Some.found.now) in
+    let there : contract_at c.args.contract.now node.contracts ≡ Some contract = sym (c.in-Some.ensures.seen c.requires.indexed) in
+    let found : function_in c.args.function.now contract.forms ≡ Some (function_seen c.in-Some-function_named.called.now) = sym c.in-Some-function_named.ensures in
+    in_function (function_of c.args.costs.now) node c.args.common.now c.args.contract.now c.args.function.now c.args.args.now contract (function_seen c.in-Some-function_named.called.now) there found
+    ∙ c.in-Some-refusal_of.ensures.refused (function_of c.args.costs.now) node c.args.common.now c.args.contract.now
     ∙ ap (λ (r : TxResult). Some (record { node = node; result = r })) (sym c.refused-in-Some-refusal_of.ensures)
 
-pub apply-requires-clause-ready : goal.apply-requires-clause-ready
-apply-requires-clause-ready c =
-    let contract : Contract = contract_seen (c.args.contract.now, c.in-Some.deployed.now) in
-    let found : function_in c.args.function.now contract.forms ≡ Some (function_seen c.in-Some-function_named.called.now) =
-    sym (c.in-Some-function_named.ensures.found ∙ ap (λ (ds : List Definition). function_in c.args.function.now (map form_defined ds)) c.deref.ensures.value) in
-    let frame : Frame = record { contract = c.args.contract.now; sender = person c.args.common.now.sender; caller = person c.args.common.now.sender; height = c.args.height } in
-    let ready : IsReady (contracts_seen c.args.contracts.now.entries) contract.forms frame (function_seen c.in-Some-function_named.called.now) c.args.args.now c.args.world.now.stack.top =
-    c.calls_are_ready.ensures.ready (seen c.args.world.now.stack.top c.args.contracts.now.entries c.args.height) c.requires.sound frame contract (sym c.in-Some.ensures) refl c.args.function.now (function_seen c.in-Some-function_named.called.now) found c.args.args.now c.in_default-refusal_of.ensures.called c.are_valid.ensures in
-    let framed : IsReady (contracts_seen c.args.contracts.now.entries) contract.forms (frame_seen c.frame_of-frame.result) (function_seen c.in-Some-function_named.called.now) c.args.args.now c.args.world.now.stack.top =
-    subst (λ (F : Frame). IsReady (contracts_seen c.args.contracts.now.entries) contract.forms F (function_seen c.in-Some-function_named.called.now) c.args.args.now c.args.world.now.stack.top) (sym c.frame_of-frame.ensures) ready in (
-      contracts_seen c.args.contracts.now.entries,
-      subst (λ (ds : List Definition). IsReady (contracts_seen c.args.contracts.now.entries) (map form_defined ds) (frame_seen c.frame_of-frame.result) (function_seen c.in-Some-function_named.called.now) c.args.args.now c.args.world.now.stack.top) (sym c.deref-2.ensures.value) framed,
-    )
+pub apply-requires-clause-few : goal.apply-requires-clause-few
+apply-requires-clause-few c =
+    let W = deployed_seen c.args.deployed.now in
+    let contract : Contract = contract_seen (c.args.contract.now, c.in-Some.found.now) in
+    let there : contract_at c.args.contract.now W ≡ Some contract = sym (c.in-Some.ensures.seen c.requires.indexed) in
+    let few = (c.functions_are_named.ensures (function_of c.args.costs.now) W c.requires.sound.known c.requires.sound.is_sound.sound.contracts c.args.contract.now c.requires.parts.1 contract there c.args.function.now (function_seen c.in-Some-function_named.called.now) (sym c.in-Some-function_named.ensures)).1 in
+    subst (λ (n : ℕ). n < 2 ^ 32) (sym c.in_default-refusal_of.ensures.called.as_many) few
+
+pub apply-requires-clause-comes : goal.apply-requires-clause-comes
+apply-requires-clause-comes c =
+    let node : NodeSeen = node_with c.requires.sound.known (seen c.args.world.now.stack.top (deployed_seen c.args.deployed.now) c.args.height c.args.costs.now) in
+    let contract : Contract = contract_seen (c.args.contract.now, c.in-Some.found.now) in
+    let there : contract_at c.args.contract.now node.contracts ≡ Some contract = sym (c.in-Some.ensures.seen c.requires.indexed) in
+    let found : function_in c.args.function.now contract.forms ≡ Some (function_seen c.in-Some-function_named.called.now) = sym c.in-Some-function_named.ensures in
+    comes_so (function_of c.args.costs.now) node c.args.common.now c.args.contract.now c.args.function.now c.args.args.now contract (function_seen c.in-Some-function_named.called.now) (frame_seen c.frame_of-frame.result) there found c.in_default-refusal_of.ensures.called c.frame_of-frame.ensures
+    (c.entries_come_to_something.ensures.calls (function_of c.args.costs.now) node c.args.common.now c.args.contract.now c.args.function.now c.args.args.now c.requires.parts c.requires.sound.is_sound.sound)
 
 pub returns-clause-steps : goal.returns-clause-steps
 returns-clause-steps c =
-    let contract : Contract = contract_seen (c.args.contract.now, c.in-Some.deployed.now) in
-    let found : function_in c.args.function.now contract.forms ≡ Some (function_seen c.in-Some-function_named.called.now) =
-    sym (c.in-Some-function_named.ensures.found ∙ ap (λ (ds : List Definition). function_in c.args.function.now (map form_defined ds)) c.deref.ensures.value) in
-    let frame : Frame = record { contract = c.args.contract.now; sender = person c.args.common.now.sender; caller = person c.args.common.now.sender; height = c.args.height } in
-    let ready : IsReady (contracts_seen c.args.contracts.now.entries) contract.forms frame (function_seen c.in-Some-function_named.called.now) c.args.args.now c.args.world.now.stack.top =
-    c.calls_are_ready.ensures.ready (seen c.args.world.now.stack.top c.args.contracts.now.entries c.args.height) c.requires.sound frame contract (sym c.in-Some.ensures) refl c.args.function.now (function_seen c.in-Some-function_named.called.now) found c.args.args.now c.in_default-refusal_of.ensures.called c.are_valid.ensures in
-    let framed : IsReady (contracts_seen c.args.contracts.now.entries) contract.forms (frame_seen c.frame_of-frame.result) (function_seen c.in-Some-function_named.called.now) c.args.args.now c.args.world.now.stack.top =
-    subst (λ (F : Frame). IsReady (contracts_seen c.args.contracts.now.entries) contract.forms F (function_seen c.in-Some-function_named.called.now) c.args.args.now c.args.world.now.stack.top) (sym c.frame_of-frame.ensures) ready in
-    let at_call : IsReady (contracts_seen c.args.contracts.now.entries) (map form_defined c.deref-2.result.now) (frame_seen c.frame_of-frame.result) (function_seen c.in-Some-function_named.called.now) c.args.args.now c.args.world.now.stack.top =
-    subst (λ (ds : List Definition). IsReady (contracts_seen c.args.contracts.now.entries) (map form_defined ds) (frame_seen c.frame_of-frame.result) (function_seen c.in-Some-function_named.called.now) c.args.args.now c.args.world.now.stack.top) (sym c.deref-2.ensures.value) framed in
+    let contract : Contract = contract_seen (c.args.contract.now, c.in-Some.found.now) in
+    let found : function_in c.args.function.now contract.forms ≡ Some (function_seen c.in-Some-function_named.called.now) = sym c.in-Some-function_named.ensures in
     ok_also c.apply.result _ _
-    (λ r ended known is.
-    let node : NodeSeen = node_with known (seen c.args.world.now.stack.top c.args.contracts.now.entries c.args.height) in
-    applied node c.args.common.now c.args.contract.now c.args.function.now c.args.args.now contract (function_seen c.in-Some-function_named.called.now) _ (sym c.in-Some.ensures) found c.in_default-refusal_of.ensures.called
-    (ap (λ (F : Frame). call_ended c.in-Some-function_named.called.now.access node (limited unit_function no_limit (call_from node.contracts F (function_seen c.in-Some-function_named.called.now) c.args.args.now node.state))) (sym c.frame_of-frame.ensures)
-    ∙ ended (contracts_seen c.args.contracts.now.entries) at_call node refl))
+    (λ r ended known.
+    let node : NodeSeen = node_with known (seen c.args.world.now.stack.top (deployed_seen c.args.deployed.now) c.args.height c.args.costs.now) in
+    ended_so (function_of c.args.costs.now) node c.args.common.now c.args.contract.now c.args.function.now c.args.args.now contract (function_seen c.in-Some-function_named.called.now) (frame_seen c.frame_of-frame.result) (sym (c.in-Some.ensures.seen c.requires.indexed)) found c.in_default-refusal_of.ensures.called c.frame_of-frame.ensures
+    ∙ ended node refl)
     c.apply.ensures.ended

@@ -1,9 +1,6 @@
-use Rattle.std.proofs.Common.{◌≡◌, ℕ, ◌≤◌, ◌-◌, List, map, take}
-use Rattle.cl_int_check.specs.declared.scope.Callee.{Callee}
+use Rattle.std.proofs.Common.{◌≡◌, take, filter_map}
+use Rattle.cl_engine.specs.Deploying.{type_returned}
 use Rattle.cl_engine.proofs.told.types_of.Given as goal
 
-abbrev pub invariant-loop-i : goal.invariant-loop-i
-invariant-loop-i l = record { within : l.i ≤ l.count; row : l.types.items ≡ map (λ (f : List ℕ × Callee). f.1.returns) (take l.i l.functions.entries) }
-
-abbrev pub decreases-loop-i : goal.decreases-loop-i
-decreases-loop-i l = l.count - l.i
+abbrev pub invariant-loop-definition : goal.invariant-loop-definition
+invariant-loop-definition l = l.types.items ≡ filter_map type_returned (take l.definition-index l.definitions)

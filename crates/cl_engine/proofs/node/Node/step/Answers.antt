@@ -1,31 +1,73 @@
 use Rattle.std.specs.Prelude.{IfOk}
-use Rattle.std.proofs.Common.{◌≡◌, List, sym, subst, ◌∙◌}
-use Rattle.cl_shapes.specs.Names.{unit_function}
-use Rattle.cl_rules.specs.Context.{Known}
-use Rattle.cl_tx.specs.Laws.{IsNode}
+use Rattle.std.proofs.Common.{◌≡◌, sym, subst, ◌∙◌}
+use Rattle.cl_contracts.specs.Seen.{deployed_seen}
+use Rattle.cl_node_sound.specs.Sound.{HasParts}
+use Rattle.cl_tx.specs.declared.entry.Entry.{Entry}
 use Rattle.cl_tx.specs.declared.entry.Entry.TheVariants.{Deploy, Call}
-use Rattle.cl_engine.specs.Seen.{Seen, node_with, seen}
+use Rattle.cl_tx.specs.Laws.{IsKept}
+use Rattle.cl_engine.specs.Seen.{Seen, seen}
 use Rattle.cl_engine.specs.Steps.{Makes}
-use Rattle.cl_engine.proofs.Stays.{deployment_stays, call_stays, call_makes_all}
+use Rattle.cl_engine.proofs.Nodes.{call_steps, call_refused, sound_still, makes_still, undone_still}
 use Rattle.cl_engine.proofs.node.Node.step.Goals as goal
+
+pub deploy-requires-clause-parts : goal.deploy-requires-clause-parts
+deploy-requires-clause-parts c = subst HasParts c.in-Deploy.is c.has_parts.ensures
+
+pub call-requires-clause-parts : goal.call-requires-clause-parts
+call-requires-clause-parts c =
+    subst HasParts (c.in-Call.is ∙ (λ i. Call c.in-Call.common c.in-Call.contract (sym c.as_slice-in-Call.ensures i) (sym c.as_slice-in-Call-2.ensures i))) c.has_parts.ensures
 
 pub invariant_of-self : goal.invariant_of-self
 invariant_of-self c = record {
   base = c.deploy.ensures.base;
-  sound = deployment_stays c.nodes_stay_sound.ensures.step c.self.inside.world.stack.top c.deploy.new.world.stack.top c.self.inside.contracts.entries c.deploy.new.contracts.entries c.self.inside.height (Deploy c.in-Deploy.common c.in-Deploy.name c.as_slice.result.now) c.deploy.result tt c.self.invariant.sound c.deploy.ensures.steps c.deploy.ensures.refused;
+  indexed = c.deploy.ensures.indexed;
+  sound = sound_still c.self.inside.costs c.self.inside.deployed.contracts.entries c.deploy.new.deployed.contracts.entries c.self.inside.world.stack.top c.deploy.new.world.stack.top c.self.inside.height (Deploy c.in-Deploy.common c.in-Deploy.name c.as_slice.result.now) c.deploy.result
+      c.nodes_stay_sound.ensures.stay (subst HasParts c.in-Deploy.is c.has_parts.ensures) c.self.invariant.sound c.deploy.ensures.steps c.deploy.ensures.refused;
 }
 
 pub invariant_of-self-in-Call : goal.invariant_of-self-in-Call
-invariant_of-self-in-Call c = record {
-  base = c.call.ensures.base;
-  sound = call_stays c.nodes_stay_sound.ensures.step c.self.inside.world.stack.top c.call.new.world.stack.top c.self.inside.contracts.entries c.self.inside.height c.in-Call.common c.in-Call.contract c.as_slice-in-Call.result.now c.as_slice-in-Call-2.result.now c.call.result c.call.ensures.values c.self.invariant.sound c.call.ensures.steps c.call.ensures.refused;
-}
+invariant_of-self-in-Call c =
+    let es = c.self.inside.deployed.contracts.entries in
+    let entry = c.in-Call.is ∙ (λ i. Call c.in-Call.common c.in-Call.contract (sym c.as_slice-in-Call.ensures i) (sym c.as_slice-in-Call-2.ensures i)) in
+    record {
+      base = c.call.ensures.base;
+      indexed = c.self.invariant.indexed;
+      sound = sound_still c.self.inside.costs es es c.self.inside.world.stack.top c.call.new.world.stack.top c.self.inside.height (Call c.in-Call.common c.in-Call.contract c.as_slice-in-Call.result.now c.as_slice-in-Call-2.result.now) c.call.result
+          c.nodes_stay_sound.ensures.stay (subst HasParts entry c.has_parts.ensures) c.self.invariant.sound
+          (call_steps c.self.inside.costs es c.self.inside.world.stack.top c.call.new.world.stack.top c.self.inside.height c.in-Call.common c.in-Call.contract c.as_slice-in-Call.result.now c.as_slice-in-Call-2.result.now c.call.result c.call.ensures.steps)
+          (call_refused c.self.inside.costs es c.self.inside.world.stack.top c.call.new.world.stack.top c.self.inside.height c.in-Call.common c.in-Call.contract c.as_slice-in-Call.result.now c.as_slice-in-Call-2.result.now c.call.result c.call.ensures.refused);
+    }
+
+pub returns-in-Deploy-clause-steps : goal.returns-in-Deploy-clause-steps
+returns-in-Deploy-clause-steps c =
+    let before : Seen = seen c.self.inside.world.stack.top (deployed_seen c.self.inside.deployed) c.self.inside.height c.self.inside.costs in
+    let after : Seen = seen c.deploy.new.world.stack.top (deployed_seen c.deploy.new.deployed) c.self.inside.height c.self.inside.costs in
+    let entry : c.args.entry.now ≡ Deploy c.in-Deploy.common c.in-Deploy.name c.as_slice.result.now = c.in-Deploy.is ∙ (λ i. Deploy c.in-Deploy.common c.in-Deploy.name (sym c.as_slice.ensures i)) in
+    subst (λ (n : Seen). IfOk c.deploy.result (λ r. Makes n c.args.entry.now r after)) c.self.view_is
+    (subst (λ (e : Entry). IfOk c.deploy.result (λ r. Makes before e r after)) (sym entry)
+    (makes_still c.self.inside.costs c.self.inside.deployed.contracts.entries c.deploy.new.deployed.contracts.entries c.self.inside.world.stack.top c.deploy.new.world.stack.top c.self.inside.height (Deploy c.in-Deploy.common c.in-Deploy.name c.as_slice.result.now) c.deploy.result c.self.invariant.sound c.deploy.ensures.steps))
+
+pub returns-in-Deploy-clause-undone : goal.returns-in-Deploy-clause-undone
+returns-in-Deploy-clause-undone c =
+    let after : Seen = seen c.deploy.new.world.stack.top (deployed_seen c.deploy.new.deployed) c.self.inside.height c.self.inside.costs in
+    subst (λ (n : Seen). IfOk c.deploy.result (λ r. (IsKept r.outcome → ⊥) → after ≡ n)) c.self.view_is
+    (undone_still c.self.inside.costs c.self.inside.deployed.contracts.entries c.deploy.new.deployed.contracts.entries c.self.inside.world.stack.top c.deploy.new.world.stack.top c.self.inside.height (Deploy c.in-Deploy.common c.in-Deploy.name c.as_slice.result.now) c.deploy.result c.failed_entries_change_nothing.ensures c.self.invariant.sound c.deploy.ensures.steps)
 
 pub returns-in-Call-clause-steps : goal.returns-in-Call-clause-steps
 returns-in-Call-clause-steps c =
-    let before : Seen = seen c.self.inside.world.stack.top c.self.inside.contracts.entries c.self.inside.height in
-    let after : Seen = seen c.call.new.world.stack.top c.self.inside.contracts.entries c.self.inside.height in
-    let entry : c.args.entry.now ≡ Call c.in-Call.common c.in-Call.contract c.as_slice-in-Call.result.now c.as_slice-in-Call-2.result.now =
-    c.in-Call.is ∙ (λ i. Call c.in-Call.common c.in-Call.contract (sym c.as_slice-in-Call.ensures i) (sym c.as_slice-in-Call-2.ensures i)) in
-    subst (λ (n : Seen). IfOk c.call.result (λ r. (known : List Known) → IsNode unit_function (node_with known n) → Makes known n c.args.entry.now r after)) c.self.view_is
-    (call_makes_all before after c.in-Call.common c.in-Call.contract c.as_slice-in-Call.result.now c.as_slice-in-Call-2.result.now c.args.entry.now c.call.result entry c.call.ensures.steps)
+    let es = c.self.inside.deployed.contracts.entries in
+    let before : Seen = seen c.self.inside.world.stack.top (deployed_seen c.self.inside.deployed) c.self.inside.height c.self.inside.costs in
+    let after : Seen = seen c.call.new.world.stack.top (deployed_seen c.self.inside.deployed) c.self.inside.height c.self.inside.costs in
+    let entry : c.args.entry.now ≡ Call c.in-Call.common c.in-Call.contract c.as_slice-in-Call.result.now c.as_slice-in-Call-2.result.now = c.in-Call.is ∙ (λ i. Call c.in-Call.common c.in-Call.contract (sym c.as_slice-in-Call.ensures i) (sym c.as_slice-in-Call-2.ensures i)) in
+    subst (λ (n : Seen). IfOk c.call.result (λ r. Makes n c.args.entry.now r after)) c.self.view_is
+    (subst (λ (e : Entry). IfOk c.call.result (λ r. Makes before e r after)) (sym entry)
+    (makes_still c.self.inside.costs es es c.self.inside.world.stack.top c.call.new.world.stack.top c.self.inside.height (Call c.in-Call.common c.in-Call.contract c.as_slice-in-Call.result.now c.as_slice-in-Call-2.result.now) c.call.result c.self.invariant.sound
+    (call_steps c.self.inside.costs es c.self.inside.world.stack.top c.call.new.world.stack.top c.self.inside.height c.in-Call.common c.in-Call.contract c.as_slice-in-Call.result.now c.as_slice-in-Call-2.result.now c.call.result c.call.ensures.steps)))
+
+pub returns-in-Call-clause-undone : goal.returns-in-Call-clause-undone
+returns-in-Call-clause-undone c =
+    let es = c.self.inside.deployed.contracts.entries in
+    let after : Seen = seen c.call.new.world.stack.top (deployed_seen c.self.inside.deployed) c.self.inside.height c.self.inside.costs in
+    subst (λ (n : Seen). IfOk c.call.result (λ r. (IsKept r.outcome → ⊥) → after ≡ n)) c.self.view_is
+    (undone_still c.self.inside.costs es es c.self.inside.world.stack.top c.call.new.world.stack.top c.self.inside.height (Call c.in-Call.common c.in-Call.contract c.as_slice-in-Call.result.now c.as_slice-in-Call-2.result.now) c.call.result c.failed_entries_change_nothing.ensures c.self.invariant.sound
+    (call_steps c.self.inside.costs es c.self.inside.world.stack.top c.call.new.world.stack.top c.self.inside.height c.in-Call.common c.in-Call.contract c.as_slice-in-Call.result.now c.as_slice-in-Call-2.result.now c.call.result c.call.ensures.steps))

@@ -1,0 +1,61 @@
+#!/usr/bin/env bash
+# Checks sources of rising size under the unit table: a function with a long body, many small functions that call the one
+# before, many constants, nests nearly as deep as brackets may be, and contracts that call the one before. Prints instructions
+# for each unit, from the difference of two sizes, by callgrind; without valgrind, nanoseconds for each. Where the numbers of a
+# row are flat the work is linear. Run by hand; python3 measures.
+set -eu
+cd "$(dirname "$0")"
+../clarity call ../examples/inc.clar add1 41 >/dev/null
+PYTHONDONTWRITEBYTECODE=1 python3 - <<'PYTHON'
+import os
+import tempfile
+
+from measure import instructions, run
+
+CHECK = ["check", "../examples/unit.json", "SP000000000000000000002Q6VF78"]
+STEP = "(define-private (g{0} (x uint)) (let ((a (+ x u1)) (b (* a u2))) (if (> a b) (g{1} a) (- b a))))\n"
+
+
+def body(count):
+    return ["(define-read-only (f (x int)) (+" + " (* x 2)" * count + "))"]
+
+
+def functions(count):
+    return ["(define-private (g0 (x uint)) x)\n" + "".join(STEP.format(i, i - 1 if i % 50 else 0) for i in range(1, count))]
+
+
+def constants(count):
+    return ["".join(f"(define-constant c{i} (list {i} {i + 1}))\n" for i in range(count))]
+
+
+def nests(count):
+    return ["".join(f"(define-read-only (f{i} (x int)) {'(+ x ' * 60}1{')' * 60})\n" for i in range(count))]
+
+
+def contracts(count):
+    inner = lambda i: f"(contract-call? .c{i - 1} f (+ x 1))" if i % 50 else "(+ x 1)"
+    return [f"(define-read-only (f (x int)) {inner(i)})\n" for i in range(count)]
+
+
+def cost(sources):
+    with tempfile.TemporaryDirectory() as folder:
+        paths = []
+        for i, source in enumerate(sources):
+            paths.append(os.path.join(folder, f"c{i}.clar"))
+            with open(paths[-1], "w") as file:
+                file.write(source)
+        counted = instructions([*CHECK, *paths], 0, "deploy-bound ")
+        if counted is not None:
+            return counted
+        return min(run([*CHECK, *paths], 0, "deploy-bound ")[0] for _ in range(5)) * 1e9
+
+
+print(f"{'unit':20} {'sizes':>18} {'for each unit':>24}")
+ROWS = [("product in a body", body, 1000), ("function", functions, 250), ("constant", constants, 500),
+        ("function of 60 sums", nests, 50), ("contract", contracts, 25)]
+for name, sources, first in ROWS:
+    sizes = [first, 2 * first, 4 * first]
+    costs = [cost(sources(size)) for size in sizes]
+    each = [(costs[i + 1] - costs[i]) / (sizes[i + 1] - sizes[i]) for i in range(2)]
+    print(f"{name:20} {'/'.join(map(str, sizes)):>18} {each[0]:12.0f} {each[1]:11.0f}", flush=True)
+PYTHON

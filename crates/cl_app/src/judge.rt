@@ -1,0 +1,165 @@
+//! Sources one after another, each after those before it that were accepted.
+ghost use Rattle.std.specs.Prelude.{◌≡◌, ◌≢◌, [], None, Some, IfOk, filter_map};
+ghost use Rattle.cl_costs.specs.Tables.{function_of};
+ghost use Rattle.cl_contracts.specs.Seen.{AreIndexed, IsIndexed, contract_under};
+ghost use Rattle.cl_report.specs.Checks.{accepted_lines, refused_line};
+ghost use Rattle.cl_app.specs.Checked.{IsReport};
+ghost use Rattle.cl_app.specs.Checking.{type_returned, AreApart, IsBounded, IsChecked, IsKept, Judges};
+ghost use Rattle.cl_app.specs.Reply.{answer_of};
+ghost use Rattle.cl_app.specs.Top.{IsOwnStatus};
+
+use crate::pieces::Reply;
+use crate::sources::Source;
+use cl_bound::bound;
+use cl_check::check;
+use cl_code::Definition;
+use cl_contracts::{Checked, Contract, Deployed, what_callers_know};
+use cl_costs::CostTable;
+use cl_report::{accepted_lines, refused_line};
+use cl_sexpr::Refusal;
+use cl_tx::{Bounds, SourceRefusal};
+use cl_types::{Fault, NoMemory, SizedTy};
+use indexmap::IndexMap;
+use std::alloc::Global;
+
+/// What becomes of a source, with its lines.
+#[derive(Drop)]
+pub(crate) enum Judged {
+    Accepted(Vec<u8>),
+    Refused(Vec<u8>),
+}
+
+/// The type that each function returns, in the order of the text.
+fn types_of(alloc: Global, definitions: &[Definition]) -> Result<Vec<SizedTy>, NoMemory>
+    ensures { IfOk result (λ types. types.items ≡ filter_map type_returned definitions.now) }
+{
+    let mut types = Vec::new(alloc);
+    for definition in definitions {
+        if let Definition::Function(function) = definition {
+            types.push(function.returns.copy(alloc)?)?;
+        }
+    }
+    Ok(types)
+}
+
+/// The lines of an accepted contract.
+fn accepted_text(alloc: Global, checked: &Checked, bounds: Bounds) -> Result<Vec<u8>, NoMemory>
+    ensures { IfOk result (λ text. text.items ≡ accepted_lines checked.now.principal (Some bounds) (filter_map type_returned checked.now.definitions.items)) }
+{
+    let types = types_of(alloc, &checked.definitions)?;
+    accepted_lines(alloc, &checked.principal, &Some(bounds), &types)
+}
+
+/// The line of a source that breaks a rule.
+fn refused_text(alloc: Global, source: &Source, refusal: Refusal) -> Result<Vec<u8>, NoMemory>
+    ensures { IfOk result (λ text. text.items ≡ refused_line source.now.principal (record { rule = refusal.rule; span = refusal.span; names = refusal.names.items })) }
+{
+    refused_line(alloc, &source.principal, &SourceRefusal::new(refusal))
+}
+
+/// Puts a contract behind the others. No constant has a value here: nothing is evaluated.
+fn keep(alloc: Global, deployed: &mut Deployed, checked: Checked) -> Result<(), NoMemory>
+    requires indexed { AreIndexed deployed.old }
+    requires names { IsIndexed checked }
+    requires new { contract_under checked.principal deployed.old.contracts.entries ≡ None }
+    ensures kept { IfOk result (λ _. IsKept deployed.old.contracts.entries checked deployed.new.contracts.entries) }
+    ensures indexed { IfOk result (λ _. AreIndexed deployed.new) }
+{
+    deployed.reserve()?;
+    deployed.add(Contract {
+        checked,
+        constants: IndexMap::new(alloc),
+    });
+    Ok(())
+}
+
+/// Keeps a contract whose bounds are within the limit.
+fn accept(
+    alloc: Global,
+    deployed: &mut Deployed,
+    source: &Source,
+    checked: Checked,
+    bounds: Bounds,
+    costs: &CostTable,
+) -> Result<Judged, NoMemory>
+    requires indexed { AreIndexed deployed.old }
+    requires new { contract_under source.now.principal deployed.old.contracts.entries ≡ None }
+    requires checked { IsChecked deployed.old.contracts.entries source.now checked }
+    requires bounded { IsBounded (function_of costs.now) deployed.old.contracts.entries checked bounds }
+    ensures judged { IfOk result (λ judged. Judges (function_of costs.now) deployed.old.contracts.entries source.now judged deployed.new.contracts.entries) }
+    ensures indexed { IfOk result (λ _. AreIndexed deployed.new) }
+{
+    what_callers_know();
+    let text = accepted_text(alloc, &checked, bounds)?;
+    keep(alloc, deployed, checked)?;
+    Ok(Judged::Accepted(text))
+}
+
+/// Judges a contract by its bounds.
+fn judge_bounds(
+    alloc: Global,
+    deployed: &mut Deployed,
+    source: &Source,
+    checked: Checked,
+    costs: &CostTable,
+) -> Result<Judged, NoMemory>
+    requires indexed { AreIndexed deployed.old }
+    requires new { contract_under source.now.principal deployed.old.contracts.entries ≡ None }
+    requires checked { IsChecked deployed.old.contracts.entries source.now checked }
+    ensures judged { IfOk result (λ judged. Judges (function_of costs.now) deployed.old.contracts.entries source.now judged deployed.new.contracts.entries) }
+    ensures indexed { IfOk result (λ _. AreIndexed deployed.new) }
+{
+    match bound(alloc, &checked, deployed, costs) {
+        Ok(bounds) => accept(alloc, deployed, source, checked, bounds, costs),
+        Err(Fault::Refused(refusal)) => {
+            Ok(Judged::Refused(refused_text(alloc, source, refusal)?))
+        }
+        Err(Fault::NoMemory) => Err(NoMemory),
+    }
+}
+
+/// Judges a source after the contracts before it, and keeps its contract where it is accepted.
+fn judge(
+    alloc: Global,
+    deployed: &mut Deployed,
+    source: &Source,
+    costs: &CostTable,
+) -> Result<Judged, NoMemory>
+    requires indexed { AreIndexed deployed.old }
+    requires new { contract_under source.now.principal deployed.old.contracts.entries ≡ None }
+    ensures judged { IfOk result (λ judged. Judges (function_of costs.now) deployed.old.contracts.entries source.now judged deployed.new.contracts.entries) }
+    ensures indexed { IfOk result (λ _. AreIndexed deployed.new) }
+{
+    match check(alloc, deployed, &source.principal, source.text.as_slice()) {
+        Ok(checked) => judge_bounds(alloc, deployed, source, checked, costs),
+        Err(Fault::Refused(refusal)) => {
+            Ok(Judged::Refused(refused_text(alloc, source, refusal)?))
+        }
+        Err(Fault::NoMemory) => Err(NoMemory),
+    }
+}
+
+/// The report of sources, a piece for each, up to the first that is refused.
+pub(crate) fn report(
+    alloc: Global,
+    sources: &[Source],
+    costs: &CostTable,
+) -> Result<Reply, NoMemory>
+    requires apart { AreApart sources.now }
+    ensures answer { IfOk result (λ reply. IsReport (function_of costs.now) [] sources.now (answer_of reply)) }
+    ensures status { IfOk result (λ reply. IsOwnStatus reply.status × (reply.status ≢ 2)) }
+{
+    let mut deployed = Deployed::new(alloc);
+    let mut pieces = Vec::new(alloc);
+    for source in sources {
+        let judged = judge(alloc, &mut deployed, source, costs)?;
+        match judged {
+            Judged::Accepted(text) => pieces.push(text)?,
+            Judged::Refused(text) => {
+                pieces.push(text)?;
+                return Ok(Reply { pieces, status: 6 });
+            }
+        }
+    }
+    Ok(Reply { pieces, status: 0 })
+}

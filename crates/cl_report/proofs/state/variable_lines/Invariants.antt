@@ -1,8 +1,0 @@
-use Rattle.std.proofs.Common.{take}
-use Rattle.std.specs.Prelude.{map}
-use Rattle.cl_report.specs.StateLines.{variable_line}
-use Rattle.cl_report.specs.LineSets.{IsSetOf}
-use Rattle.cl_report.proofs.state.variable_lines.Given as goal
-
-abbrev pub invariant-loop-row : goal.invariant-loop-row
-invariant-loop-row l = IsSetOf (map (λ r. variable_line r.0 r.1) (take l.row-index l.rows)) (map (λ line. line.items) l.lines.keys)
