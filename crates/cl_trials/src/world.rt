@@ -3,7 +3,7 @@ ghost use Rattle.std.specs.Prelude.{◌≡◌, true};
 ghost use Rattle.cl_events.specs.State.{State};
 ghost use Rattle.cl_state.specs.Deeds.{is_there};
 
-use cl_c32::{Address, Principal};
+use cl_c32::{Address, ContractName, Principal};
 use cl_events::EventKind;
 use cl_report::state_lines;
 use cl_state::{TokenAct, World, acts_have_answers};
@@ -12,17 +12,23 @@ use cl_types::Fault;
 use std::alloc::Global;
 use std::test::Fail;
 
-fn holder(version: u8) -> Principal {
-    let address = Address::new(version, &[1; 20]);
-    let contract = None;
-    Principal { address, contract }
+// a contract that is paid
+fn payee() -> Option<Principal> {
+    let address = Address::new(22, &[7; 20]);
+    let contract = ContractName::make(b"main")?;
+    Some(Principal {
+        address,
+        contract: Some(contract),
+    })
 }
 
 // A world with holders, of whom one is there twice.
 fn genesis(alloc: Global) -> Result<World, Fail> {
     let mut holders = Vec::new(alloc);
     for (version, amount) in [(22, 1_000), (26, 0), (26, u128::MAX - 1_000)] {
-        holders.push((holder(version), amount))?;
+        let address = Address::new(version, &[1; 20]);
+        let contract = None;
+        holders.push((Principal { address, contract }, amount))?;
     }
     Ok(World::genesis(holders)?)
 }
@@ -45,14 +51,15 @@ fn stx_sent(amount: u128, from: &Principal, to: &Principal) -> TokenAct
 }
 
 // Pays 300 of the 1,000 that a holder has, in a layer that has room, and then one more than are left.
-fn pays(world: &mut World) -> Result<bool, Fail> {
-    let payer = holder(22);
-    let payee = holder(20);
+fn pays(world: &mut World, payee: &Principal) -> Result<bool, Fail> {
+    let address = Address::new(22, &[1; 20]);
+    let contract = None;
+    let payer = Principal { address, contract };
     world.reserve_layer()?;
     world.push_layer()?;
     acts_have_answers();
-    let paid = world.token(stx_sent(300, &payer, &payee));
-    let refused = world.token(stx_sent(701, &payer, &payee));
+    let paid = world.token(stx_sent(300, &payer, payee));
+    let refused = world.token(stx_sent(701, &payer, payee));
     let is_refused = matches!(refused, Err(Fault::Refused(TokenRefusal::Code(1))));
     Ok(paid.is_ok() && is_refused && world.events().len() == 1 && world.moves().len() == 1)
 }
@@ -79,7 +86,10 @@ enum Trial {
 fn goes_well(alloc: Global, world: &mut World, trial: Trial) -> Result<bool, Fail> {
     match trial {
         Trial::Genesis => Ok(has_told_nothing(world)),
-        Trial::Pays => pays(world),
+        Trial::Pays => {
+            let payee = payee().ok_or("a contract")?;
+            pays(world, &payee)
+        }
         Trial::Lines => prints_its_lines(alloc, world),
     }
 }
