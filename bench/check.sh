@@ -51,8 +51,8 @@ def cost(sources):
 
 
 print(f"{'unit':20} {'sizes':>18} {'for each unit':>24}")
-ROWS = [("product in a body", body, 1000), ("function", functions, 250), ("constant", constants, 500),
-        ("function of 60 sums", nests, 50), ("contract", contracts, 25)]
+ROWS = [("product in a body", body, 4000), ("function", functions, 1000), ("constant", constants, 2500),
+        ("function of 60 sums", nests, 100), ("contract", contracts, 50)]
 for name, sources, first in ROWS:
     sizes = [first, 2 * first, 4 * first]
     costs = [cost(sources(size)) for size in sizes]
