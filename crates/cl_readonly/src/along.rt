@@ -61,8 +61,9 @@ fn note_at(
     }
 }
 
-/// The functions that write.
-fn functions_that_write(
+/// The names of the functions that write: the least set such that a function is in it whose body holds a native that writes,
+/// calls a function of the set, gives one to `map`, `filter` or `fold`, or calls a public function of another contract.
+pub fn functions_that_write(
     alloc: Global,
     deployed: &Deployed,
     checked: &Checked,

@@ -5,4 +5,4 @@ mod along;
 mod nodes;
 mod walk;
 
-pub use along::first_writing;
+pub use along::{first_writing, functions_that_write};
