@@ -25,5 +25,6 @@ pub mod References
 pub mod MatchShapes
 pub mod BoundPairs
 pub mod MatchNodes
+pub mod MatchCases
 pub mod UseNames
 pub mod UseShapes

@@ -4,13 +4,13 @@ ghost use Rattle.cl_types.specs.Sized.{IsSized};
 ghost use Rattle.cl_code.specs.Typed.{type_of};
 ghost use Rattle.cl_typing.specs.Branches.{optional_row, response_row};
 ghost use Rattle.cl_typing.specs.Verdicts.{ConcludesRow};
-ghost use Rattle.cl_judging.specs.Branching.{optional_part, response_parts};
+ghost use Rattle.cl_judging.specs.Branching.{optional_part, refusal, response_parts};
 
-use crate::max_len::single;
-use cl_sexpr::{Rule, Sexpr};
+use crate::node::broken;
+use cl_sexpr::{Break, Rule, Sexpr, Span};
 use cl_types::{Fault, NoMemory, SizedTy, Ty, TyKind};
 use cl_typing::{Checked, Concluded, conclude, fit, match_optional, match_response, types_of};
-use std::alloc::{AllocError, Global};
+use std::alloc::Global;
 
 fn sized(alloc: Global, part: &Ty) -> Result<SizedTy, NoMemory>
     requires { IsSized part.now }
@@ -86,19 +86,14 @@ pub(crate) fn five(items: &[Sexpr]) -> Option<(&Sexpr, &Sexpr, &Sexpr, &Sexpr, &
     }
 }
 
-/// Three parts.
-pub(crate) fn three(
-    alloc: Global,
-    first: Checked,
-    second: Checked,
-    third: Checked,
-) -> Result<Vec<Checked>, AllocError>
-    ensures { IfOk result (λ v. v.items ≡ first ∷ second ∷ third ∷ []) }
+/// The fault of a match of what is no optional, by what is found of its last expression.
+pub(crate) fn refusal(last: Result<Checked, Fault<Break>>, span: Span) -> Fault<Break>
+    ensures { result ≡ refusal last span }
 {
-    let mut parts = single(alloc, first)?;
-    parts.push(second)?;
-    parts.push(third)?;
-    Ok(parts)
+    match last {
+        Ok(_) => broken(Rule::ArgumentKind, span),
+        Err(fault) => fault,
+    }
 }
 
 /// The verdict on a match of an optional.

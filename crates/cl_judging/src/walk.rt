@@ -13,7 +13,7 @@ ghost use Rattle.cl_code.specs.Expression.{headed, word};
 ghost use Rattle.cl_code.specs.OpNames.{iteration_head, name_head};
 ghost use Rattle.cl_code.specs.Typed.{expression_of};
 ghost use Rattle.cl_typing.specs.Verdicts.{texts_of};
-ghost use Rattle.cl_judging.specs.Branching.{ChecksOptional, ChecksResponse};
+ghost use Rattle.cl_judging.specs.Branching.{AddsTwo, ChecksOptional, ChecksResponse};
 ghost use Rattle.cl_judging.specs.Seen.{shadowed_in, taken_in};
 ghost use Rattle.cl_judging.specs.Calls.{ChecksCall};
 ghost use Rattle.cl_judging.specs.LetWalk.{ChecksMore, ChecksBindings, ChecksLet, ChecksLetWith, exprs_of};
@@ -25,7 +25,7 @@ use crate::given::{given_by, missing};
 use crate::kinds::{Kind, has_enough, kind_of};
 use crate::leaves::check_name;
 use crate::literals::{ascii, buff, int, local, standing, uint, utf8};
-use crate::matches::{five, four, on_optional, on_response, part_of, parts_of, three};
+use crate::matches::{five, four, on_optional, on_response, part_of, parts_of, refusal};
 use crate::max_len::{on_max_len, single, uint_at};
 use crate::named::on_name;
 use crate::names::is_taken;
@@ -176,6 +176,7 @@ fn check_let_with(
     if !are_bindings(items) {
         return Err(broken(Rule::BadBinding, span));
     }
+    let bindings = bindings_in(alloc, items)?;
     let bound = count(scope);
     let mut founds = match check_bindings(alloc, ctx, scope, items) {
         Ok(founds) => founds,
@@ -186,7 +187,6 @@ fn check_let_with(
         Err(fault) => return Err(fault),
     }
     unbind(scope, bound);
-    let bindings = bindings_in(alloc, items)?;
     let concluded = on_bodies(alloc, items.len(), &founds);
     let op = Op::Let { head, at, bindings };
     finish(alloc, op, founds, concluded, span)
@@ -295,13 +295,13 @@ fn check_pairs(
     if stand_twice(alloc, &keys)? {
         return Err(broken(Rule::KeyTwice, span));
     }
+    let pairs = bindings_in(alloc, args)?;
     let exprs = bound_exprs(alloc, args)?;
     let parts = match check_each(alloc, ctx, scope, &exprs) {
         Ok(parts) => parts,
         Err(fault) => return Err(fault),
     };
     let concluded = on_tuple(alloc, &keys, &parts);
-    let pairs = bindings_in(alloc, args)?;
     finish(alloc, Op::TupleOf { head, pairs }, parts, concluded, span)
 }
 
@@ -365,6 +365,36 @@ fn check_branch(
     Ok(found)
 }
 
+/// Two more parts, the first with one more name.
+#[cycle(check)]
+fn check_cases(
+    alloc: Global,
+    ctx: &Context,
+    scope: &mut Scope,
+    founds: &mut Vec<Checked>,
+    name: Name,
+    ty: SizedTy,
+    some: &Sexpr,
+    none: &Sexpr,
+) -> Result<(), Fault<Break>>
+    requires small { tree_size some.now + tree_size none.now < 2 ^ 21 }
+    requires first { Fits some.now }
+    requires second { Fits none.now }
+    requires free { named_in name scope.old.entries ≡ None }
+    ensures found { AddsTwo ctx.now (bind_name name ty scope.old.entries) some.now scope.old.entries none.now founds.old.items founds.new.items result }
+    ensures kept { OnOk result (scope.new.entries ≡ scope.old.entries) }
+{
+    match check_branch(alloc, ctx, scope, name, ty, some) {
+        Ok(yes) => push(founds, yes)?,
+        Err(fault) => return Err(fault),
+    }
+    match check_expr(alloc, ctx, scope, none) {
+        Ok(no) => push(founds, no)?,
+        Err(fault) => return Err(fault),
+    }
+    Ok(())
+}
+
 /// A match of an optional, whose part has a name that is free.
 #[cycle(check)]
 fn check_optional(
@@ -391,26 +421,50 @@ fn check_optional(
         Ok(found) => found,
         Err(fault) => return Err(fault),
     };
-    let inner = part_of(alloc, &found)?;
-    let Some(ty) = inner else {
-        let _no = match check_expr(alloc, ctx, scope, none) {
-            Ok(no) => no,
-            Err(fault) => return Err(fault),
-        };
-        return Err(broken(Rule::ArgumentKind, span));
+    let Some(ty) = part_of(alloc, &found)? else {
+        return Err(refusal(check_expr(alloc, ctx, scope, none), span));
     };
-    let yes = match check_branch(alloc, ctx, scope, part.name, ty, some) {
-        Ok(yes) => yes,
+    let mut parts = single(alloc, found)?;
+    match check_cases(alloc, ctx, scope, &mut parts, part.name, ty, some, none) {
+        Ok(()) => {}
         Err(fault) => return Err(fault),
-    };
-    let no = match check_expr(alloc, ctx, scope, none) {
-        Ok(no) => no,
-        Err(fault) => return Err(fault),
-    };
-    let parts = three(alloc, found, yes, no)?;
+    }
     let concluded = on_optional(alloc, &parts);
     let op = Op::MatchOptional { head, part };
     finish(alloc, op, parts, concluded, span)
+}
+
+/// Two more parts, each with one more name.
+#[cycle(check)]
+fn check_both(
+    alloc: Global,
+    ctx: &Context,
+    scope: &mut Scope,
+    founds: &mut Vec<Checked>,
+    good: Name,
+    ok: SizedTy,
+    first: &Sexpr,
+    bad: Name,
+    err: SizedTy,
+    second: &Sexpr,
+) -> Result<(), Fault<Break>>
+    requires small { tree_size first.now + tree_size second.now < 2 ^ 21 }
+    requires one { Fits first.now }
+    requires two { Fits second.now }
+    requires good_free { named_in good scope.old.entries ≡ None }
+    requires bad_free { named_in bad scope.old.entries ≡ None }
+    ensures found { AddsTwo ctx.now (bind_name good ok scope.old.entries) first.now (bind_name bad err scope.old.entries) second.now founds.old.items founds.new.items result }
+    ensures kept { OnOk result (scope.new.entries ≡ scope.old.entries) }
+{
+    match check_branch(alloc, ctx, scope, good, ok, first) {
+        Ok(yes) => push(founds, yes)?,
+        Err(fault) => return Err(fault),
+    }
+    match check_branch(alloc, ctx, scope, bad, err, second) {
+        Ok(no) => push(founds, no)?,
+        Err(fault) => return Err(fault),
+    }
+    Ok(())
 }
 
 /// A match of a response, whose parts have names that are free.
@@ -440,19 +494,16 @@ fn check_response(
         Ok(found) => found,
         Err(fault) => return Err(fault),
     };
-    let inner = parts_of(alloc, &found)?;
-    let Some((ok, err)) = inner else {
+    let Some((ok, err)) = parts_of(alloc, &found)? else {
         return Err(broken(Rule::ArgumentKind, span));
     };
-    let yes = match check_branch(alloc, ctx, scope, good.name, ok, first) {
-        Ok(yes) => yes,
+    let mut parts = single(alloc, found)?;
+    match check_both(
+        alloc, ctx, scope, &mut parts, good.name, ok, first, bad.name, err, second,
+    ) {
+        Ok(()) => {}
         Err(fault) => return Err(fault),
-    };
-    let no = match check_branch(alloc, ctx, scope, bad.name, err, second) {
-        Ok(no) => no,
-        Err(fault) => return Err(fault),
-    };
-    let parts = three(alloc, found, yes, no)?;
+    }
     let concluded = on_response(alloc, &parts);
     let op = Op::MatchResponse { head, good, bad };
     finish(alloc, op, parts, concluded, span)
@@ -607,12 +658,12 @@ fn check_contract_call(
     if !has_as_many(rest, f) {
         return Err(broken(Rule::ArgumentCount, span));
     }
+    let callee = callee_of(alloc, f, contract.checked.source_length)?;
     let parts = match check_parts(alloc, ctx, scope, rest) {
         Ok(parts) => parts,
         Err(fault) => return Err(fault),
     };
     let concluded = on_callee(alloc, f, &parts);
-    let callee = callee_of(alloc, f, contract.checked.source_length)?;
     let op = Op::ContractCall {
         head,
         target,

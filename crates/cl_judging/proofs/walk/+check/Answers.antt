@@ -57,13 +57,15 @@ use Rattle.cl_judging.proofs.OwnNames.{tuple_own}
 use Rattle.cl_judging.proofs.References.{ref_length, ref_less, ref_at}
 use Rattle.cl_judging.proofs.TupleShapes.{parts_in, pairs_room, keyed_back, keys_count, parts_as_many, tuple_fails, tuple_found, tuple_whole, tuple_twice}
 use Rattle.cl_judging.proofs.BoundPairs.{unbound, first_free, second_free}
-use Rattle.cl_judging.proofs.MatchNodes.{three_few, three_fit, three_texts, optional_text, response_text, four_or_five, four_size, four_fit, five_size, five_fit}
+use Rattle.cl_judging.proofs.MatchNodes.{three_few, three_fit, optional_text, response_text, four_or_five, four_size, four_fit, five_size, five_fit}
+use Rattle.cl_judging.specs.Branching.{AddsTwo}
 use Rattle.cl_judging.proofs.OwnNames.{optional_own, response_own}
+use Rattle.cl_judging.proofs.MatchCases.{two_more, first_breaks, second_breaks, all_three, all_texts, optional_stops, optional_fails, optional_ends, response_fails, response_ends}
 use Rattle.cl_judging.proofs.Lets.{not_taken}
 use Rattle.cl_rules.specs.Context.{named_in}
 use Rattle.std.proofs.Common.{None}
 use Rattle.cl_sexpr.specs.declared.rule.Rule.TheVariants.{BadBinding}
-use Rattle.cl_judging.proofs.MatchShapes.{optional_taken, optional_input_fails, optional_none_fails, optional_odd, optional_some_fails, optional_last_fails, optional_found, response_taken, response_input_fails, response_odd, response_good_fails, response_bad_fails, response_found, match_whole, optional_no_name, response_no_name}
+use Rattle.cl_judging.proofs.MatchShapes.{optional_taken, optional_input_fails, response_taken, response_input_fails, response_odd, match_whole, optional_no_name, response_no_name}
 use Rattle.std.proofs.Common.{filter_map}
 use Rattle.std.proofs.lemmas.Bool.{leb-true}
 use Rattle.cl_forms.specs.Shapes.{binding_of}
@@ -442,64 +444,104 @@ check_branch-returns-clause-kept t c = unbound c.args.scope.now.entries c.check_
 pub check_optional-returns-in-Err-clause-found : goal.check_optional-returns-in-Err-clause-found
 check_optional-returns-in-Err-clause-found t c = optional_input_fails c.args.ctx.now c.args.scope.now.entries c.args.input.now c.args.part c.args.some.now c.args.none.now c.args.span false (sym c.requires.free) refl c.in-Err.fault c.in-Err.ensures.found
 
-pub check_optional-returns-in-Err-check_expr-clause-found : goal.check_optional-returns-in-Err-check_expr-clause-found
-check_optional-returns-in-Err-check_expr-clause-found t c = optional_none_fails c.args.ctx.now c.args.scope.now.entries c.args.input.now c.args.part c.args.some.now c.args.none.now c.args.span false (sym c.requires.free) refl c.in-Ok.found c.in-Ok.ensures.text c.in-Ok.ensures.found c.in-Err-check_expr.fault (sym c.in_default.is ∙ c.in_ok-inner.ensures) (subst (λ (N : Names). Checks c.args.ctx.now N c.args.none.now (Err c.in-Err-check_expr.fault)) c.in-Ok.ensures.kept c.in-Err-check_expr.ensures.found)
-
 pub check_optional-returns-in_default-clause-found : goal.check_optional-returns-in_default-clause-found
-check_optional-returns-in_default-clause-found t c = optional_odd c.args.ctx.now c.args.scope.now.entries c.args.input.now c.args.part c.args.some.now c.args.none.now c.args.span false (sym c.requires.free) refl c.in-Ok.found c.in-Ok.ensures.text c.in-Ok.ensures.found c.in-Ok-check_expr.no c.broken.result (sym c.in_default.is ∙ c.in_ok-inner.ensures) c.in-Ok-check_expr.ensures.text (subst (λ (N : Names). Checks c.args.ctx.now N c.args.none.now (Ok c.in-Ok-check_expr.no)) c.in-Ok.ensures.kept c.in-Ok-check_expr.ensures.found) c.broken.ensures
+check_optional-returns-in_default-clause-found t c = optional_stops c.args.ctx.now c.args.scope.now.entries c.args.input.now c.args.part c.args.some.now c.args.none.now c.args.span c.requires.free c.in-Ok.found c.in-Ok.ensures.text c.in-Ok.ensures.found c.refusal.result c.check_expr-in_default.result (sym c.in_default.is ∙ c.in_ok-ty.ensures) (subst (λ (N : Names). Checks c.args.ctx.now N c.args.none.now c.check_expr-in_default.result) c.in-Ok.ensures.kept c.check_expr-in_default.ensures.found) c.check_expr-in_default.ensures.text c.refusal.ensures
 
-pub check_optional-check_branch-requires : goal.check_optional-check_branch-requires
-check_optional-check_branch-requires t c = (omega (arith, c.decreases), (omega (arith, c.requires.small), (c.requires.second, subst (λ (N : Names). named_in c.args.part.name N ≡ None) (sym c.in-Ok.ensures.kept) (not_taken c.args.ctx.now c.args.scope.now.entries c.args.part.name c.requires.free))))
+pub check_optional-check_cases-requires : goal.check_optional-check_cases-requires
+check_optional-check_cases-requires t c = (omega (arith, c.decreases), (omega (arith, c.requires.small), (c.requires.second, (c.requires.third, subst (λ (N : Names). named_in c.args.part.name N ≡ None) (sym c.in-Ok.ensures.kept) (not_taken c.args.ctx.now c.args.scope.now.entries c.args.part.name c.requires.free)))))
 
-pub check_optional-returns-in-Err-check_branch-clause-found : goal.check_optional-returns-in-Err-check_branch-clause-found
-check_optional-returns-in-Err-check_branch-clause-found t c = optional_some_fails c.args.ctx.now c.args.scope.now.entries c.args.input.now c.args.part c.args.some.now c.args.none.now c.args.span false (sym c.requires.free) refl c.in-Ok.found c.in-Ok.ensures.text c.in-Ok.ensures.found c.in-Some.ty (sym c.in-Some.is ∙ c.in_ok-inner.ensures) c.in-Err-check_branch.fault (subst (λ (N : Names). Checks c.args.ctx.now (bind c.args.part.name c.in-Some.ty N) c.args.some.now (Err c.in-Err-check_branch.fault)) c.in-Ok.ensures.kept c.in-Err-check_branch.ensures.found)
-
-pub check_optional-returns-in-Err-check_expr-2-clause-found : goal.check_optional-returns-in-Err-check_expr-2-clause-found
-check_optional-returns-in-Err-check_expr-2-clause-found t c = optional_last_fails c.args.ctx.now c.args.scope.now.entries c.args.input.now c.args.part c.args.some.now c.args.none.now c.args.span false (sym c.requires.free) refl c.in-Ok.found c.in-Ok.ensures.text c.in-Ok.ensures.found c.in-Some.ty (sym c.in-Some.is ∙ c.in_ok-inner.ensures) c.in-Ok-check_branch.yes c.in-Ok-check_branch.ensures.text (subst (λ (N : Names). Checks c.args.ctx.now (bind c.args.part.name c.in-Some.ty N) c.args.some.now (Ok c.in-Ok-check_branch.yes)) c.in-Ok.ensures.kept c.in-Ok-check_branch.ensures.found) c.in-Err-check_expr-2.fault (subst (λ (N : Names). Checks c.args.ctx.now N c.args.none.now (Err c.in-Err-check_expr-2.fault)) (c.in-Ok-check_branch.ensures.kept ∙ c.in-Ok.ensures.kept) c.in-Err-check_expr-2.ensures.found)
+pub check_optional-returns-in-Err-check_cases-clause-found : goal.check_optional-returns-in-Err-check_cases-clause-found
+check_optional-returns-in-Err-check_cases-clause-found t c = optional_fails c.args.ctx.now c.args.scope.now.entries c.args.input.now c.args.part c.args.some.now c.args.none.now c.args.span c.requires.free c.in-Ok.found c.in-Ok.ensures.text c.in-Ok.ensures.found c.in-Some.ty (sym c.in-Some.is ∙ c.in_ok-ty.ensures) c.in_ok-parts.parts.items c.check_cases.new.founds.items c.in-Err-check_cases.fault (subst (λ (N : Names). AddsTwo c.args.ctx.now (bind c.args.part.name c.in-Some.ty N) c.args.some.now N c.args.none.now c.in_ok-parts.parts.items c.check_cases.new.founds.items (Err c.in-Err-check_cases.fault)) c.in-Ok.ensures.kept c.in-Err-check_cases.ensures.found)
 
 pub check_optional-finish-requires : goal.check_optional-finish-requires
-check_optional-finish-requires t c = record {
-  few = three_few c.in_ok-parts.parts.items c.in-Ok.found c.in-Ok-check_branch.yes c.in-Ok-check_expr-2.no c.in_ok-parts.ensures;
-  fit = three_fit c.in_ok-parts.parts.items c.in-Ok.found c.in-Ok-check_branch.yes c.in-Ok-check_expr-2.no c.in_ok-parts.ensures;
-  named = optional_own c.args.head c.args.part;
-}
+check_optional-finish-requires t c =
+    let cases = c.in-Ok-check_cases.ensures.found in
+    let three = all_three c.args.ctx.now (bind c.args.part.name c.in-Some.ty c.check_expr.new.scope.entries) c.args.some.now c.check_expr.new.scope.entries c.args.none.now c.args.input.now c.in-Ok.found c.in_ok-parts.parts.items c.check_cases.new.founds.items c.in-Ok-check_cases.field-0 c.in-Ok.ensures.text c.in_ok-parts.ensures c.in-Ok-check_cases.ensures.found in
+    record {
+      few = three_few c.check_cases.new.founds.items c.in-Ok.found cases.0 cases.1 three;
+      fit = three_fit c.check_cases.new.founds.items c.in-Ok.found cases.0 cases.1 three;
+      named = optional_own c.args.head c.args.part;
+    }
 
 pub check_optional-returns-clause-found : goal.check_optional-returns-clause-found
-check_optional-returns-clause-found t c = optional_found c.args.ctx.now c.args.scope.now.entries c.args.input.now c.args.part c.args.some.now c.args.none.now c.args.span false (sym c.requires.free) refl c.in-Ok.found c.in-Ok.ensures.text c.in-Ok.ensures.found c.in-Some.ty (sym c.in-Some.is ∙ c.in_ok-inner.ensures) c.in-Ok-check_branch.yes c.in-Ok-check_branch.ensures.text (subst (λ (N : Names). Checks c.args.ctx.now (bind c.args.part.name c.in-Some.ty N) c.args.some.now (Ok c.in-Ok-check_branch.yes)) c.in-Ok.ensures.kept c.in-Ok-check_branch.ensures.found) c.in-Ok-check_expr-2.no c.in_ok-parts.parts.items c.on_optional-concluded.result c.finish.result c.in-Ok-check_expr-2.ensures.text (subst (λ (N : Names). Checks c.args.ctx.now N c.args.none.now (Ok c.in-Ok-check_expr-2.no)) (c.in-Ok-check_branch.ensures.kept ∙ c.in-Ok.ensures.kept) c.in-Ok-check_expr-2.ensures.found) c.in_ok-parts.ensures (rw c.deref.ensures.value at c.on_optional-concluded.ensures) c.finish.ensures.found
+check_optional-returns-clause-found t c =
+    let cases = subst (λ (N : Names). AddsTwo c.args.ctx.now (bind c.args.part.name c.in-Some.ty N) c.args.some.now N c.args.none.now c.in_ok-parts.parts.items c.check_cases.new.founds.items (Ok c.in-Ok-check_cases.field-0)) c.in-Ok.ensures.kept c.in-Ok-check_cases.ensures.found in
+    optional_ends c.args.ctx.now c.args.scope.now.entries c.args.input.now c.args.part c.args.some.now c.args.none.now c.args.span c.requires.free c.in-Ok.found c.in-Ok.ensures.text c.in-Ok.ensures.found c.in-Some.ty (sym c.in-Some.is ∙ c.in_ok-ty.ensures) c.in_ok-parts.parts.items c.check_cases.new.founds.items c.in-Ok-check_cases.field-0 c.in_ok-parts.ensures cases c.on_optional-concluded.result c.finish.result (rw c.deref.ensures.value at c.on_optional-concluded.ensures) c.finish.ensures.found
 
 pub check_optional-returns-clause-text : goal.check_optional-returns-clause-text
-check_optional-returns-clause-text t c = text_by c.finish.result _ (headed (codes "match") c.args.head (c.args.input.now ∷ word c.args.part ∷ c.args.some.now ∷ c.args.none.now ∷ []) c.args.span) c.finish.ensures.text (optional_text c.args.head c.args.span c.args.part c.args.input.now c.args.some.now c.args.none.now (texts_of c.in_ok-parts.parts.items) (three_texts c.in_ok-parts.parts.items c.in-Ok.found c.in-Ok-check_branch.yes c.in-Ok-check_expr-2.no c.in_ok-parts.ensures c.args.input.now c.args.some.now c.args.none.now c.in-Ok.ensures.text c.in-Ok-check_branch.ensures.text c.in-Ok-check_expr-2.ensures.text))
+check_optional-returns-clause-text t c = text_by c.finish.result _ (headed (codes "match") c.args.head (c.args.input.now ∷ word c.args.part ∷ c.args.some.now ∷ c.args.none.now ∷ []) c.args.span) c.finish.ensures.text (optional_text c.args.head c.args.span c.args.part c.args.input.now c.args.some.now c.args.none.now (texts_of c.check_cases.new.founds.items) (all_texts c.args.ctx.now (bind c.args.part.name c.in-Some.ty c.check_expr.new.scope.entries) c.args.some.now c.check_expr.new.scope.entries c.args.none.now c.args.input.now c.in-Ok.found c.in_ok-parts.parts.items c.check_cases.new.founds.items c.in-Ok-check_cases.field-0 c.in-Ok.ensures.text c.in_ok-parts.ensures c.in-Ok-check_cases.ensures.found))
+
+pub check_cases-check_branch-requires : goal.check_cases-check_branch-requires
+check_cases-check_branch-requires t c = (omega (arith, c.decreases), (omega (arith, c.requires.small), (c.requires.first, c.requires.free)))
+
+pub check_cases-returns-in-Err-clause-found : goal.check_cases-returns-in-Err-clause-found
+check_cases-returns-in-Err-clause-found t c = first_breaks _ _ _ _ _ c.args.founds.now.items c.args.founds.now.items c.in-Err.fault c.in-Err.ensures.found
+
+pub check_cases-returns-in-Err-check_expr-clause-found : goal.check_cases-returns-in-Err-check_expr-clause-found
+check_cases-returns-in-Err-check_expr-clause-found t c = second_breaks _ _ _ _ _ c.args.founds.now.items c.args.founds.now.items c.in-Ok.yes c.in-Err-check_expr.fault c.in-Ok.ensures.text c.in-Ok.ensures.found (subst (λ (N : Names). Checks c.args.ctx.now N c.args.none.now (Err c.in-Err-check_expr.fault)) c.in-Ok.ensures.kept c.in-Err-check_expr.ensures.found)
+
+pub check_cases-returns-clause-found : goal.check_cases-returns-clause-found
+check_cases-returns-clause-found t c = (c.in-Ok.yes, c.in-Ok-check_expr.no, two_more _ _ _ _ _ c.in_ok-push-in-Ok.ensures c.in_ok-push-in-Ok-check_expr.ensures, c.in-Ok.ensures.text, c.in-Ok.ensures.found, c.in-Ok-check_expr.ensures.text, subst (λ (N : Names). Checks c.args.ctx.now N c.args.none.now (Ok c.in-Ok-check_expr.no)) c.in-Ok.ensures.kept c.in-Ok-check_expr.ensures.found)
 
 pub check_response-returns-in-Err-clause-found : goal.check_response-returns-in-Err-clause-found
 check_response-returns-in-Err-clause-found t c = response_input_fails c.args.ctx.now c.args.scope.now.entries c.args.input.now c.args.good c.args.first.now c.args.bad c.args.second.now c.args.span false (sym c.requires.free) refl c.in-Err.fault c.in-Err.ensures.found
 
 pub check_response-returns-in_default-clause-found : goal.check_response-returns-in_default-clause-found
-check_response-returns-in_default-clause-found t c = response_odd c.args.ctx.now c.args.scope.now.entries c.args.input.now c.args.good c.args.first.now c.args.bad c.args.second.now c.args.span false (sym c.requires.free) refl c.in-Ok.found c.in-Ok.ensures.text c.in-Ok.ensures.found c.broken.result (sym c.in_default.is ∙ c.in_ok-inner.ensures) c.broken.ensures
+check_response-returns-in_default-clause-found t c = response_odd c.args.ctx.now c.args.scope.now.entries c.args.input.now c.args.good c.args.first.now c.args.bad c.args.second.now c.args.span false (sym c.requires.free) refl c.in-Ok.found c.in-Ok.ensures.text c.in-Ok.ensures.found c.broken.result (sym c.in_default.is ∙ c.in_ok-ok.ensures) c.broken.ensures
 
-pub check_response-check_branch-requires : goal.check_response-check_branch-requires
-check_response-check_branch-requires t c = (omega (arith, c.decreases), (omega (arith, c.requires.small), (c.requires.two, subst (λ (N : Names). named_in c.args.good.name N ≡ None) (sym c.in-Ok.ensures.kept) (first_free c.args.ctx.now c.args.scope.now.entries c.args.good.name c.args.bad.name c.requires.free))))
+pub check_response-check_both-requires : goal.check_response-check_both-requires
+check_response-check_both-requires t c = (
+  omega (arith, c.decreases),
+  (
+    omega (arith, c.requires.small),
+    (
+      c.requires.two,
+      (
+        c.requires.three,
+        (
+          subst (λ (N : Names). named_in c.args.good.name N ≡ None) (sym c.in-Ok.ensures.kept) (first_free c.args.ctx.now c.args.scope.now.entries c.args.good.name c.args.bad.name c.requires.free),
+          subst (λ (N : Names). named_in c.args.bad.name N ≡ None) (sym c.in-Ok.ensures.kept) (second_free c.args.ctx.now c.args.scope.now.entries c.args.good.name c.args.bad.name c.requires.free),
+        ),
+      ),
+    ),
+  ),
+)
 
-pub check_response-returns-in-Err-check_branch-clause-found : goal.check_response-returns-in-Err-check_branch-clause-found
-check_response-returns-in-Err-check_branch-clause-found t c = response_good_fails c.args.ctx.now c.args.scope.now.entries c.args.input.now c.args.good c.args.first.now c.args.bad c.args.second.now c.args.span false (sym c.requires.free) refl c.in-Ok.found c.in-Ok.ensures.text c.in-Ok.ensures.found c.in-Some.ok c.in-Some.err (sym c.in-Some.is ∙ c.in_ok-inner.ensures) c.in-Err-check_branch.fault (subst (λ (N : Names). Checks c.args.ctx.now (bind c.args.good.name c.in-Some.ok N) c.args.first.now (Err c.in-Err-check_branch.fault)) c.in-Ok.ensures.kept c.in-Err-check_branch.ensures.found)
-
-pub check_response-check_branch-requires-2 : goal.check_response-check_branch-requires-2
-check_response-check_branch-requires-2 t c = (omega (arith, c.decreases), (omega (arith, c.requires.small), (c.requires.three, subst (λ (N : Names). named_in c.args.bad.name N ≡ None) (sym (c.in-Ok-check_branch.ensures.kept ∙ c.in-Ok.ensures.kept)) (second_free c.args.ctx.now c.args.scope.now.entries c.args.good.name c.args.bad.name c.requires.free))))
-
-pub check_response-returns-in-Err-check_branch-2-clause-found : goal.check_response-returns-in-Err-check_branch-2-clause-found
-check_response-returns-in-Err-check_branch-2-clause-found t c = response_bad_fails c.args.ctx.now c.args.scope.now.entries c.args.input.now c.args.good c.args.first.now c.args.bad c.args.second.now c.args.span false (sym c.requires.free) refl c.in-Ok.found c.in-Ok.ensures.text c.in-Ok.ensures.found c.in-Some.ok c.in-Some.err (sym c.in-Some.is ∙ c.in_ok-inner.ensures) c.in-Ok-check_branch.yes c.in-Ok-check_branch.ensures.text (subst (λ (N : Names). Checks c.args.ctx.now (bind c.args.good.name c.in-Some.ok N) c.args.first.now (Ok c.in-Ok-check_branch.yes)) c.in-Ok.ensures.kept c.in-Ok-check_branch.ensures.found) c.in-Err-check_branch-2.fault (subst (λ (N : Names). Checks c.args.ctx.now (bind c.args.bad.name c.in-Some.err N) c.args.second.now (Err c.in-Err-check_branch-2.fault)) (c.in-Ok-check_branch.ensures.kept ∙ c.in-Ok.ensures.kept) c.in-Err-check_branch-2.ensures.found)
+pub check_response-returns-in-Err-check_both-clause-found : goal.check_response-returns-in-Err-check_both-clause-found
+check_response-returns-in-Err-check_both-clause-found t c = response_fails c.args.ctx.now c.args.scope.now.entries c.args.input.now c.args.good c.args.first.now c.args.bad c.args.second.now c.args.span c.requires.free c.in-Ok.found c.in-Ok.ensures.text c.in-Ok.ensures.found c.in-Some.ok c.in-Some.err (sym c.in-Some.is ∙ c.in_ok-ok.ensures) c.in_ok-parts.parts.items c.check_both.new.founds.items c.in-Err-check_both.fault (subst (λ (N : Names). AddsTwo c.args.ctx.now (bind c.args.good.name c.in-Some.ok N) c.args.first.now (bind c.args.bad.name c.in-Some.err N) c.args.second.now c.in_ok-parts.parts.items c.check_both.new.founds.items (Err c.in-Err-check_both.fault)) c.in-Ok.ensures.kept c.in-Err-check_both.ensures.found)
 
 pub check_response-finish-requires : goal.check_response-finish-requires
-check_response-finish-requires t c = record {
-  few = three_few c.in_ok-parts.parts.items c.in-Ok.found c.in-Ok-check_branch.yes c.in-Ok-check_branch-2.no c.in_ok-parts.ensures;
-  fit = three_fit c.in_ok-parts.parts.items c.in-Ok.found c.in-Ok-check_branch.yes c.in-Ok-check_branch-2.no c.in_ok-parts.ensures;
-  named = response_own c.args.head c.args.good c.args.bad;
-}
+check_response-finish-requires t c =
+    let cases = c.in-Ok-check_both.ensures.found in
+    let three = all_three c.args.ctx.now (bind c.args.good.name c.in-Some.ok c.check_expr.new.scope.entries) c.args.first.now (bind c.args.bad.name c.in-Some.err c.check_expr.new.scope.entries) c.args.second.now c.args.input.now c.in-Ok.found c.in_ok-parts.parts.items c.check_both.new.founds.items c.in-Ok-check_both.field-0 c.in-Ok.ensures.text c.in_ok-parts.ensures c.in-Ok-check_both.ensures.found in
+    record {
+      few = three_few c.check_both.new.founds.items c.in-Ok.found cases.0 cases.1 three;
+      fit = three_fit c.check_both.new.founds.items c.in-Ok.found cases.0 cases.1 three;
+      named = response_own c.args.head c.args.good c.args.bad;
+    }
 
 pub check_response-returns-clause-found : goal.check_response-returns-clause-found
-check_response-returns-clause-found t c = response_found c.args.ctx.now c.args.scope.now.entries c.args.input.now c.args.good c.args.first.now c.args.bad c.args.second.now c.args.span false (sym c.requires.free) refl c.in-Ok.found c.in-Ok.ensures.text c.in-Ok.ensures.found c.in-Some.ok c.in-Some.err (sym c.in-Some.is ∙ c.in_ok-inner.ensures) c.in-Ok-check_branch.yes c.in-Ok-check_branch.ensures.text (subst (λ (N : Names). Checks c.args.ctx.now (bind c.args.good.name c.in-Some.ok N) c.args.first.now (Ok c.in-Ok-check_branch.yes)) c.in-Ok.ensures.kept c.in-Ok-check_branch.ensures.found) c.in-Ok-check_branch-2.no c.in_ok-parts.parts.items c.on_response-concluded.result c.finish.result c.in-Ok-check_branch-2.ensures.text (subst (λ (N : Names). Checks c.args.ctx.now (bind c.args.bad.name c.in-Some.err N) c.args.second.now (Ok c.in-Ok-check_branch-2.no)) (c.in-Ok-check_branch.ensures.kept ∙ c.in-Ok.ensures.kept) c.in-Ok-check_branch-2.ensures.found) c.in_ok-parts.ensures (rw c.deref.ensures.value at c.on_response-concluded.ensures) c.finish.ensures.found
+check_response-returns-clause-found t c =
+    let cases = subst (λ (N : Names). AddsTwo c.args.ctx.now (bind c.args.good.name c.in-Some.ok N) c.args.first.now (bind c.args.bad.name c.in-Some.err N) c.args.second.now c.in_ok-parts.parts.items c.check_both.new.founds.items (Ok c.in-Ok-check_both.field-0)) c.in-Ok.ensures.kept c.in-Ok-check_both.ensures.found in
+    response_ends c.args.ctx.now c.args.scope.now.entries c.args.input.now c.args.good c.args.first.now c.args.bad c.args.second.now c.args.span c.requires.free c.in-Ok.found c.in-Ok.ensures.text c.in-Ok.ensures.found c.in-Some.ok c.in-Some.err (sym c.in-Some.is ∙ c.in_ok-ok.ensures) c.in_ok-parts.parts.items c.check_both.new.founds.items c.in-Ok-check_both.field-0 c.in_ok-parts.ensures cases c.on_response-concluded.result c.finish.result (rw c.deref.ensures.value at c.on_response-concluded.ensures) c.finish.ensures.found
 
 pub check_response-returns-clause-text : goal.check_response-returns-clause-text
-check_response-returns-clause-text t c = text_by c.finish.result _ (headed (codes "match") c.args.head (c.args.input.now ∷ word c.args.good ∷ c.args.first.now ∷ word c.args.bad ∷ c.args.second.now ∷ []) c.args.span) c.finish.ensures.text (response_text c.args.head c.args.span c.args.good c.args.bad c.args.input.now c.args.first.now c.args.second.now (texts_of c.in_ok-parts.parts.items) (three_texts c.in_ok-parts.parts.items c.in-Ok.found c.in-Ok-check_branch.yes c.in-Ok-check_branch-2.no c.in_ok-parts.ensures c.args.input.now c.args.first.now c.args.second.now c.in-Ok.ensures.text c.in-Ok-check_branch.ensures.text c.in-Ok-check_branch-2.ensures.text))
+check_response-returns-clause-text t c = text_by c.finish.result _ (headed (codes "match") c.args.head (c.args.input.now ∷ word c.args.good ∷ c.args.first.now ∷ word c.args.bad ∷ c.args.second.now ∷ []) c.args.span) c.finish.ensures.text (response_text c.args.head c.args.span c.args.good c.args.bad c.args.input.now c.args.first.now c.args.second.now (texts_of c.check_both.new.founds.items) (all_texts c.args.ctx.now (bind c.args.good.name c.in-Some.ok c.check_expr.new.scope.entries) c.args.first.now (bind c.args.bad.name c.in-Some.err c.check_expr.new.scope.entries) c.args.second.now c.args.input.now c.in-Ok.found c.in_ok-parts.parts.items c.check_both.new.founds.items c.in-Ok-check_both.field-0 c.in-Ok.ensures.text c.in_ok-parts.ensures c.in-Ok-check_both.ensures.found))
+
+pub check_both-check_branch-requires : goal.check_both-check_branch-requires
+check_both-check_branch-requires t c = (omega (arith, c.decreases), (omega (arith, c.requires.small), (c.requires.one, c.requires.good_free)))
+
+pub check_both-returns-in-Err-clause-found : goal.check_both-returns-in-Err-clause-found
+check_both-returns-in-Err-clause-found t c = first_breaks _ _ _ _ _ c.args.founds.now.items c.args.founds.now.items c.in-Err.fault c.in-Err.ensures.found
+
+pub check_both-check_branch-requires-2 : goal.check_both-check_branch-requires-2
+check_both-check_branch-requires-2 t c = (omega (arith, c.decreases), (omega (arith, c.requires.small), (c.requires.two, subst (λ (N : Names). named_in c.args.bad N ≡ None) (sym c.in-Ok.ensures.kept) c.requires.bad_free)))
+
+pub check_both-returns-in-Err-check_branch-clause-found : goal.check_both-returns-in-Err-check_branch-clause-found
+check_both-returns-in-Err-check_branch-clause-found t c = second_breaks _ _ _ _ _ c.args.founds.now.items c.args.founds.now.items c.in-Ok.yes c.in-Err-check_branch.fault c.in-Ok.ensures.text c.in-Ok.ensures.found (subst (λ (N : Names). Checks c.args.ctx.now (bind c.args.bad c.args.err N) c.args.second.now (Err c.in-Err-check_branch.fault)) c.in-Ok.ensures.kept c.in-Err-check_branch.ensures.found)
+
+pub check_both-returns-clause-found : goal.check_both-returns-clause-found
+check_both-returns-clause-found t c = (c.in-Ok.yes, c.in-Ok-check_branch.no, two_more _ _ _ _ _ c.in_ok-push-in-Ok.ensures c.in_ok-push-in-Ok-check_branch.ensures, c.in-Ok.ensures.text, c.in-Ok.ensures.found, c.in-Ok-check_branch.ensures.text, subst (λ (N : Names). Checks c.args.ctx.now (bind c.args.bad c.args.err N) c.args.second.now (Ok c.in-Ok-check_branch.no)) c.in-Ok.ensures.kept c.in-Ok-check_branch.ensures.found)
 
 pub check_match-returns-in_default-name_in-clause-found : goal.check_match-returns-in_default-name_in-clause-found
 check_match-returns-in_default-name_in-clause-found t c = match_whole c.args.ctx.now c.args.scope.now.entries c.args.args.now (c.in-Some.input.now ∷ c.in-Some.name.now ∷ c.in-Some.some.now ∷ c.in-Some.none.now ∷ []) c.args.span (Err c.broken.result) c.in-Some.ensures.some (optional_no_name c.args.ctx.now c.args.scope.now.entries c.args.span BadBinding c.broken.result c.broken.ensures c.in-Some.input.now c.in-Some.name.now c.in-Some.some.now c.in-Some.none.now c.in_default-name_in.ensures.none refl)

@@ -91,10 +91,16 @@ abbrev pub decreases-check_branch : goal.decreases-check_branch
 decreases-check_branch l = 4 * tree_size l.e.now + 1
 
 abbrev pub decreases-check_optional : goal.decreases-check_optional
-decreases-check_optional l = 4 * (tree_size l.input.now + tree_size l.some.now + tree_size l.none.now) + 2
+decreases-check_optional l = 4 * (tree_size l.input.now + tree_size l.some.now + tree_size l.none.now) + 3
+
+abbrev pub decreases-check_cases : goal.decreases-check_cases
+decreases-check_cases l = 4 * (tree_size l.some.now + tree_size l.none.now) + 2
 
 abbrev pub decreases-check_response : goal.decreases-check_response
-decreases-check_response l = 4 * (tree_size l.input.now + tree_size l.first.now + tree_size l.second.now) + 2
+decreases-check_response l = 4 * (tree_size l.input.now + tree_size l.first.now + tree_size l.second.now) + 3
+
+abbrev pub decreases-check_both : goal.decreases-check_both
+decreases-check_both l = 4 * (tree_size l.first.now + tree_size l.second.now) + 2
 
 abbrev pub decreases-check_match : goal.decreases-check_match
 decreases-check_match l = 4 * forest_size (forest l.args.now) + 3
