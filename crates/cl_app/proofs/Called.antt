@@ -2,9 +2,11 @@
 use Rattle.std.proofs.Common.{◌≡◌, ℕ, Bool, List, [], ◌++◌, IfOk, sym, ap, subst, ◌∙◌, append-nil}
 use Rattle.std.specs.Prelude.{Result}
 use Rattle.cl_types.specs.declared.fault.NoMemory.{NoMemory}
+use Rattle.cl_shapes.specs.declared.function.CostFn.{CostFn}
+use Rattle.cl_costs.specs.Tables.{function_of}
 use Rattle.cl_values.specs.Tree.{Tree}
-use Rattle.cl_tx.specs.declared.entry.Entry.{Entry}
-use Rattle.cl_tx.specs.Seen.{TxFileSeen}
+use Rattle.cl_file.specs.declared.entry.Entry.{Entry}
+use Rattle.cl_file.specs.Files.{FileSeen}
 use Rattle.cl_events.specs.State.{State}
 use Rattle.cl_tx.specs.Nodes.{NodeSeen}
 use Rattle.cl_engine.specs.Seen.{Seen}
@@ -26,8 +28,8 @@ is_report_of first second both answer are is =
     record {
       deployed = are.deployed;
       called = are.called;
-      after = are.reaches.node;
-      runs = are.reaches.runs;
+      after = are.after;
+      runs = are.runs;
       is =
           is
           ∙ ap (λ (end : End). record { bytes = lines_by end both.deployed.text.items both.called.text.items; status = status_of end both.called.end }) are.deployed_end
@@ -43,8 +45,8 @@ called_entries r source function given args first second one two same answers =
     let again : second ≡ call function args = two ∙ ap (λ (name : List ℕ). call name args) same in
     subst (λ (b : Entry). Answers (deployment source) b) again (subst (λ (a : Entry). Answers a second) one answers)
 
-pub is_run : (file : TxFileSeen) (state : Bool) (text state_text : List ℕ) (after : Seen) (answer : Answer) → Reports file.entries text after → IsStatePart state after.state state_text → answer ≡ record { bytes = text ++ state_text; status = 0 } → IsRun file state answer
-is_run file state text state_text after answer reports stated is = record {
+pub is_run : (table : List CostFn) (file : FileSeen) (state : Bool) (text state_text : List ℕ) (after : Seen) (answer : Answer) → Reports table file.genesis file.entries text after → IsStatePart state after.state state_text → answer ≡ record { bytes = text ++ state_text; status = 0 } → IsRun (function_of table) file state answer
+is_run table file state text state_text after answer reports stated is = record {
   results = reports.results;
   after = reports.reaches.node;
   runs = reports.reaches.runs;

@@ -1,5 +1,5 @@
 -- What is found of sources, one after another.
-use Rattle.std.proofs.Common.{◌≡◌, ◌⊎◌, inl, inr, ℕ, ◌+◌, ◌<◌, Bool, true, false, List, Vec, Global, [], ◌∷◌, ◌++◌, map, length, drop, get_or, not, Option, Some, None, refl, sym, ap, subst, ◌∙◌, append_assoc, append-nil}
+use Rattle.std.proofs.Common.{◌≡◌, inl, inr, ℕ, ◌+◌, ◌<◌, Bool, true, false, List, Vec, Global, [], ◌∷◌, ◌++◌, map, length, drop, get_or, not, Option, Some, None, refl, sym, ap, subst, ◌∙◌, append_assoc, append-nil}
 use Rattle.std.proofs.lemmas.List.{drop_more}
 use Rattle.std.proofs.lemmas.Grind.{flat_map-append}
 use Rattle.std.specs.Prelude.{filter_map, if◌then◌else◌, ◌&&◌, ◌||◌, nat_eq}
@@ -14,7 +14,7 @@ use Rattle.cl_sexpr.specs.declared.rule.Rule.TheVariants.{BoundTooLarge}
 use Rattle.cl_shapes.specs.declared.cost.Dimension.{Dimension}
 use Rattle.cl_rules.specs.Context.{CostTable, Known, same_principal, same_part}
 use Rattle.cl_rules.specs.FormRules.{Defined, nothing_defined}
-use Rattle.cl_rules.specs.Acceptance.{Accepted, FirstBreakOf, NoneWrites, TypedAs, in_bounds, in_deployment, known_of}
+use Rattle.cl_rules.specs.Acceptance.{FirstBreakOf, NoneWrites, TypedAs, in_bounds, in_deployment, known_of}
 use Rattle.cl_rules.specs.Laws.{IsFirstAboveLimit}
 use Rattle.cl_contracts.specs.declared.checked.Checked.{Checked}
 use Rattle.cl_contracts.specs.declared.contract.Contract.{Contract}
@@ -28,11 +28,11 @@ use Rattle.cl_tx.specs.Step.{told_of, return_of}
 use Rattle.cl_report.specs.Checks.{accepted_lines, refused_line}
 use Rattle.cl_app.specs.declared.sources.Source.{Source}
 use Rattle.cl_app.specs.Checked.{IsReport, accepted_answer, all_checked, refused_answer}
-use Rattle.cl_app.specs.Checking.{Contracts, IsAccepted, IsBounded, IsChecked, IsKept, IsRefused, AcceptedSoFar, AreApart, AreNew, AreOthers, behind, type_returned}
+use Rattle.cl_app.specs.Checking.{Contracts, IsAccepted, IsBounded, IsChecked, IsKept, IsRefused, AcceptedSoFar, AreApart, AreNew, AreOthers, behind}
 use Rattle.cl_app.specs.Reply.{bytes_of}
 use Rattle.cl_app.specs.Sources.{are_sources, contract_at, has_name, have_one_name, names_differ, source_name}
-use Rattle.cl_app.specs.Spelling.{Answer}
-use Rattle.cl_app.proofs.Returned.{standing_push, types_told}
+use Rattle.cl_engine.specs.Deploying.{type_returned}
+use Rattle.cl_engine.proofs.Knowing.{standing_push, types_told}
 
 -- ---- one source
 

@@ -1,11 +1,12 @@
 pub mod Reached
 pub mod Called
 pub mod Components
+pub mod SameTexts
 pub mod WordSources
 pub mod Returned
 pub mod Judged
 pub mod ReadSo
-pub mod CheckSo
+pub mod RunSo
 pub mod Once
 pub mod Arguments
 pub mod Spellings

@@ -9,6 +9,7 @@ use Rattle.cl_shapes.specs.declared.function.CostFn.{CostFn}
 use Rattle.cl_costs.specs.declared.refusal.CostRefusal.{CostRefusal}
 use Rattle.cl_costs.specs.CostFile.{table_of}
 use Rattle.cl_costs.specs.Tables.{function_of}
+use Rattle.cl_meaning.specs.Limits.{Costs}
 use Rattle.cl_rules.specs.Context.{CostTable, Known}
 use Rattle.cl_rules.specs.FormRules.{Defined}
 use Rattle.cl_rules.specs.Acceptance.{known_of}
@@ -17,10 +18,10 @@ use Rattle.cl_values.specs.Tree.{Tree}
 use Rattle.cl_text.specs.Parsed.{Outcome, Stands, Broken, NotALiteral, TooDeep, TooLarge, Parses}
 use Rattle.cl_events.specs.State.{State}
 use Rattle.cl_tx.specs.declared.outcome.TxResult.{TxResult}
-use Rattle.cl_tx.specs.declared.refusal.TxRefusal.TheVariants.{NotYet}
-use Rattle.cl_tx.specs.Seen.{TxFileSeen}
-use Rattle.cl_tx.specs.Readings.{Read}
-use Rattle.cl_tx.specs.Laws.{OneFile, OneRun}
+use Rattle.cl_file.specs.Files.{FileSeen}
+use Rattle.cl_file.specs.Paths.{Read}
+use Rattle.cl_file.specs.Laws.{OneFile}
+use Rattle.cl_tx.specs.Laws.{OneRun}
 use Rattle.cl_tx.specs.Nodes.{NodeSeen}
 use Rattle.cl_tx.specs.Step.{told_of}
 use Rattle.cl_report.specs.Lines.{report_from}
@@ -30,7 +31,7 @@ use Rattle.cl_app.specs.Words.{Command, Call, Run, Check, Value, Wire}
 use Rattle.cl_app.specs.Argument.{Arguments, before, from_word, Spell}
 use Rattle.cl_app.specs.Spelling.{Answer, wire_answer}
 use Rattle.cl_app.specs.Called.{deployment, call, called_answer, IsCalled}
-use Rattle.cl_app.specs.Ran.{IsStatePart, IsRun, IsRunOf, IsRan}
+use Rattle.cl_app.specs.Ran.{IsStatePart, IsRun, IsRunOf, IsRan, IsRanUnder, IsRunAnswer}
 use Rattle.cl_app.specs.Answer.{IsArgumentsAnswer, IsCallAnswer, IsAnswerTo, arguments_named}
 use Rattle.cl_app.specs.Checked.{IsAnswerUnder, IsCheckAnswer, IsReport, IsSourcesAnswer, Sources, accepted_answer, refused_answer, sources_under}
 use Rattle.cl_app.specs.FileAnswers.{IsAnswerByLength, IsFileAnswer, is_long}
@@ -73,7 +74,7 @@ called_same : OneRun → (function : List ℕ) (args : List Tree) (source : List
 called_same once function args source x y p q =
     let first = deployment source in
     let second = call function args in
-    let same : p.deployed ∷ p.called ∷ [] ≡ q.deployed ∷ q.called ∷ [] = (once unit_function (record { entries = first ∷ second ∷ [] }) (p.deployed ∷ p.called ∷ []) (q.deployed ∷ q.called ∷ []) p.after q.after p.runs q.runs).0 in
+    let same : p.deployed ∷ p.called ∷ [] ≡ q.deployed ∷ q.called ∷ [] = (once unit_function (record { genesis = []; entries = first ∷ second ∷ [] }) (p.deployed ∷ p.called ∷ []) (q.deployed ∷ q.called ∷ []) p.after q.after p.runs q.runs).0 in
     let deployed : p.deployed ≡ q.deployed = cc in
     let called : p.called ≡ q.called = cc in
     p.is ∙ ap (λ (r : TxResult). called_answer first second r p.called) deployed ∙ ap (called_answer first second q.deployed) called ∙ sym q.is
@@ -82,22 +83,31 @@ state_same : OneStateText → (state : Bool) (s : State) (a b : List ℕ) → Is
 state_same once true s a b p q = once s a b p q
 state_same once false s a b p q = p ∙ sym q
 
-run_same : OneOfEach → (file : TxFileSeen) (state : Bool) → OneAnswer (IsRun file state)
-run_same laws file state x y p q =
-    let both = laws.run unit_function file p.results q.results p.after q.after p.runs q.runs in
+run_same : OneOfEach → (costs : Costs) (file : FileSeen) (state : Bool) → OneAnswer (IsRun costs file state)
+run_same laws costs file state x y p q =
+    let both = laws.run costs file p.results q.results p.after q.after p.runs q.runs in
     let text : p.state_text ≡ q.state_text = state_same laws.state state q.after.state p.state_text q.state_text (subst (λ (n : NodeSeen). IsStatePart state n.state p.state_text) both.1 p.is_state) q.is_state in
     p.is
     ∙ ap (λ (rs : List TxResult). record { bytes = report_from 0 file.entries rs ++ p.state_text; status = 0 }) both.0
     ∙ ap (λ (t : List ℕ). record { bytes = report_from 0 file.entries q.results ++ t; status = 0 }) text
     ∙ sym q.is
 
-run_of_same : OneOfEach → (name : List ℕ) (state : Bool) (read : Read TxFileSeen) → OneAnswer (IsRunOf name state read)
-run_of_same laws name state (Ok file) x y p q = run_same laws file state x y p q
-run_of_same laws name state (Err NotYet) x y p q = p ∙ sym q
+run_of_same : OneOfEach → (costs : Costs) (name : List ℕ) (state : Bool) (read : Read FileSeen) → OneAnswer (IsRunOf costs name state read)
+run_of_same laws costs name state (Ok file) x y p q = run_same laws costs file state x y p q
+run_of_same laws costs name state (Err fault) x y p q = p ∙ sym q
 
-ran_same : OneOfEach → (name : List ℕ) (state : Bool) (bytes : List ℕ) → OneAnswer (IsRan name state bytes)
-ran_same laws name state bytes x y p q =
-    run_of_same laws name state q.0 x y (subst (λ (read : Read TxFileSeen). IsRunOf name state read x) (laws.file bytes p.0 q.0 p.1 q.1) p.2) q.2
+ran_same : OneOfEach → (costs : Costs) (name : List ℕ) (state : Bool) (bytes : List ℕ) → OneAnswer (IsRan costs name state bytes)
+ran_same laws costs name state bytes x y p q =
+    run_of_same laws costs name state q.0 x y (subst (λ (read : Read FileSeen). IsRunOf costs name state read x) (laws.file bytes p.0 q.0 p.1 q.1) p.2) q.2
+
+ran_under_same : OneOfEach → (files : Held) (costs file : List ℕ) (state : Bool) (read : Result (List CostFn) CostRefusal) → OneAnswer (IsRanUnder files costs file state read)
+ran_under_same laws files costs file state (Err fault) x y p q = p ∙ sym q
+ran_under_same laws files costs file state (Ok table) x y p q =
+    file_same file (IsRan (function_of table) file state) (ran_same laws (function_of table) file state) (content_of files file) x y p q
+
+run_answer_same : OneOfEach → (files : Held) (costs file : List ℕ) (state : Bool) → OneAnswer (IsRunAnswer files costs file state)
+run_answer_same laws files costs file state =
+    file_same costs (λ bytes. IsRanUnder files costs file state (table_of bytes)) (λ bytes. ran_under_same laws files costs file state (table_of bytes)) (content_of files costs)
 
 report_same : OneOfSources → (table : CostTable) (known : List Known) (sources : List Source) → OneAnswer (IsReport table known sources)
 report_same laws table known [] x y p q = p ∙ sym q
@@ -155,7 +165,7 @@ call_same laws file function words files x y p q =
 answer_same : OneOfEach → (command : Option Command) (files : Held) → OneAnswer (IsAnswerTo command files)
 answer_same laws None files x y p q = p ∙ sym q
 answer_same laws (Some (Call file function words)) files x y p q = call_same laws file function words files x y p q
-answer_same laws (Some (Run file state)) files x y p q = file_same file (IsRan file state) (ran_same laws file state) (content_of files file) x y p q
+answer_same laws (Some (Run costs file state)) files x y p q = run_answer_same laws files costs file state x y p q
 answer_same laws (Some (Check costs address paths)) files x y p q = check_same laws.sources files costs address paths x y p q
 answer_same laws (Some (Value word)) files x y p q = p ∙ sym q
 answer_same laws (Some (Wire word)) files x y p q = p.2 ∙ ap wire_answer (laws.outcome word p.0 q.0 p.1 q.1) ∙ sym q.2

@@ -1,16 +1,19 @@
 -- One more entry, and its lines.
-use Rattle.std.proofs.Common.{◌≡◌, ℕ, suc, ◌+◌, ◌<◌, List, Vec, Global, [], ◌∷◌, ◌++◌, length, take, get_or, map, refl, sym, ap, subst, ◌∙◌, append_assoc, append-nil, length-take, arith}
+use Rattle.std.proofs.Common.{◌≡◌, ℕ, zero, suc, ◌+◌, ◌<◌, ◌≤◌, List, Vec, Global, [], ◌∷◌, ◌++◌, length, take, get_or, map, refl, sym, ap, subst, ◌∙◌, append_assoc, append-nil, length-take, arith}
 use Rattle.std.proofs.lemmas.List.{take_more}
 use Rattle.std.proofs.lemmas.Grind.{flat_map-append}
+use Rattle.cl_c32.specs.declared.principal.Principal.{Principal}
 use Rattle.cl_shapes.specs.declared.function.CostFn.{CostFn}
 use Rattle.cl_shapes.specs.declared.name.CostName.{CostName}
 use Rattle.cl_shapes.specs.Names.{cost_names, unit_function}
 use Rattle.cl_costs.specs.Tables.{function_of, unit_table}
 use Rattle.cl_meaning.specs.Limits.{Costs}
-use Rattle.cl_tx.specs.declared.entry.Entry.{Entry}
+use Rattle.cl_file.specs.Entries.{height_after, height_of, NeverFall}
+use Rattle.cl_file.specs.declared.entry.Entry.{Entry}
+use Rattle.cl_tx.specs.Laws.{HeightIsLast}
 use Rattle.cl_tx.specs.declared.outcome.TxResult.{TxResult}
 use Rattle.cl_tx.specs.Nodes.{NodeSeen, Stepped}
-use Rattle.cl_tx.specs.Step.{Steps, AllStep, first_node}
+use Rattle.cl_tx.specs.Step.{Steps, AllStep, Runs, first_node}
 use Rattle.cl_engine.specs.Seen.{Seen, costs_of}
 use Rattle.cl_engine.specs.Laws.{OneNode}
 use Rattle.cl_engine.specs.Steps.{Makes}
@@ -21,6 +24,10 @@ use Rattle.cl_app.specs.Entries.{IsFirst, Ends, Reaches, Reports}
 use Rattle.cl_app.specs.Both.{AreBoth}
 use Rattle.cl_app.specs.Reply.{bytes_of}
 
+-- the holders of STX before all entries
+abbrev Holders : Type 0
+Holders = List (Principal × ℕ)
+
 -- each function of a table stands under its name
 abbrev pub ByName : Type 0
 ByName = (f : CostName → CostFn) (name : CostName) → function_of (map f cost_names) name ≡ f name
@@ -29,51 +36,87 @@ unit_costs : ByName → function_of unit_table ≡ unit_function
 unfolding unit_table
 unit_costs by_name = λ i. λ name. by_name unit_function name i
 
-all_then : (node : NodeSeen) (es : List Entry) (rs : List TxResult) (m : NodeSeen) (e : Entry) (s : Stepped) → AllStep unit_function node es rs m → Steps unit_function m e s → AllStep unit_function node (es ++ e ∷ []) (rs ++ s.result ∷ []) s.node
-all_then node [] rs m e s all step =
-    (s, [], subst (λ (n : NodeSeen). Steps unit_function n e s) all.1 step, (refl, refl), ap (λ (r : List TxResult). r ++ s.result ∷ []) all.0)
-all_then node (f ∷ es) rs m e s all step =
-    (all.0, all.1 ++ s.result ∷ [], all.2, all_then all.0.node es all.1 m e s all.3 step, ap (λ (r : List TxResult). r ++ s.result ∷ []) all.4)
+all_then : (costs : Costs) (node : NodeSeen) (es : List Entry) (rs : List TxResult) (m : NodeSeen) (e : Entry) (s : Stepped) → AllStep costs node es rs m → Steps costs m e s → AllStep costs node (es ++ e ∷ []) (rs ++ s.result ∷ []) s.node
+all_then costs node [] rs m e s all step =
+    (s, [], subst (λ (n : NodeSeen). Steps costs n e s) all.1 step, (refl, refl), ap (λ (r : List TxResult). r ++ s.result ∷ []) all.0)
+all_then costs node (f ∷ es) rs m e s all step =
+    (all.0, all.1 ++ s.result ∷ [], all.2, all_then costs all.0.node es all.1 m e s all.3 step, ap (λ (r : List TxResult). r ++ s.result ∷ []) all.4)
 
 -- each entry has its result
-each_result : (node : NodeSeen) (es : List Entry) (rs : List TxResult) (m : NodeSeen) → AllStep unit_function node es rs m → length es ≡ length rs
-each_result node [] rs m all = sym (ap length all.0)
-each_result node (e ∷ es) rs m all = ap suc (each_result all.0.node es all.1 m all.3) ∙ sym (ap length all.4)
+each_result : (costs : Costs) (node : NodeSeen) (es : List Entry) (rs : List TxResult) (m : NodeSeen) → AllStep costs node es rs m → length es ≡ length rs
+each_result costs node [] rs m all = sym (ap length all.0)
+each_result costs node (e ∷ es) rs m all = ap suc (each_result costs all.0.node es all.1 m all.3) ∙ sym (ap length all.4)
 
 -- the first node, before all entries
-reaches_first : (n : Seen) → IsFirst n → Reaches [] [] n
-reaches_first n is = subst (Reaches [] []) (sym is) (record {
-  node = first_node;
+reaches_first : (table : List CostFn) (holders : Holders) (n : Seen) → IsFirst table holders n → Reaches table holders [] [] n
+reaches_first table holders n is = subst (Reaches table holders [] []) (sym is) (record {
+  node = first_node holders;
   is_node = record { known = refl; is = refl };
-  unit = refl;
+  costs = refl;
   runs = record { steps = (refl, refl) };
 })
 
-pub reaches_next : OneNode → ByName → (es : List Entry) (rs : List TxResult) (n m : Seen) (e : Entry) (r : TxResult) → Reaches es rs n → Makes n e r m → m.costs ≡ n.costs → Reaches (es ++ e ∷ []) (rs ++ r ∷ []) m
-reaches_next one by_name es rs n m e r so_far makes kept =
+reaches_next : OneNode → (table : List CostFn) (holders : Holders) (es : List Entry) (rs : List TxResult) (n m : Seen) (e : Entry) (r : TxResult) → Reaches table holders es rs n → Makes n e r m → m.costs ≡ n.costs → Reaches table holders (es ++ e ∷ []) (rs ++ r ∷ []) m
+reaches_next one table holders es rs n m e r so_far makes kept =
     let s : Stepped = record { node = makes.to; result = r } in
     let from : makes.from ≡ so_far.node = one n makes.from so_far.node makes.is_from so_far.is_node in
-    let unit : costs_of n ≡ unit_function = ap function_of so_far.unit ∙ unit_costs by_name in
-    let step : Steps unit_function so_far.node e s = subst (λ (x : Costs × NodeSeen). Steps x.0 x.1 e s) (λ i. (unit i, from i)) makes.steps in
+    let costs : costs_of n ≡ function_of table = ap function_of so_far.costs in
+    let step : Steps (function_of table) so_far.node e s = subst (λ (x : Costs × NodeSeen). Steps x.0 x.1 e s) (λ i. (costs i, from i)) makes.steps in
     record {
       node = makes.to;
       is_node = makes.is_to;
-      unit = kept ∙ so_far.unit;
-      runs = record { steps = all_then first_node es rs so_far.node e s so_far.runs.steps step };
+      costs = kept ∙ so_far.costs;
+      runs = record { steps = all_then (function_of table) (first_node holders) es rs so_far.node e s so_far.runs.steps step };
     }
 
--- two entries from the first node on
-pub both_end : OneNode → ByName → (a b : Entry) (n m k : Seen) (both : Both) → IsFirst n → Ends 0 n a m both.deployed.end both.deployed.text.items → Ends 1 m b k both.called.end both.called.text.items → AreBoth a b both
-both_end one_node by_name a b n m k both is one two = record {
-  deployed = one.result;
-  called = two.result;
-  after = k;
-  reaches = reaches_next one_node by_name (a ∷ []) (one.result ∷ []) m k b two.result (reaches_next one_node by_name [] [] n m a one.result (reaches_first n is) one.makes one.same_costs) two.makes two.same_costs;
-  deployed_end = one.end_is;
-  called_end = two.end_is;
-  front = one.lines_are;
-  back = two.lines_are;
-}
+-- ---- heights
+
+height_reached : HeightIsLast → (table : List CostFn) (holders : Holders) (es : List Entry) (rs : List TxResult) (n : Seen) → Reaches table holders es rs n → n.height ≡ height_of 0 es
+height_reached law table holders es rs n so_far =
+    sym (ap (λ (m : NodeSeen). m.height) so_far.is_node.is) ∙ law (function_of table) (record { genesis = holders; entries = es }) rs so_far.node so_far.runs
+
+never_falls_at : (height : ℕ) (es : List Entry) (i : ℕ) (d : Entry) → i < length es → NeverFall height es → height_of height (take i es) ≤ height_after (height_of height (take i es)) (get_or es i d)
+never_falls_at height [] i d h rises = absurd (omega (arith, h))
+never_falls_at height (e ∷ es) zero d h rises = rises.0
+never_falls_at height (e ∷ es) (suc i) d h rises = never_falls_at (height_after height e) es i d (omega (arith, h)) rises.1
+
+-- the next entry of a list whose heights never fall may follow
+pub may_follow : HeightIsLast → (table : List CostFn) (holders : Holders) (es : List Entry) (rs : List TxResult) (n : Seen) (i : ℕ) (e : Entry) → i < length es → e ≡ get_or es i e → NeverFall 0 es → Reaches table holders (take i es) rs n → n.height ≤ height_after n.height e
+may_follow law table holders es rs n i e h is_next rises so_far =
+    subst (λ (k : ℕ). k ≤ height_after k e) (sym (height_reached law table holders (take i es) rs n so_far))
+    (subst (λ (x : Entry). height_of 0 (take i es) ≤ height_after (height_of 0 (take i es)) x) (sym is_next) (never_falls_at 0 es i e h rises))
+
+-- ---- two entries from the first node on, under the unit table
+
+pub first_may : HeightIsLast → (a b : Entry) (n : Seen) → IsFirst unit_table [] n → NeverFall 0 (a ∷ b ∷ []) → n.height ≤ height_after n.height a
+first_may law a b n is rises =
+    let here : 0 < 2 = omega arith in
+    may_follow law unit_table [] (a ∷ b ∷ []) [] n 0 a here refl rises (reaches_first unit_table [] n is)
+
+first_reached : OneNode → (a : Entry) (n m : Seen) (end : End) (text : List ℕ) → IsFirst unit_table [] n → (one : Ends 0 n a m end text) → Reaches unit_table [] (a ∷ []) (one.result ∷ []) m
+first_reached one_node a n m end text is one = reaches_next one_node unit_table [] [] [] n m a one.result (reaches_first unit_table [] n is) one.makes one.same_costs
+
+pub second_may : HeightIsLast → OneNode → (a b : Entry) (n m : Seen) (end : End) (text : List ℕ) → IsFirst unit_table [] n → NeverFall 0 (a ∷ b ∷ []) → Ends 0 n a m end text → m.height ≤ height_after m.height b
+second_may law one_node a b n m end text is rises one =
+    let here : 1 < 2 = omega arith in
+    may_follow law unit_table [] (a ∷ b ∷ []) (one.result ∷ []) m 1 b here refl rises (first_reached one_node a n m end text is one)
+
+pub both_end : OneNode → ByName → (a b : Entry) (n m k : Seen) (both : Both) → IsFirst unit_table [] n → Ends 0 n a m both.deployed.end both.deployed.text.items → Ends 1 m b k both.called.end both.called.text.items → AreBoth a b both
+both_end one_node by_name a b n m k both is one two =
+    let first = first_reached one_node a n m both.deployed.end both.deployed.text.items is one in
+    let second = reaches_next one_node unit_table [] (a ∷ []) (one.result ∷ []) m k b two.result first two.makes two.same_costs in
+    record {
+      deployed = one.result;
+      called = two.result;
+      after = second.node;
+      runs = subst (λ (costs : Costs). Runs costs (record { genesis = []; entries = a ∷ b ∷ [] }) (one.result ∷ two.result ∷ []) second.node) (unit_costs by_name) second.runs;
+      deployed_end = one.end_is;
+      called_end = two.end_is;
+      front = one.lines_are;
+      back = two.lines_are;
+    }
+
+-- ---- the report
 
 report_then : (n : ℕ) (es : List Entry) (rs : List TxResult) (e : Entry) (r : TxResult) → length es ≡ length rs → report_from n (es ++ e ∷ []) (rs ++ r ∷ []) ≡ report_from n es rs ++ lines_of (n + length es) e r
 report_then n [] [] e r same = append-nil (lines_of n e r) ∙ ap (λ (k : ℕ). lines_of k e r) (omega arith)
@@ -86,27 +129,27 @@ report_then n (f ∷ es) (q ∷ rs) e r same =
     (report_then (n + 1) es rs e r fewer ∙ ap (λ (k : ℕ). report_from (n + 1) es rs ++ lines_of k e r) numbered)
     ∙ sym (append_assoc (lines_of n f q) (report_from (n + 1) es rs) (lines_of (n + suc (length es)) e r))
 
-pub reports_first : (n : Seen) → IsFirst n → Reports [] [] n
-reports_first n is = record { results = []; reaches = reaches_first n is; is_report = refl }
+pub reports_first : (table : List CostFn) (holders : Holders) (n : Seen) → IsFirst table holders n → Reports table holders [] [] n
+reports_first table holders n is = record { results = []; reaches = reaches_first table holders n is; is_report = refl }
 
-reports_next : OneNode → ByName → (es : List Entry) (text more : List ℕ) (n m : Seen) (e : Entry) (end : End) → Reports es text n → Ends (length es) n e m end more → Reports (es ++ e ∷ []) (text ++ more) m
-reports_next one by_name es text more n m e end so_far ends =
+reports_next : OneNode → (table : List CostFn) (holders : Holders) (es : List Entry) (text more : List ℕ) (n m : Seen) (e : Entry) (end : End) → Reports table holders es text n → Ends (length es) n e m end more → Reports table holders (es ++ e ∷ []) (text ++ more) m
+reports_next one table holders es text more n m e end so_far ends =
     let counted : length es ≡ 0 + length es = omega arith in
     record {
       results = so_far.results ++ ends.result ∷ [];
-      reaches = reaches_next one by_name es so_far.results n m e ends.result so_far.reaches ends.makes ends.same_costs;
+      reaches = reaches_next one table holders es so_far.results n m e ends.result so_far.reaches ends.makes ends.same_costs;
       is_report =
           ap (λ (t : List ℕ). t ++ more) so_far.is_report
           ∙ ap (λ (t : List ℕ). report_from 0 es so_far.results ++ t) ends.lines_are
           ∙ ap (λ (k : ℕ). report_from 0 es so_far.results ++ lines_of k e ends.result) counted
-          ∙ sym (report_then 0 es so_far.results e ends.result (each_result first_node es so_far.results so_far.reaches.node so_far.reaches.runs.steps));
+          ∙ sym (report_then 0 es so_far.results e ends.result (each_result (function_of table) (first_node holders) es so_far.results so_far.reaches.node so_far.reaches.runs.steps));
     }
 
 -- the next entry of a list, whose lines are one more piece
-pub reports_piece : OneNode → ByName → (entries : List Entry) (i number : ℕ) (pieces : List (Vec ℕ Global)) (piece : Vec ℕ Global) (n m : Seen) (d e : Entry) (end : End) → i < length entries → e ≡ get_or entries i d → number ≡ i → Reports (take i entries) (bytes_of pieces) n → Ends number n e m end piece.items → Reports (take (i + 1) entries) (bytes_of (pieces ++ piece ∷ [])) m
-reports_piece one by_name entries i number pieces piece n m d e end h is_next numbered so_far ends =
+pub reports_piece : OneNode → (table : List CostFn) (holders : Holders) (entries : List Entry) (i number : ℕ) (pieces : List (Vec ℕ Global)) (piece : Vec ℕ Global) (n m : Seen) (d e : Entry) (end : End) → i < length entries → e ≡ get_or entries i d → number ≡ i → Reports table holders (take i entries) (bytes_of pieces) n → Ends number n e m end piece.items → Reports table holders (take (i + 1) entries) (bytes_of (pieces ++ piece ∷ [])) m
+reports_piece one table holders entries i number pieces piece n m d e end h is_next numbered so_far ends =
     let one_more : take (i + 1) entries ≡ take i entries ++ e ∷ [] = take_more entries i d h ∙ ap (λ (x : Entry). take i entries ++ x ∷ []) (sym is_next) in
     let bytes : bytes_of (pieces ++ piece ∷ []) ≡ bytes_of pieces ++ piece.items = flat_map-append (λ (p : Vec ℕ Global). p.items) pieces (piece ∷ []) ∙ ap (λ (b : List ℕ). bytes_of pieces ++ b) (append-nil piece.items) in
     let counted : number ≡ length (take i entries) = numbered ∙ omega (arith, length-take i entries) in
-    let next = reports_next one by_name (take i entries) (bytes_of pieces) piece.items n m e end so_far (subst (λ (k : ℕ). Ends k n e m end piece.items) counted ends) in
-    subst (λ (es : List Entry). Reports es (bytes_of (pieces ++ piece ∷ [])) m) (sym one_more) (subst (λ (b : List ℕ). Reports (take i entries ++ e ∷ []) b m) (sym bytes) next)
+    let next = reports_next one table holders (take i entries) (bytes_of pieces) piece.items n m e end so_far (subst (λ (k : ℕ). Ends k n e m end piece.items) counted ends) in
+    subst (λ (es : List Entry). Reports table holders es (bytes_of (pieces ++ piece ∷ [])) m) (sym one_more) (subst (λ (b : List ℕ). Reports table holders (take i entries ++ e ∷ []) b m) (sym bytes) next)

@@ -1,30 +1,27 @@
 -- The files of sources are read one after another.
-use Rattle.std.proofs.Common.{◌≡◌, ℕ, ◌<◌, ◌≤◌, ◌+◌, IfOk, Bool, true, false, List, [], ◌∷◌, ◌++◌, map, length, take, get_or, string_bytes, Option, Some, None, refl, sym, ap, subst, ◌∙◌, append_assoc, append-nil}
-use Rattle.std.specs.Prelude.{Result, Ok, Err, nat_lt, option_map}
+use Rattle.std.proofs.Common.{◌≡◌, ℕ, ◌<◌, ◌≤◌, ◌+◌, Bool, true, false, List, [], ◌∷◌, ◌++◌, map, length, take, get_or, string_bytes, Option, Some, refl, sym, ap, subst, ◌∙◌, append_assoc, append-nil}
+use Rattle.std.specs.Prelude.{Ok, Err}
 use Rattle.std.specs.declared.alloc.Global.{Global}
 use Rattle.std.specs.declared.string.String.{String}
 use Rattle.std.proofs.lemmas.List.{map_push, take_more}
 use Rattle.std.proofs.lemmas.Bool.{le-ltb, lt-ltb}
 use Rattle.cl_c32.specs.Address.{AddressParts}
 use Rattle.cl_c32.specs.declared.principal.Principal.{Principal}
-use Rattle.cl_shapes.specs.declared.function.CostFn.{CostFn}
-use Rattle.cl_costs.specs.declared.refusal.CostRefusal.{CostRefusal}
 use Rattle.cl_costs.specs.CostFile.{table_of}
 use Rattle.cl_ports.specs.declared.TheConstants.{MAX_FILE_BYTES}
-use Rattle.cl_ports.specs.Files.{Held, IsContent, IsLongContent, content_of}
+use Rattle.cl_ports.specs.Files.{Held, IsContent, content_of}
 use Rattle.cl_ports.specs.Growth.{Grows, GrowsPart}
-use Rattle.cl_ports.proofs.Grown.{grows_twice, part_next, part_more, part_none, part_whole}
+use Rattle.cl_ports.proofs.Grown.{grows_twice, part_next, part_more, part_whole}
 use Rattle.cl_app.specs.declared.pieces.Reply.{Reply}
 use Rattle.cl_app.specs.declared.sources.Source.{Source}
-use Rattle.cl_app.specs.Answer.{IsAnswerTo}
-use Rattle.cl_app.specs.Checked.{Sources, IsAnswerUnder, check_named, named_after, named_by, named_under, names_behind, names_by, paths_named, sources_by_length, sources_under, sources_with, with_source}
-use Rattle.cl_app.specs.CheckReply.{AsksUnder, IsCostsAnswer}
-use Rattle.cl_app.specs.FileAnswers.{is_long, long_file_answer, IsAnswerByLength, IsFileAnswer}
+use Rattle.cl_app.specs.Checked.{Sources, check_named, named_after, named_by, named_under, names_behind, names_by, paths_named, sources_by_length, sources_under, sources_with, with_source}
+use Rattle.cl_app.specs.CheckReply.{AsksUnder}
+use Rattle.cl_app.specs.FileAnswers.{is_long}
 use Rattle.cl_app.specs.Reading.{AreRead, AskedSoFar, AsksPaths, IsRead, ReadSoFar, behind_sources}
 use Rattle.cl_app.specs.Reply.{answer_of}
 use Rattle.cl_app.specs.Sources.{contract_at}
 use Rattle.cl_app.specs.Spelling.{Answer}
-use Rattle.cl_app.specs.Top.{AsksPart, IsAnswer}
+use Rattle.cl_app.specs.Top.{AsksPart}
 use Rattle.cl_app.specs.Words.{Check, texts}
 
 -- ---- what is read
@@ -56,7 +53,7 @@ read_next held address paths rest more path ss s so_far e one = record {
       ∙ ap Some (behind_one ss s behind);
 }
 
-long_is : (bytes : List ℕ) → MAX_FILE_BYTES < length bytes → is_long bytes ≡ true
+pub long_is : (bytes : List ℕ) → MAX_FILE_BYTES < length bytes → is_long bytes ≡ true
 long_is bytes h = lt-ltb MAX_FILE_BYTES (length bytes) h
 
 -- a file that is too long
@@ -116,24 +113,6 @@ asked_so_far held paths rest before now so_far = record {
 
 -- ---- the file of costs
 
--- the answer by what becomes of it
-pub costs_read : (held : Option Held) (costs bytes : List ℕ) (address : AddressParts) (paths : List (List ℕ)) (answer : Answer) → IsContent held costs bytes → is_long bytes ≡ false → IsCostsAnswer held costs address paths (table_of bytes) answer → IsAnswer (Some (Check costs address paths)) held answer
-costs_read held costs bytes address paths answer content short is = record { told = so }
-  where
-    so : (files : Held) → held ≡ Some files → IsAnswerTo (Some (Check costs address paths)) files answer
-    so files h =
-        subst (λ (c : Option (List ℕ)). IsFileAnswer costs (λ (text : List ℕ). IsAnswerUnder files costs address paths (table_of text)) c answer) (sym (content.told files h))
-        (subst (λ (b : Bool). IsAnswerByLength b costs (IsAnswerUnder files costs address paths (table_of bytes)) answer) (sym short) (is.told files h))
-
-pub costs_long : (held : Option Held) (costs : List ℕ) (address : AddressParts) (paths : List (List ℕ)) (answer : Answer) → IsLongContent held costs → answer ≡ long_file_answer costs → IsAnswer (Some (Check costs address paths)) held answer
-costs_long held costs address paths answer long is = record { told = so }
-  where
-    so : (files : Held) → held ≡ Some files → IsAnswerTo (Some (Check costs address paths)) files answer
-    so files h =
-        let l = long.told files h in
-        subst (λ (c : Option (List ℕ)). IsFileAnswer costs (λ (text : List ℕ). IsAnswerUnder files costs address paths (table_of text)) c answer) (sym l.1)
-        (subst (λ (b : Bool). IsAnswerByLength b costs (IsAnswerUnder files costs address paths (table_of l.0)) answer) (sym (long_is l.0 l.2)) is)
-
 -- the file of costs alone may have been asked for
 pub asks_costs : (held : Option Held) (costs : List ℕ) (address : AddressParts) (paths : List (List ℕ)) (before now : Option (List (List ℕ))) → GrowsPart before now (costs ∷ []) → AsksPart (Some (Check costs address paths)) held before now
 asks_costs held costs address paths before now part = record {
@@ -154,10 +133,6 @@ asks_costs_and held costs bytes address paths before between now content short g
         subst (GrowsPart before now) (sym is) (part_next before between now (costs ∷ []) (named_under files paths (table_of bytes)) grown (asks.told files h))
 
 -- ---- as the code goes
-
-pub if_ok_also : {A E : Type 0} (r : Result A E) (P Q : A → Type 0) → ((x : A) → P x → Q x) → IfOk r P → IfOk r Q
-if_ok_also (Ok x) P Q f h = f x h
-if_ok_also (Err e) P Q f h = tt
 
 -- bytes that a read gives are no longer than a file may be
 pub short_is : (bytes : List ℕ) → length bytes ≤ MAX_FILE_BYTES → is_long bytes ≡ false

@@ -1,13 +1,12 @@
 -- The words of `check` name sources.
 use Rattle.std.proofs.Common.{◌≡◌, ℕ, Bool, true, false, List, [], ◌∷◌, Option, Some, None, Ok, Err, refl, sym, subst}
-use Rattle.std.specs.Prelude.{Result, codes, if◌then◌else◌, ◌&&◌}
-use Rattle.std.specs.List.{list_any}
+use Rattle.std.specs.Prelude.{Result, codes, if◌then◌else◌}
 use Rattle.std.specs.Str.{bytes_eq}
 use Rattle.cl_c32.specs.Address.{AddressParts}
 use Rattle.cl_c32.specs.Codec.{decoded}
 use Rattle.cl_c32.specs.declared.codec.C32Refusal.{C32Refusal}
 use Rattle.cl_app.specs.Sources.{are_sources}
-use Rattle.cl_app.specs.Words.{Command, Call, Run, Check, Value, Wire, begins_with_dash, check_under, command_of, command_with, command_with_state, command_with_words, taken}
+use Rattle.cl_app.specs.Words.{Command, Call, Run, Check, Value, Wire, check_under, run_of, command_of, command_with, command_with_state, command_with_words, command_in, command_on}
 
 abbrev HasSources : Option Command → Type 0
 HasSources (Some (Check costs address paths)) = are_sources paths ≡ true
@@ -25,16 +24,21 @@ under_has : (costs : List ℕ) (paths : List (List ℕ)) (r : Result AddressPart
 under_has costs paths (Ok address) = if_sources costs paths address (are_sources paths) refl
 under_has costs paths (Err refusal) = tt
 
+run_has : (costs file : List ℕ) (words : List (List ℕ)) → HasSources (run_of costs file words)
+run_has costs file [] = tt
+run_has costs file (word ∷ words) = tt
+
 words_have : (name first second : List ℕ) (words : List (List ℕ)) → HasSources (command_with_words name first second words)
 words_have name first second words =
-    by_test (bytes_eq name (codes "call")) (Some (Call first second words)) (if bytes_eq name (codes "check") then check_under first words (decoded second) else None) tt
-    (by_test (bytes_eq name (codes "check")) (check_under first words (decoded second)) None (under_has first words (decoded second)) tt)
+    by_test (bytes_eq name (codes "call")) (Some (Call first second words))
+    (if bytes_eq name (codes "check") then check_under first words (decoded second) else (if bytes_eq name (codes "run") then run_of first second words else None)) tt
+    (by_test (bytes_eq name (codes "check")) (check_under first words (decoded second)) (if bytes_eq name (codes "run") then run_of first second words else None) (under_has first words (decoded second))
+    (by_test (bytes_eq name (codes "run")) (run_of first second words) None (run_has first second words) tt))
 
 word_has : (name word : List ℕ) → HasSources (command_with name word)
 word_has name word =
-    by_test (bytes_eq name (codes "value")) (Some (Value word)) (if bytes_eq name (codes "wire") then Some (Wire word) else (if bytes_eq name (codes "run") then Some (Run word false) else None)) tt
-    (by_test (bytes_eq name (codes "wire")) (Some (Wire word)) (if bytes_eq name (codes "run") then Some (Run word false) else None) tt
-    (by_test (bytes_eq name (codes "run")) (Some (Run word false)) None tt tt))
+    by_test (bytes_eq name (codes "value")) (Some (Value word)) (if bytes_eq name (codes "wire") then Some (Wire word) else None) tt
+    (by_test (bytes_eq name (codes "wire")) (Some (Wire word)) None tt tt)
 
 command_has : (words : List (List ℕ)) → HasSources (command_of words)
 command_has [] = tt
@@ -45,14 +49,17 @@ command_has (name ∷ first ∷ second ∷ words) = words_have name first second
 state_has : (words : List (List ℕ)) → HasSources (command_with_state words)
 state_has [] = tt
 state_has (name ∷ []) = tt
-state_has (name ∷ file ∷ []) = tt
-state_has (name ∷ file ∷ last ∷ []) =
-    by_test (begins_with_dash file) None (if bytes_eq name (codes "run") && bytes_eq last (codes "--state") then Some (Run file true) else None) tt
-    (by_test (bytes_eq name (codes "run") && bytes_eq last (codes "--state")) (Some (Run file true)) None tt tt)
-state_has (name ∷ file ∷ last ∷ word ∷ words) = tt
+state_has (name ∷ costs ∷ []) = tt
+state_has (name ∷ costs ∷ file ∷ []) = by_test (bytes_eq name (codes "run")) (Some (Run costs file true)) None tt tt
+state_has (name ∷ costs ∷ file ∷ word ∷ words) = tt
 
-taken_has : (words : List (List ℕ)) → HasSources (taken words)
-taken_has words = by_test (list_any begins_with_dash words) (command_with_state words) (command_of words) (state_has words) (command_has words)
+line_has : (state : Bool) (words : List (List ℕ)) → HasSources (command_in state words)
+line_has true words = state_has words
+line_has false words = command_has words
 
-pub check_has_sources : (words : List (List ℕ)) (costs : List ℕ) (address : AddressParts) (paths : List (List ℕ)) → Some (Check costs address paths) ≡ taken words → are_sources paths ≡ true
-check_has_sources words costs address paths is = subst HasSources (sym is) (taken_has words)
+on_has : (line : Option (List (List ℕ) × Bool)) → HasSources (command_on line)
+on_has None = tt
+on_has (Some line) = line_has line.1 line.0
+
+pub check_has_sources : (line : Option (List (List ℕ) × Bool)) (costs : List ℕ) (address : AddressParts) (paths : List (List ℕ)) → Some (Check costs address paths) ≡ command_on line → are_sources paths ≡ true
+check_has_sources line costs address paths is = subst HasSources (sym is) (on_has line)

@@ -8,7 +8,7 @@ use Rattle.cl_app.specs.Spelling.{Answer, no_value_answer, value_answer, wire_an
 use Rattle.cl_app.specs.FileAnswers.{IsFileAnswer}
 use Rattle.cl_app.specs.Called.{IsCalled}
 use Rattle.cl_app.specs.Checked.{IsCheckAnswer, check_named}
-use Rattle.cl_app.specs.Ran.{IsRan}
+use Rattle.cl_app.specs.Ran.{IsRunAnswer, run_named}
 
 -- words that are not of the table
 abbrev pub usage_answer : Answer
@@ -31,7 +31,7 @@ IsWireAnswer word answer = (outcome : Outcome) × Parses word outcome × (answer
 abbrev pub IsAnswerTo : Option Command → Held → Answer → Type 0
 IsAnswerTo None files answer = answer ≡ usage_answer
 IsAnswerTo (Some (Call file function words)) files answer = IsCallAnswer file function words files answer
-IsAnswerTo (Some (Run file state)) files answer = IsFileAnswer file (IsRan file state) (content_of files file) answer
+IsAnswerTo (Some (Run costs file state)) files answer = IsRunAnswer files costs file state answer
 IsAnswerTo (Some (Check costs address paths)) files answer = IsCheckAnswer files costs address paths answer
 IsAnswerTo (Some (Value word)) files answer = answer ≡ value_answer word
 IsAnswerTo (Some (Wire word)) files answer = IsWireAnswer word answer
@@ -44,7 +44,7 @@ arguments_named file (Ok args) = file ∷ []
 abbrev pub IsNamed : Option Command → Held → List (List ℕ) → Type 0
 IsNamed None files names = names ≡ []
 IsNamed (Some (Call file function words)) files names = (args : Arguments) × Spell words args × (names ≡ arguments_named file args)
-IsNamed (Some (Run file state)) files names = names ≡ file ∷ []
+IsNamed (Some (Run costs file state)) files names = names ≡ run_named files costs file
 IsNamed (Some (Check costs address paths)) files names = names ≡ check_named files costs paths
 IsNamed (Some (Value word)) files names = names ≡ []
 IsNamed (Some (Wire word)) files names = names ≡ []

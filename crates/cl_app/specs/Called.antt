@@ -3,9 +3,11 @@ use Rattle.std.specs.Prelude.{◌≡◌, ℕ, List, [], ◌∷◌, ◌++◌, rep
 use Rattle.cl_c32.specs.Address.{AddressParts}
 use Rattle.cl_shapes.specs.Names.{unit_function}
 use Rattle.cl_values.specs.Tree.{Tree}
-use Rattle.cl_tx.specs.declared.entry.Common.{Common}
-use Rattle.cl_tx.specs.declared.entry.Entry.{Entry}
-use Rattle.cl_tx.specs.declared.entry.Entry.TheVariants.{Deploy, Call}
+use Rattle.cl_post.specs.declared.condition.Mode.TheVariants.{Allow}
+use Rattle.cl_file.specs.Entries.{no_limit}
+use Rattle.cl_file.specs.declared.entry.Common.{Common}
+use Rattle.cl_file.specs.declared.entry.Entry.{Entry}
+use Rattle.cl_file.specs.declared.entry.Entry.TheVariants.{Deploy, Call}
 use Rattle.cl_tx.specs.declared.outcome.TxResult.{TxResult}
 use Rattle.cl_tx.specs.Nodes.{NodeSeen, contract_of}
 use Rattle.cl_tx.specs.Step.{Runs}
@@ -19,8 +21,9 @@ use Rattle.cl_app.specs.Spelling.{Answer}
 abbrev pub home : AddressParts
 home = record { version = 22; hash = replicate 20 0 }
 
+-- no limit is stated, and no condition
 abbrev pub sent_from_home : Common
-sent_from_home = record { sender = home }
+sent_from_home = record { sender = home; limit = no_limit; mode = Allow; conditions = [] }
 
 -- a source is deployed as `main`
 abbrev pub deployment : List ℕ → Entry
@@ -57,7 +60,7 @@ pub record IsReportOf (first second : Entry) (answer : Answer) : Type 0 where
   pub deployed : TxResult
   pub called : TxResult
   pub after : NodeSeen
-  pub runs : Runs unit_function (record { entries = first ∷ second ∷ [] }) (deployed ∷ called ∷ []) after
+  pub runs : Runs unit_function (record { genesis = []; entries = first ∷ second ∷ [] }) (deployed ∷ called ∷ []) after
   pub is : answer ≡ called_answer first second deployed called
 
 -- the answer for a source, a function and its arguments

@@ -1,13 +1,11 @@
 -- The report of `check`: what becomes of sources, one after another.
-use Rattle.std.specs.Prelude.{◌≡◌, ◌⊎◌, ℕ, Bool, true, false, List, [], ◌∷◌, ◌++◌, length, codes, Option, Some, None, option_map, Result, Ok, Err}
+use Rattle.std.specs.Prelude.{◌≡◌, ◌⊎◌, ℕ, Bool, true, false, List, [], ◌∷◌, ◌++◌, length, Option, Some, None, option_map, Result, Ok, Err}
 use Rattle.cl_c32.specs.Address.{AddressParts}
 use Rattle.cl_shapes.specs.declared.function.CostFn.{CostFn}
 use Rattle.cl_ports.specs.Files.{Held, content_of}
 use Rattle.cl_costs.specs.declared.refusal.CostRefusal.{CostRefusal}
-use Rattle.cl_costs.specs.declared.refusal.CostRefusal.TheVariants.{NotJson, Missing, BadShape, TooBig, Unknown}
 use Rattle.cl_costs.specs.CostFile.{table_of}
 use Rattle.cl_costs.specs.Tables.{function_of}
-use Rattle.std.specs.Str.{encode_utf8_all}
 use Rattle.cl_rules.specs.Context.{CostTable, Known}
 use Rattle.cl_rules.specs.Acceptance.{Accepted, FirstBreakOf, known_of}
 use Rattle.cl_tx.specs.Nodes.{Told}
@@ -17,20 +15,7 @@ use Rattle.cl_report.specs.Checks.{accepted_lines, refused_line}
 use Rattle.cl_app.specs.declared.sources.Source.{Source}
 use Rattle.cl_app.specs.Spelling.{Answer}
 use Rattle.cl_app.specs.Sources.{contract_at}
-use Rattle.cl_app.specs.FileAnswers.{is_long, long_file_answer, IsFileAnswer}
-
--- ---- the file of costs
-
-abbrev pub cost_fault_text : CostRefusal → List ℕ
-cost_fault_text NotJson = codes "NotJson"
-cost_fault_text (Missing name) = codes "Missing " ++ name
-cost_fault_text (BadShape name dimension) = codes "BadShape " ++ (name ++ (codes " " ++ encode_utf8_all dimension))
-cost_fault_text (TooBig name) = codes "TooBig " ++ name
-cost_fault_text (Unknown name) = codes "Unknown " ++ encode_utf8_all name
-
--- a file that is no cost file, by the fault
-abbrev pub bad_costs_answer : List ℕ → CostRefusal → Answer
-bad_costs_answer name fault = record { bytes = codes "bad file " ++ (name ++ (codes " " ++ (cost_fault_text fault ++ codes "\n"))); status = 5 }
+use Rattle.cl_app.specs.FileAnswers.{is_long, bad_costs_answer, long_file_answer, IsFileAnswer}
 
 -- ---- the sources
 
@@ -103,10 +88,10 @@ names_by true names = []
 names_by false names = names
 
 abbrev pub names_behind : Option (List ℕ) → List (List ℕ) → List (List ℕ)
-names_behind None names = names
+names_behind None names = []
 names_behind (Some text) names = names_by (is_long text) names
 
--- the paths, up to and with the first of a file that is too long
+-- the paths, up to and with the first of a file that isn't held or is too long
 abbrev pub paths_named : Held → List (List ℕ) → List (List ℕ)
 paths_named files [] = []
 paths_named files (path ∷ paths) = path ∷ names_behind (content_of files path) (paths_named files paths)
@@ -120,7 +105,7 @@ named_by files paths bytes true = []
 named_by files paths bytes false = named_under files paths (table_of bytes)
 
 abbrev pub named_after : Held → List (List ℕ) → Option (List ℕ) → List (List ℕ)
-named_after files paths None = paths_named files paths
+named_after files paths None = []
 named_after files paths (Some bytes) = named_by files paths bytes (is_long bytes)
 
 -- the file of costs, and the paths if it is one

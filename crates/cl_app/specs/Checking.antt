@@ -1,9 +1,6 @@
 -- The contracts that the code keeps while sources are checked, and what it finds of each source.
-use Rattle.std.specs.Prelude.{◌≡◌, ℕ, Bool, true, false, List, [], ◌∷◌, ◌++◌, length, Option, Some, None}
-use Rattle.cl_types.specs.Types.{PlainType}
+use Rattle.std.specs.Prelude.{◌≡◌, ℕ, false, List, [], ◌∷◌, ◌++◌, length, Some, None}
 use Rattle.cl_c32.specs.declared.principal.Principal.{Principal}
-use Rattle.cl_code.specs.declared.definition.Definition.{Definition}
-use Rattle.cl_code.specs.declared.definition.Definition.TheVariants.{Constant, Variable, MapOf, Fungible, NonFungible, Function, TopLevel}
 use Rattle.cl_rules.specs.Context.{CostTable, Known, same_principal}
 use Rattle.cl_rules.specs.FormRules.{Defined}
 use Rattle.cl_rules.specs.Acceptance.{Accepted, Bounded, FirstBreakOf, NoneWrites, TypedAs, known_of}
@@ -12,7 +9,6 @@ use Rattle.cl_contracts.specs.declared.contract.Contract.{Contract}
 use Rattle.cl_contracts.specs.Seen.{IsIndexed, contract_under, forms_of}
 use Rattle.cl_contracts.specs.Standings.{AreStanding, StandsAfter}
 use Rattle.cl_tx.specs.declared.outcome.Bounds.{Bounds}
-use Rattle.cl_tx.specs.Nodes.{Told}
 use Rattle.cl_tx.specs.Seen.{SourceBreak}
 use Rattle.cl_tx.specs.Step.{told_of}
 use Rattle.cl_report.specs.Checks.{accepted_lines, refused_line}
@@ -39,11 +35,6 @@ pub record IsChecked (contracts : Contracts) (source : Source) (c : Checked) : T
 pub record IsBounded (table : CostTable) (contracts : Contracts) (c : Checked) (bounds : Bounds) : Type 0 where
   pub within : (known : List Known) (defined : Defined) → AreStanding [] contracts known → StandsAfter known c defined → Bounded defined (forms_of c) table
   pub told : (known : List Known) (defined : Defined) → AreStanding [] contracts known → StandsAfter known c defined → (told_of table defined (forms_of c)).bounds ≡ Some bounds
-
--- the return type of a definition that is a function
-abbrev pub type_returned : Definition → Option PlainType
-type_returned (Function f) = Some f.returns
-type_returned d = None
 
 -- one contract more stands behind the others, whatever the values of its constants
 pub record IsKept (before : Contracts) (c : Checked) (after : Contracts) : Type 0 where

@@ -15,3 +15,4 @@ pub mod Reply
 pub mod Checking
 pub mod Reading
 pub mod CheckReply
+pub mod RunReply

@@ -5,7 +5,7 @@ use Rattle.std.specs.Str.{bytes_eq}
 use Rattle.cl_c32.specs.Address.{AddressParts}
 use Rattle.cl_c32.specs.declared.principal.Principal.{Principal}
 use Rattle.cl_rules.specs.Context.{same_part}
-use Rattle.cl_tx.specs.Members.{short_name}
+use Rattle.cl_file.specs.Kinds.{short_name}
 
 -- `/`
 abbrev pub is_slash : ℕ → Bool

@@ -1,6 +1,8 @@
 //! The reply to `call` for a source: it is deployed, and then one of its functions is called.
-ghost use Rattle.std.specs.Prelude.{◌≡◌, ◌≢◌, codes, IfOk};
+ghost use Rattle.std.specs.Prelude.{◌≡◌, ◌≢◌, ◌∷◌, [], codes, IfOk};
+ghost use Rattle.cl_costs.specs.Tables.{unit_table};
 ghost use Rattle.cl_app.specs.Called.{sent_from_home, deployment, call, call_status, status_of, lines_by, IsReportOf, IsCalled};
+ghost use Rattle.cl_file.specs.Entries.{NeverFall};
 ghost use Rattle.cl_app.specs.Entries.{IsFirst};
 ghost use Rattle.cl_app.specs.Both.{AreBoth};
 ghost use Rattle.cl_app.specs.Reply.{answer_of};
@@ -11,7 +13,8 @@ use crate::pieces::{Reply, two_pieces, whole_piece};
 use cl_c32::{Address, ContractName, Principal};
 use cl_costs::CostTable;
 use cl_engine::{Node, nodes_are_known_in_one_way};
-use cl_tx::{Common, Entry, Row};
+use cl_post::Mode;
+use cl_tx::{Common, Conditions, Entry, Row, heights_are_those_of_the_file};
 use cl_types::NoMemory;
 use cl_values::Val;
 use std::alloc::{AllocError, Global};
@@ -23,31 +26,34 @@ fn main_name() -> ContractName
     ContractName::make(b"main").unwrap()
 }
 
-/// The address SP000000000000000000002Q6VF78 as a sender.
-fn sent_from_home() -> Common
+/// What is sent by the address SP000000000000000000002Q6VF78, with no stated limit and no condition.
+fn sent_from_home(alloc: Global) -> Common
     ensures { result ≡ sent_from_home }
 {
     Common {
         sender: Address::new(22, &[0; 20]),
+        limit: [u64::MAX; 5],
+        mode: Mode::Allow,
+        conditions: Conditions::none(alloc),
     }
 }
 
 /// The deployment of a source.
-fn deployment(source: Vec<u8>) -> Entry
+fn deployment(alloc: Global, source: Vec<u8>) -> Entry
     ensures { result ≡ deployment source.items }
 {
     Entry::Deploy {
-        common: sent_from_home(),
+        common: sent_from_home(alloc),
         name: main_name(),
         source: Row::new(source),
     }
 }
 
 /// The call of a function of the contract.
-fn call(function: Vec<u8>, args: Vec<Val>) -> Entry
+fn call(alloc: Global, function: Vec<u8>, args: Vec<Val>) -> Entry
     ensures { result ≡ call function.items args.items }
 {
-    let common = sent_from_home();
+    let common = sent_from_home(alloc);
     let contract = Principal {
         address: common.sender,
         contract: Some(main_name()),
@@ -69,10 +75,12 @@ pub(crate) struct Both {
 
 /// Does what the two entries ask for. Where the deployment is refused, the call finds no contract.
 fn run_both(alloc: Global, node: &mut Node, first: &Entry, second: &Entry) -> Result<Both, NoMemory>
-    requires { IsFirst node.now }
+    requires first { IsFirst unit_table [] node.now }
+    requires rising { NeverFall 0 (first.now ∷ second.now ∷ []) }
     ensures { IfOk result (AreBoth first.now second.now) }
 {
     nodes_are_known_in_one_way();
+    heights_are_those_of_the_file();
     CostTable::functions_by_name();
     let deployed = next(alloc, node, 0, first)?;
     let called = next(alloc, node, 1, second)?;
@@ -125,7 +133,8 @@ fn report_of(
     first: &Entry,
     second: &Entry,
 ) -> Result<Reply, NoMemory>
-    requires { IsFirst node.now }
+    requires first { IsFirst unit_table [] node.now }
+    requires rising { NeverFall 0 (first.now ∷ second.now ∷ []) }
     ensures answer { IfOk result (λ reply. IsReportOf first.now second.now (answer_of reply)) }
     ensures status { IfOk result (λ reply. IsOwnStatus reply.status × (reply.status ≢ 2)) }
 {
@@ -135,10 +144,13 @@ fn report_of(
 
 /// The report of the two entries.
 fn report_from_genesis(alloc: Global, first: &Entry, second: &Entry) -> Result<Reply, NoMemory>
+    requires { NeverFall 0 (first.now ∷ second.now ∷ []) }
     ensures answer { IfOk result (λ reply. IsReportOf first.now second.now (answer_of reply)) }
     ensures status { IfOk result (λ reply. IsOwnStatus reply.status × (reply.status ≢ 2)) }
 {
-    let mut node = Node::genesis(alloc, &CostTable::builtin())?;
+    let holders = Vec::new(alloc);
+    let costs = CostTable::builtin();
+    let mut node = Node::genesis(alloc, holders, &costs)?;
     report_of(alloc, &mut node, first, second)
 }
 
@@ -147,15 +159,16 @@ fn call_by(alloc: Global, function: &str, args: Vec<Val>) -> Result<Entry, Alloc
     ensures { IfOk result (λ entry. entry ≡ call function.now args.items) }
 {
     let function = Vec::from_slice(alloc, function.as_bytes())?;
-    Ok(call(function, args))
+    Ok(call(alloc, function, args))
 }
 
 /// The reply for the deployment of this source, and this call.
 fn reply_for(alloc: Global, source: Vec<u8>, second: &Entry) -> Result<Reply, NoMemory>
+    requires { NeverFall 0 (deployment source.items ∷ second.now ∷ []) }
     ensures answer { IfOk result (λ reply. IsReportOf (deployment source.items) second.now (answer_of reply)) }
     ensures status { IfOk result (λ reply. IsOwnStatus reply.status × (reply.status ≢ 2)) }
 {
-    let first = deployment(source);
+    let first = deployment(alloc, source);
     report_from_genesis(alloc, &first, second)
 }
 

@@ -1,65 +1,24 @@
 //! The reply to `check`.
-ghost use Rattle.std.specs.Prelude.{◌≡◌, ◌≢◌, ◌++◌, true, Some, IfOk};
+ghost use Rattle.std.specs.Prelude.{◌≡◌, ◌≢◌, true, Some, IfOk};
 ghost use Rattle.cl_costs.specs.CostFile.{table_of};
 ghost use Rattle.cl_costs.specs.Tables.{function_of};
 ghost use Rattle.cl_app.specs.CheckReply.{AsksUnder, IsCostsAnswer, IsPathsAnswer};
-ghost use Rattle.cl_app.specs.Checked.{bad_costs_answer, cost_fault_text};
 ghost use Rattle.cl_app.specs.Reading.{AsksPaths};
 ghost use Rattle.cl_app.specs.Reply.{answer_of, CountsStop};
 ghost use Rattle.cl_app.specs.Sources.{are_sources};
 ghost use Rattle.cl_app.specs.Top.{AsksPart, IsAnswer, IsOwnStatus};
 ghost use Rattle.cl_app.specs.Words.{Check, texts};
 
+use crate::bad_file::{bad_costs, long_file};
 use crate::judge::report;
-use crate::pieces::{Reply, Stop, whole_piece};
-use crate::reading::{long_file, read_sources};
+use crate::pieces::{Reply, Stop};
+use crate::reading::read_sources;
 use crate::words::CheckWords;
 use cl_c32::Address;
-use cl_costs::{CostRefusal, CostTable, read};
+use cl_costs::{CostTable, read};
 use cl_ports::{Files, ReadRefusal};
 use cl_types::Fault;
-use std::alloc::{AllocError, Global};
-
-fn write_cost_fault(out: &mut Vec<u8>, fault: &CostRefusal) -> Result<(), AllocError>
-    ensures { IfOk result (λ _. out.new.items ≡ out.old.items ++ cost_fault_text fault.now) }
-{
-    match fault {
-        CostRefusal::NotJson => out.extend_from_slice(b"NotJson")?,
-        CostRefusal::Missing { name } => {
-            out.extend_from_slice(b"Missing ")?;
-            out.extend_from_slice(name.bytes())?;
-        }
-        CostRefusal::BadShape { name, dimension } => {
-            out.extend_from_slice(b"BadShape ")?;
-            out.extend_from_slice(name.bytes())?;
-            out.extend_from_slice(b" ")?;
-            out.extend_from_slice(dimension.as_str().as_bytes())?;
-        }
-        CostRefusal::TooBig { name } => {
-            out.extend_from_slice(b"TooBig ")?;
-            out.extend_from_slice(name.bytes())?;
-        }
-        CostRefusal::Unknown { name } => {
-            out.extend_from_slice(b"Unknown ")?;
-            out.extend_from_slice(name.as_str().as_bytes())?;
-        }
-    }
-    Ok(())
-}
-
-/// The reply to a file that is no cost file.
-fn bad_costs(alloc: Global, name: &str, fault: &CostRefusal) -> Result<Reply, AllocError>
-    ensures answer { IfOk result (λ reply. answer_of reply ≡ bad_costs_answer name.now fault.now) }
-    ensures status { IfOk result (λ reply. IsOwnStatus reply.status × (reply.status ≢ 2)) }
-{
-    let mut text = Vec::new(alloc);
-    text.extend_from_slice(b"bad file ")?;
-    text.extend_from_slice(name.as_bytes())?;
-    text.extend_from_slice(b" ")?;
-    write_cost_fault(&mut text, fault)?;
-    text.extend_from_slice(b"\n")?;
-    whole_piece(alloc, text, 5)
-}
+use std::alloc::Global;
 
 /// The reply under a table of costs.
 fn check_paths<F: Files>(

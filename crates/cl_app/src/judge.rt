@@ -2,15 +2,18 @@
 ghost use Rattle.std.specs.Prelude.{◌≡◌, ◌≢◌, [], None, Some, IfOk, filter_map};
 ghost use Rattle.cl_costs.specs.Tables.{function_of};
 ghost use Rattle.cl_contracts.specs.Seen.{AreIndexed, IsIndexed, contract_under};
+ghost use Rattle.cl_rules.specs.Context.{CostTable as Table};
+ghost use Rattle.cl_bound.specs.Known.{AreBounds, AreBoundsOf};
 ghost use Rattle.cl_report.specs.Checks.{accepted_lines, refused_line};
 ghost use Rattle.cl_app.specs.Checked.{IsReport};
-ghost use Rattle.cl_app.specs.Checking.{type_returned, AreApart, IsBounded, IsChecked, IsKept, Judges};
+ghost use Rattle.cl_engine.specs.Deploying.{type_returned};
+ghost use Rattle.cl_app.specs.Checking.{AreApart, IsBounded, IsChecked, IsKept, Judges};
 ghost use Rattle.cl_app.specs.Reply.{answer_of};
 ghost use Rattle.cl_app.specs.Top.{IsOwnStatus};
 
 use crate::pieces::Reply;
 use crate::sources::Source;
-use cl_bound::bound;
+use cl_bound::{ContractBounds, KnownBounds, Priced, bound};
 use cl_check::check;
 use cl_code::Definition;
 use cl_contracts::{Checked, Contract, Deployed, what_callers_know};
@@ -58,18 +61,27 @@ fn refused_text(alloc: Global, source: &Source, refusal: Refusal) -> Result<Vec<
 }
 
 /// Puts a contract behind the others. No constant has a value here: nothing is evaluated.
-fn keep(alloc: Global, deployed: &mut Deployed, checked: Checked) -> Result<(), NoMemory>
+fn keep(
+    alloc: Global,
+    deployed: &mut Deployed,
+    known: &mut KnownBounds,
+    checked: Checked,
+    contract: ContractBounds,
+) -> Result<(), NoMemory>
     requires indexed { AreIndexed deployed.old }
     requires names { IsIndexed checked }
     requires new { contract_under checked.principal deployed.old.contracts.entries ≡ None }
     ensures kept { IfOk result (λ _. IsKept deployed.old.contracts.entries checked deployed.new.contracts.entries) }
+    ensures known { IfOk result (λ _. (table : Table) → AreBounds table deployed.old.contracts.entries known.old → AreBoundsOf table deployed.old.contracts.entries checked contract → AreBounds table deployed.new.contracts.entries known.new) }
     ensures indexed { IfOk result (λ _. AreIndexed deployed.new) }
 {
     deployed.reserve()?;
+    known.reserve()?;
     deployed.add(Contract {
         checked,
         constants: IndexMap::new(alloc),
     });
+    known.add(contract);
     Ok(())
 }
 
@@ -77,21 +89,25 @@ fn keep(alloc: Global, deployed: &mut Deployed, checked: Checked) -> Result<(), 
 fn accept(
     alloc: Global,
     deployed: &mut Deployed,
+    known: &mut KnownBounds,
     source: &Source,
     checked: Checked,
-    bounds: Bounds,
+    priced: Priced,
     costs: &CostTable,
 ) -> Result<Judged, NoMemory>
     requires indexed { AreIndexed deployed.old }
+    requires known { AreBounds (function_of costs.now) deployed.old.contracts.entries known.old }
     requires new { contract_under source.now.principal deployed.old.contracts.entries ≡ None }
     requires checked { IsChecked deployed.old.contracts.entries source.now checked }
-    requires bounded { IsBounded (function_of costs.now) deployed.old.contracts.entries checked bounds }
+    requires bounded { IsBounded (function_of costs.now) deployed.old.contracts.entries checked priced.bounds }
+    requires kept { AreBoundsOf (function_of costs.now) deployed.old.contracts.entries checked priced.contract }
     ensures judged { IfOk result (λ judged. Judges (function_of costs.now) deployed.old.contracts.entries source.now judged deployed.new.contracts.entries) }
     ensures indexed { IfOk result (λ _. AreIndexed deployed.new) }
+    ensures known { IfOk result (λ _. AreBounds (function_of costs.now) deployed.new.contracts.entries known.new) }
 {
     what_callers_know();
-    let text = accepted_text(alloc, &checked, bounds)?;
-    keep(alloc, deployed, checked)?;
+    let text = accepted_text(alloc, &checked, priced.bounds)?;
+    keep(alloc, deployed, known, checked, priced.contract)?;
     Ok(Judged::Accepted(text))
 }
 
@@ -99,18 +115,21 @@ fn accept(
 fn judge_bounds(
     alloc: Global,
     deployed: &mut Deployed,
+    known: &mut KnownBounds,
     source: &Source,
     checked: Checked,
     costs: &CostTable,
 ) -> Result<Judged, NoMemory>
     requires indexed { AreIndexed deployed.old }
+    requires known { AreBounds (function_of costs.now) deployed.old.contracts.entries known.old }
     requires new { contract_under source.now.principal deployed.old.contracts.entries ≡ None }
     requires checked { IsChecked deployed.old.contracts.entries source.now checked }
     ensures judged { IfOk result (λ judged. Judges (function_of costs.now) deployed.old.contracts.entries source.now judged deployed.new.contracts.entries) }
     ensures indexed { IfOk result (λ _. AreIndexed deployed.new) }
+    ensures known { IfOk result (λ _. AreBounds (function_of costs.now) deployed.new.contracts.entries known.new) }
 {
-    match bound(alloc, &checked, deployed, costs) {
-        Ok(bounds) => accept(alloc, deployed, source, checked, bounds, costs),
+    match bound(alloc, &checked, known, costs) {
+        Ok(priced) => accept(alloc, deployed, known, source, checked, priced, costs),
         Err(Fault::Refused(refusal)) => {
             Ok(Judged::Refused(refused_text(alloc, source, refusal)?))
         }
@@ -122,16 +141,19 @@ fn judge_bounds(
 fn judge(
     alloc: Global,
     deployed: &mut Deployed,
+    known: &mut KnownBounds,
     source: &Source,
     costs: &CostTable,
 ) -> Result<Judged, NoMemory>
     requires indexed { AreIndexed deployed.old }
+    requires known { AreBounds (function_of costs.now) deployed.old.contracts.entries known.old }
     requires new { contract_under source.now.principal deployed.old.contracts.entries ≡ None }
     ensures judged { IfOk result (λ judged. Judges (function_of costs.now) deployed.old.contracts.entries source.now judged deployed.new.contracts.entries) }
     ensures indexed { IfOk result (λ _. AreIndexed deployed.new) }
+    ensures known { IfOk result (λ _. AreBounds (function_of costs.now) deployed.new.contracts.entries known.new) }
 {
     match check(alloc, deployed, &source.principal, source.text.as_slice()) {
-        Ok(checked) => judge_bounds(alloc, deployed, source, checked, costs),
+        Ok(checked) => judge_bounds(alloc, deployed, known, source, checked, costs),
         Err(Fault::Refused(refusal)) => {
             Ok(Judged::Refused(refused_text(alloc, source, refusal)?))
         }
@@ -150,9 +172,10 @@ pub(crate) fn report(
     ensures status { IfOk result (λ reply. IsOwnStatus reply.status × (reply.status ≢ 2)) }
 {
     let mut deployed = Deployed::new(alloc);
+    let mut known = KnownBounds::new(alloc);
     let mut pieces = Vec::new(alloc);
     for source in sources {
-        let judged = judge(alloc, &mut deployed, source, costs)?;
+        let judged = judge(alloc, &mut deployed, &mut known, source, costs)?;
         match judged {
             Judged::Accepted(text) => pieces.push(text)?,
             Judged::Refused(text) => {

@@ -3,14 +3,17 @@
 #![tactic(auto)]
 
 mod argument;
+mod bad_file;
 mod call;
 mod check;
 mod entries;
 mod judge;
+mod line;
 mod pieces;
 mod reading;
 mod reply;
 mod run;
+mod run_words;
 mod sources;
 mod spelling;
 mod top;

@@ -1,29 +1,20 @@
 //! Reads the files of sources.
 ghost use Rattle.std.specs.Prelude.{◌≡◌, ◌≢◌, ◌++◌, ◌∷◌, [], IfOk, IfErr, OnOk, map};
 ghost use Rattle.cl_ports.specs.Growth.{Grows, GrowsPart};
-ghost use Rattle.cl_app.specs.FileAnswers.{long_file_answer};
 ghost use Rattle.cl_app.specs.Reading.{sources_seen, AreRead, AsksPaths, IsRead};
 ghost use Rattle.cl_app.specs.Reply.{answer_of, CountsStop};
 ghost use Rattle.cl_app.specs.Sources.{contract_at};
 ghost use Rattle.cl_app.specs.Top.{IsOwnStatus};
 ghost use Rattle.cl_app.specs.Words.{texts};
 
-use crate::pieces::{Reply, Stop, one_piece};
+use crate::bad_file::long_file;
+use crate::pieces::{Reply, Stop};
 use crate::sources::{Source, contract_at};
 use cl_c32::Address;
 use cl_ports::{Files, ReadRefusal};
 use cl_tx::Row;
 use cl_types::NoMemory;
-use std::alloc::{AllocError, Global};
-
-/// The reply to a file that is too long.
-pub(crate) fn long_file(alloc: Global, name: &str) -> Result<Reply, AllocError>
-    ensures answer { IfOk result (λ reply. answer_of reply ≡ long_file_answer name.now) }
-    ensures status { IfOk result (λ reply. IsOwnStatus reply.status × (reply.status ≢ 2)) }
-{
-    let line = format!(in alloc; "bad file {name} TooLong\n")?;
-    one_piece(alloc, line, 5)
-}
+use std::alloc::Global;
 
 /// The source under a path, or the reply where it is too long.
 fn read_source<F: Files>(

@@ -1,21 +1,22 @@
 //! The reply to a command: the pieces that are written, and the status.
-ghost use Rattle.std.specs.Prelude.{◌≡◌, ◌≢◌, ◌↔◌, ◌∷◌, [], None, Some, IfOk, IfErr};
+ghost use Rattle.std.specs.Prelude.{◌≡◌, ◌≢◌, ◌↔◌, ◌∷◌, [], None, Some, IfOk, IfErr, option_map};
 ghost use Rattle.cl_ports.specs.Growth.{GrowsPart};
 ghost use Rattle.cl_app.specs.Answer.{usage_answer};
 ghost use Rattle.cl_app.specs.Called.{IsCalled};
-ghost use Rattle.cl_app.specs.Ran.{IsRan};
-ghost use Rattle.cl_app.specs.Words.{Call, Run, taken, texts};
+ghost use Rattle.cl_app.specs.Seen.{line_of};
+ghost use Rattle.cl_app.specs.Words.{Call, command_on, taken, texts};
 ghost use Rattle.cl_app.specs.Reply.{answer_of, CountsStop, IsHeldAnswer};
 ghost use Rattle.cl_app.specs.Top.{IsAnswer, IsOwnStatus, AsksPart};
 
 use crate::argument::values;
+use crate::bad_file::long_file;
 use crate::call::call_reply;
 use crate::check::check_words;
+use crate::line::{Line, read};
 use crate::pieces::{Reply, Stop, fixed_line};
-use crate::reading::long_file;
-use crate::run::run_reply;
+use crate::run_words::run_words;
 use crate::spelling::{no_value, value_reply, wire_reply};
-use crate::words::{Command, taken};
+use crate::words::{Command, command_on};
 use cl_ports::{Files, ReadRefusal};
 use cl_text::one_outcome;
 use cl_types::Fault;
@@ -50,21 +51,6 @@ fn called<F: Files>(
     }
 }
 
-/// The reply to `run`.
-fn ran<F: Files>(alloc: Global, name: &str, state: bool, files: &mut F) -> Result<Reply, Stop>
-    ensures answer { IfOk result (λ reply. IsHeldAnswer name.now (IsRan name.now state) (F.held files.old) (answer_of reply)) }
-    ensures status { IfOk result (λ reply. IsOwnStatus reply.status × (reply.status ≢ 2)) }
-    ensures cause { CountsStop (F.faults files.old) (F.faults files.new) result }
-    ensures asked { GrowsPart (F.asked files.old) (F.asked files.new) (name.now ∷ []) }
-{
-    match files.read(name) {
-        Ok(bytes) => Ok(run_reply(alloc, name, state, &bytes)?),
-        Err(ReadRefusal::TooLong { .. }) => Ok(long_file(alloc, name)?),
-        Err(ReadRefusal::Failed) => Err(Stop::ReadFailed),
-        Err(ReadRefusal::NoMemory) => Err(Stop::NoMemory),
-    }
-}
-
 /// The reply to `call`.
 fn call_words<F: Files>(
     alloc: Global,
@@ -86,6 +72,31 @@ fn call_words<F: Files>(
     }
 }
 
+/// The reply to a line; none stands for words that break the rule.
+fn line_reply<F: Files>(alloc: Global, line: &Option<Line>, files: &mut F) -> Result<Reply, Stop>
+    ensures answer { IfOk result (λ reply. IsAnswer (command_on (option_map line_of line.now)) (F.held files.old) (answer_of reply)) }
+    ensures status { IfOk result (λ reply. IsOwnStatus reply.status × ((reply.status ≡ 2) ↔ (command_on (option_map line_of line.now) ≡ None))) }
+    ensures usage { IfOk result (λ reply. reply.status ≡ 2 → answer_of reply ≡ usage_answer) }
+    ensures reads { IfErr result (λ stop. stop ≡ Stop.ReadFailed → command_on (option_map line_of line.now) ≢ None) }
+    ensures cause { CountsStop (F.faults files.old) (F.faults files.new) result }
+    ensures asked { AsksPart (command_on (option_map line_of line.now)) (F.held files.old) (F.asked files.old) (F.asked files.new) }
+{
+    match command_on(line) {
+        Some(
+            Command::Call {
+                file,
+                function,
+                args,
+            },
+        ) => call_words(alloc, file, function, args, files),
+        Some(Command::Run { costs, file, state }) => run_words(alloc, costs, file, state, files),
+        Some(Command::Check(words)) => check_words(alloc, &words, files),
+        Some(Command::Value(word)) => Ok(value_reply(alloc, word.as_bytes())?),
+        Some(Command::Wire(word)) => Ok(wire_reply(alloc, word.as_bytes())?),
+        None => Ok(usage(alloc)?),
+    }
+}
+
 /// The reply to the words.
 pub(crate) fn reply_to<F: Files>(
     alloc: Global,
@@ -99,18 +110,6 @@ pub(crate) fn reply_to<F: Files>(
     ensures cause { CountsStop (F.faults files.old) (F.faults files.new) result }
     ensures asked { AsksPart (taken (texts words.now)) (F.held files.old) (F.asked files.old) (F.asked files.new) }
 {
-    match taken(words) {
-        Some(
-            Command::Call {
-                file,
-                function,
-                args,
-            },
-        ) => call_words(alloc, file, function, args, files),
-        Some(Command::Run { file, state }) => ran(alloc, file, state, files),
-        Some(Command::Check(words)) => check_words(alloc, &words, files),
-        Some(Command::Value(word)) => Ok(value_reply(alloc, word.as_bytes())?),
-        Some(Command::Wire(word)) => Ok(wire_reply(alloc, word.as_bytes())?),
-        None => Ok(usage(alloc)?),
-    }
+    let line = read(alloc, words)?;
+    line_reply(alloc, &line, files)
 }

@@ -9,11 +9,12 @@ ghost use Rattle.cl_app.specs.Top.{Answers, AnswersPart, AsksPart};
 
 use crate::pieces::Stop;
 use crate::reply::reply_to;
+use cl_file::files_have_one_reading;
 use cl_ports::{Failed, Files, Sink};
 use cl_report::a_state_has_one_text;
 use cl_rules::{texts_have_one_answer, texts_have_one_order};
 use cl_text::one_outcome;
-use cl_tx::{files_have_one_reading, steps_have_one_result};
+use cl_tx::steps_have_one_result;
 use std::alloc::Global;
 
 /// Writes the pieces, and stops at a write that fails.
@@ -36,7 +37,7 @@ fn write_pieces<K: Sink>(pieces: &[Vec<u8>], out: &mut K) -> Result<(), Failed>
 /// | 2 | the words are not of the table |
 /// | 3 | a read failed; nothing is written |
 /// | 4 | a write failed; a first part of the answer is written |
-/// | 5 | a file that the words name is too long, no transaction file of the form that `run` reads, or no cost file |
+/// | 5 | a file that the words name is too long, no cost file or no transaction file |
 /// | 6 | the deployment of `call` is refused, or a contract of `check` |
 /// | 7 | its deployment aborts, or its call is an err, aborted or refused |
 /// | 8 | a word is no value |

@@ -1,10 +1,10 @@
-//! The words of the command line.
+//! The table of commands.
 ghost use Rattle.std.specs.Prelude.{◌≡◌, option_map};
-ghost use Rattle.std.specs.List.{list_any};
-ghost use Rattle.cl_app.specs.Words.{begins_with_dash, texts, check_under, command_with, command_with_words, command_of, command_with_state, taken};
-ghost use Rattle.cl_app.specs.Seen.{command_seen};
+ghost use Rattle.cl_app.specs.Words.{texts, check_under, run_of, command_with, command_with_words, command_of, command_with_state, command_in, command_on};
+ghost use Rattle.cl_app.specs.Seen.{command_seen, line_of};
 ghost use Rattle.cl_c32.specs.Codec.{decoded};
 
+use crate::line::Line;
 use crate::sources::are_sources;
 use cl_c32::{Address, decode};
 
@@ -25,8 +25,9 @@ pub(crate) enum Command<'a> {
         function: &'a str,
         args: &'a [String],
     },
-    /// What the entries of a transaction file come to, and with `state` the state after them.
+    /// What the entries of a transaction file come to under a file of costs, and with `state` the state after them.
     Run {
+        costs: &'a str,
         file: &'a str,
         state: bool,
     },
@@ -38,27 +39,6 @@ pub(crate) enum Command<'a> {
     Wire(&'a str),
 }
 
-fn begins_with_dash(word: &[u8]) -> bool
-    ensures { result ≡ begins_with_dash word.now }
-{
-    match word.split_first() {
-        Some((first, _)) => *first == b'-',
-        None => false,
-    }
-}
-
-/// Whether a word begins with a dash.
-fn has_dash(words: &[String]) -> bool
-    ensures { result ≡ list_any begins_with_dash (texts words.now) }
-{
-    for word in words {
-        if begins_with_dash(word.as_bytes()) {
-            return true;
-        }
-    }
-    false
-}
-
 /// The command of one word with this name.
 fn command_with<'a>(name: &str, word: &'a str) -> Option<Command<'a>>
     ensures { option_map command_seen result ≡ command_with name.now word.now }
@@ -68,12 +48,6 @@ fn command_with<'a>(name: &str, word: &'a str) -> Option<Command<'a>>
     }
     if name == "wire" {
         return Some(Command::Wire(word));
-    }
-    if name == "run" {
-        return Some(Command::Run {
-            file: word,
-            state: false,
-        });
     }
     None
 }
@@ -95,6 +69,20 @@ fn check_under<'a>(costs: &'a str, address: &str, paths: &'a [String]) -> Option
     }))
 }
 
+/// `run` with these words.
+fn run_of<'a>(costs: &'a str, file: &'a str, words: &'a [String]) -> Option<Command<'a>>
+    ensures { option_map command_seen result ≡ run_of costs.now file.now (texts words.now) }
+{
+    match words {
+        [] => Some(Command::Run {
+            costs,
+            file,
+            state: false,
+        }),
+        _ => None,
+    }
+}
+
 /// The command with this name and at least two more words.
 fn command_with_words<'a>(
     name: &str,
@@ -114,10 +102,13 @@ fn command_with_words<'a>(
     if name == "check" {
         return check_under(first, second, words);
     }
+    if name == "run" {
+        return run_of(first, second, words);
+    }
     None
 }
 
-/// The command of words of which none begins with a dash.
+/// The command of words without the flag.
 fn command_of(words: &[String]) -> Option<Command<'_>>
     ensures { option_map command_seen result ≡ command_of (texts words.now) }
 {
@@ -130,17 +121,15 @@ fn command_of(words: &[String]) -> Option<Command<'_>>
     }
 }
 
-/// `run`, a file and `--state`.
+/// The command of words with the flag, which `run` alone takes.
 fn command_with_state(words: &[String]) -> Option<Command<'_>>
     ensures { option_map command_seen result ≡ command_with_state (texts words.now) }
 {
     match words {
-        [name, file, last] => {
-            if begins_with_dash(file.as_bytes()) {
-                return None;
-            }
-            if name.as_str() == "run" && last.as_str() == "--state" {
+        [name, costs, file] => {
+            if name.as_str() == "run" {
                 return Some(Command::Run {
+                    costs: costs.as_str(),
                     file: file.as_str(),
                     state: true,
                 });
@@ -151,12 +140,23 @@ fn command_with_state(words: &[String]) -> Option<Command<'_>>
     }
 }
 
-/// The command that the words give, where they are of the table.
-pub(crate) fn taken(words: &[String]) -> Option<Command<'_>>
-    ensures { option_map command_seen result ≡ taken (texts words.now) }
+/// The command of positional words, with the flag or without it.
+fn command_in(line: &Line) -> Option<Command<'_>>
+    ensures { option_map command_seen result ≡ command_in line.now.state (texts line.now.words.items) }
 {
-    if has_dash(words) {
-        return command_with_state(words);
+    if line.state {
+        command_with_state(line.words.as_slice())
+    } else {
+        command_of(line.words.as_slice())
     }
-    command_of(words)
+}
+
+/// The command that words give, where they keep the rule and are of the table.
+pub(crate) fn command_on(line: &Option<Line>) -> Option<Command<'_>>
+    ensures { option_map command_seen result ≡ command_on (option_map line_of line.now) }
+{
+    match line {
+        Some(line) => command_in(line),
+        None => None,
+    }
 }

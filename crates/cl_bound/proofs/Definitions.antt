@@ -103,7 +103,6 @@ ShowsAfter n m d = (D : Defined) (fs : List Found) → ShowsPrices n D.context �
 abbrev pub AsWalked : Prices → Checked → ℕ → Prices → Sum → Type 0
 AsWalked c checked i n sum = record {
   costs : n.costs ≡ c.costs;
-  deployed : n.deployed ≡ c.deployed;
   walked : Walked c checked (at_places checked (drop (i + 1) checked.order.items)) n sum;
 }
 

@@ -17,8 +17,8 @@ use Rattle.cl_contracts.proofs.Places.{under_name}
 use Rattle.cl_contracts.proofs.Principals.{same_principal_turned}
 use Rattle.cl_bound.specs.declared.sum.Sum.{Sum}
 use Rattle.cl_bound.specs.declared.prices.Application.{Application}
-use Rattle.cl_bound.specs.declared.prices.Known.{Known as KnownPrices}
 use Rattle.cl_bound.specs.declared.prices.Prices.{Prices}
+use Rattle.cl_bound.specs.declared.known.ContractBounds.{ContractBounds}
 use Rattle.cl_bound.specs.Sums.{told}
 use Rattle.cl_bound.specs.Seen.{ShowsPrices, ShowFunctions, ShowsKnown, application_of, known_under}
 use Rattle.cl_bound.specs.Own.{applied, called_at}
@@ -92,11 +92,11 @@ module _ (table : CostTable) (fs : List Signature) (entries : List (List ℕ × 
 pub equal_so : (p q : Principal) → eq-value.it p q ≡ same_principal p q
 equal_so p q = search rules
 
-pub under_principal : (p : Principal) (es : List (Principal × KnownPrices)) → lookup (eq-value.it p) es ≡ known_under p es
+pub under_principal : (p : Principal) (es : List (Principal × ContractBounds)) → lookup (eq-value.it p) es ≡ known_under p es
 under_principal p [] = refl
 under_principal p (e ∷ es) =
     ap (λ (s : Bool). cond s (Some e.1) (lookup (eq-value.it p) es)) (equal_so p e.0 ∙ same_principal_turned p e.0)
-    ∙ ap (λ (o : Option KnownPrices). cond (same_principal e.0 p) (Some e.1) o) (under_principal p es)
+    ∙ ap (λ (o : Option ContractBounds). cond (same_principal e.0 p) (Some e.1) o) (under_principal p es)
 
 module _ (c : Prices) (G : Context) (p : Principal) (x : List ℕ) (shows : ShowsPrices c G) where
   -- what a call is charged, where the target is the contract itself or not, and this is deployed there
@@ -110,8 +110,8 @@ module _ (c : Prices) (G : Context) (p : Principal) (x : List ℕ) (shows : Show
   unfolding charged
   own_sum h = ap (λ (b : Bool). charged b (known_at p G.deployed)) (sym (own_is true h))
 
-  deployed_is : (o : Option KnownPrices) → o ≡ lookup (eq-value.it p) c.deployed.entries → ShowsKnown (function_of c.costs) (known_at p G.deployed) o
-  deployed_is o h = subst (ShowsKnown (function_of c.costs) (known_at p G.deployed)) (sym (h ∙ under_principal p c.deployed.entries)) (shows.deployed p)
+  deployed_is : (o : Option ContractBounds) → o ≡ lookup (eq-value.it p) c.deployed.now.contracts.entries → ShowsKnown (function_of c.costs) (known_at p G.deployed) o
+  deployed_is o h = subst (ShowsKnown (function_of c.costs) (known_at p G.deployed)) (sym (h ∙ under_principal p c.deployed.now.contracts.entries)) (shows.deployed p)
 
   nowhere_by : (k : Option Known) (b : Bool) → ShowsKnown (function_of c.costs) k None → told zero_cost ≡ charged b k
   unfolding charged
@@ -119,11 +119,11 @@ module _ (c : Prices) (G : Context) (p : Principal) (x : List ℕ) (shows : Show
   nowhere_by None false h = refl
   nowhere_by (Some k) b h = absurd h
 
-  pub nowhere_sum : None ≡ lookup (eq-value.it p) c.deployed.entries → told zero_cost ≡ told (called_at (there_or_not (target_at G p)) x (function_of c.costs))
+  pub nowhere_sum : None ≡ lookup (eq-value.it p) c.deployed.now.contracts.entries → told zero_cost ≡ told (called_at (there_or_not (target_at G p)) x (function_of c.costs))
   unfolding charged
   nowhere_sum h = nowhere_by (known_at p G.deployed) (same_principal p G.principal) (deployed_is None h)
 
-  call_by : (k : Option Known) (e : KnownPrices) (n : ℕ) (s f u : Sum) → ShowsKnown (function_of c.costs) k (Some e) → n ≡ e.length → s ≡ told (charge ContractCallCost n (function_of c.costs)) →
+  call_by : (k : Option Known) (e : ContractBounds) (n : ℕ) (s f u : Sum) → ShowsKnown (function_of c.costs) k (Some e) → n ≡ e.length → s ≡ told (charge ContractCallCost n (function_of c.costs)) →
       ((table : CostTable) (fs : List Signature) → ShowFunctions table fs e.functions.entries → f ≡ told (applied (if_callable (signature_in x fs)) table)) →
       ((a b : Cost5) → s ≡ told a → f ≡ told b → u ≡ told (plus a b)) → u ≡ charged false k
   unfolding charged
@@ -133,7 +133,7 @@ module _ (c : Prices) (G : Context) (p : Principal) (x : List ℕ) (shows : Show
       (s_is ∙ ap (λ (m : ℕ). told (charge ContractCallCost m (function_of c.costs))) (count ∙ sym h.0))
       (f_is (function_of c.costs) k.functions h.1)
 
-  pub call_sum : (e : KnownPrices) (n : ℕ) (s f u : Sum) → eq-value.it p c.principal ≡ false → Some e ≡ lookup (eq-value.it p) c.deployed.entries → n ≡ e.length → s ≡ told (charge ContractCallCost n (function_of c.costs)) →
+  pub call_sum : (e : ContractBounds) (n : ℕ) (s f u : Sum) → eq-value.it p c.principal ≡ false → Some e ≡ lookup (eq-value.it p) c.deployed.now.contracts.entries → n ≡ e.length → s ≡ told (charge ContractCallCost n (function_of c.costs)) →
       ((table : CostTable) (fs : List Signature) → ShowFunctions table fs e.functions.entries → f ≡ told (applied (if_callable (signature_in x fs)) table)) →
       ((a b : Cost5) → s ≡ told a → f ≡ told b → u ≡ told (plus a b)) → u ≡ told (called_at (there_or_not (target_at G p)) x (function_of c.costs))
   unfolding charged

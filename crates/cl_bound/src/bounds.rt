@@ -11,17 +11,19 @@ ghost use Rattle.cl_rules.specs.Context.{Bound, Known, signature_in};
 ghost use Rattle.cl_rules.specs.FormRules.{Defined};
 ghost use Rattle.cl_rules.specs.Laws.{IsFirstAboveLimit};
 ghost use Rattle.cl_contracts.specs.Seen.{forms_of};
+ghost use Rattle.cl_contracts.specs.declared.deployed.Deployed.{Deployed};
 ghost use Rattle.cl_contracts.specs.Standings.{Knows, StandsAfter};
 ghost use Rattle.cl_code.specs.Definitions.{form_defined};
 ghost use Rattle.cl_tx.specs.Step.{bound_line, told_of};
 ghost use Rattle.cl_bound.specs.Seen.{ShowsPrices, IsWithin};
+ghost use Rattle.cl_bound.specs.Known.{AreBounds, AreBoundsOf};
 
 use crate::contract::deployment;
-use crate::deployed::prices;
+use crate::known::{ContractBounds, KnownBounds};
 use crate::prices::Prices;
 use crate::stop::first_stop;
 use cl_code::Definition;
-use cl_contracts::{Checked, Deployed, what_callers_know};
+use cl_contracts::{Checked, what_callers_know};
 use cl_costs::CostTable;
 use cl_rules::the_first_bound_is_found;
 use cl_sexpr::{Break, Refusal, Rule};
@@ -64,24 +66,32 @@ fn lines(alloc: Global, prices: &Prices, checked: &Checked) -> Result<Vec<(Name,
     Ok(lines)
 }
 
+/// The bounds of a contract: as they are told, and as they are kept for those that call it.
+#[derive(Drop)]
+pub struct Priced {
+    pub bounds: Bounds,
+    pub contract: ContractBounds,
+}
+
 /// The bounds of a deployment and of each function of a contract, the functions in the order of its text; or the first bound
 /// that is above 2^128-1 (`B1`): with the span of the function that it is of, by the order of evaluation, and in the first such
-/// dimension, or at no place if it is the deployment's. The bounds of deployed contracts are computed anew under the same table.
-/// What each function returns is `Function::returns`.
+/// dimension, or at no place if it is the deployment's. Each bound is reckoned once: those of deployed contracts are known, under
+/// the same table. What each function returns is `Function::returns`.
 pub fn bound(
     alloc: Global,
     checked: &Checked,
-    deployed: &Deployed,
+    known: &KnownBounds,
     costs: &CostTable,
-) -> Result<Bounds, Fault<Refusal>>
-    ensures bounded { IfOk result (λ bounds. (known : List Known) (D : Defined) → Knows deployed.now known → StandsAfter known checked.now D → Bounded D (forms_of checked.now) (function_of costs.now)) }
-    ensures told { IfOk result (λ bounds. (known : List Known) (D : Defined) → Knows deployed.now known → StandsAfter known checked.now D → (told_of (function_of costs.now) D (forms_of checked.now)).bounds ≡ Some bounds) }
-    ensures broken { IfRefused result (λ refusal. (dimension : ADimension) × (refusal.rule ≡ BoundTooLarge dimension) × ((known : List Known) (D : Defined) → Knows deployed.now known → StandsAfter known checked.now D → IsFirstAboveLimit D (forms_of checked.now) checked.now.order.items (function_of costs.now) dimension refusal.span)) }
+) -> Result<Priced, Fault<Refusal>>
+    ensures bounded { IfOk result (λ priced. (deployed : Deployed) (callers : List Known) (D : Defined) → AreBounds (function_of costs.now) deployed.contracts.entries known.now → Knows deployed callers → StandsAfter callers checked.now D → Bounded D (forms_of checked.now) (function_of costs.now)) }
+    ensures told { IfOk result (λ priced. (deployed : Deployed) (callers : List Known) (D : Defined) → AreBounds (function_of costs.now) deployed.contracts.entries known.now → Knows deployed callers → StandsAfter callers checked.now D → (told_of (function_of costs.now) D (forms_of checked.now)).bounds ≡ Some priced.bounds) }
+    ensures kept { IfOk result (λ priced. (deployed : Deployed) → AreBounds (function_of costs.now) deployed.contracts.entries known.now → AreBoundsOf (function_of costs.now) deployed.contracts.entries checked.now priced.contract) }
+    ensures broken { IfRefused result (λ refusal. (dimension : ADimension) × (refusal.rule ≡ BoundTooLarge dimension) × ((deployed : Deployed) (callers : List Known) (D : Defined) → AreBounds (function_of costs.now) deployed.contracts.entries known.now → Knows deployed callers → StandsAfter callers checked.now D → IsFirstAboveLimit D (forms_of checked.now) checked.now.order.items (function_of costs.now) dimension refusal.span)) }
     ensures names { IfRefused result (λ refusal. refusal.names.items ≡ []) }
 {
     what_callers_know();
     the_first_bound_is_found();
-    let mut prices = prices(alloc, deployed, costs, &checked.principal)?;
+    let mut prices = Prices::new(alloc, costs, known, &checked.principal);
     let deployment = deployment(&mut prices, checked)?;
     match first_stop(&prices, checked, &deployment) {
         Some((dimension, span)) => Err(Fault::Refused(Refusal::of(
@@ -93,9 +103,16 @@ pub fn bound(
         ))),
         None => {
             let functions = lines(alloc, &prices, checked)?;
-            Ok(Bounds {
-                deploy: deployment.saturated(),
-                functions: Row::new(functions),
+            Ok(Priced {
+                bounds: Bounds {
+                    deploy: deployment.saturated(),
+                    functions: Row::new(functions),
+                },
+                contract: ContractBounds {
+                    principal: checked.principal,
+                    length: checked.source_length,
+                    functions: prices.functions,
+                },
             })
         }
     }

@@ -48,7 +48,6 @@ fn keep(
 /// Takes in a function: the bound of its application.
 fn define(prices: &mut Prices, function: &Function) -> Result<(), NoMemory>
     ensures costs { prices.new.costs ≡ prices.old.costs }
-    ensures deployed { prices.new.deployed ≡ prices.old.deployed }
     ensures shown { OnOk result ((D : Defined) (fs : List Found) → ShowsPrices prices.old D.context → StandsAs D (AFunction function.now) fs → ShowsPrices prices.new (defined_after D (function_form function.now) fs).context) }
 {
     let bound = application(prices, &function.params, &function.body);
@@ -62,7 +61,6 @@ fn define(prices: &mut Prices, function: &Function) -> Result<(), NoMemory>
 /// Takes in a definition. Gives what it is charged when it is deployed.
 fn take_in(prices: &mut Prices, definition: &Definition) -> Result<Sum, NoMemory>
     ensures costs { prices.new.costs ≡ prices.old.costs }
-    ensures deployed { prices.new.deployed ≡ prices.old.deployed }
     ensures charged { IfOk result (λ sum. (D : Defined) (fs : List Found) → ShowsPrices prices.old D.context → StandsAs D definition.now fs → sum ≡ told (form_charges (kind_at definition.now) fs (function_of prices.old.costs))) }
     ensures shown { OnOk result ((D : Defined) (fs : List Found) → ShowsPrices prices.old D.context → StandsAs D definition.now fs → ShowsPrices prices.new (defined_after D (form_defined definition.now) fs).context) }
 {
@@ -76,7 +74,6 @@ fn take_in(prices: &mut Prices, definition: &Definition) -> Result<Sum, NoMemory
 /// Takes in the definitions of a contract in the order of evaluation. Gives the bound of its deployment.
 pub(crate) fn deployment(prices: &mut Prices, checked: &Checked) -> Result<Sum, NoMemory>
     ensures costs { prices.new.costs ≡ prices.old.costs }
-    ensures deployed { prices.new.deployed ≡ prices.old.deployed }
     ensures defined { IfOk result (λ sum. (known : List Known) (principal : Principal) (E : Defined) → ShowsPrices prices.old (nothing_defined known principal checked.now.source_length).context →
         AllStand (nothing_defined known principal checked.now.source_length) (definitions_in_order checked.now) E → ShowsPrices prices.new E.context × (sum ≡ told (E.deploy (function_of prices.old.costs)))) }
 {

@@ -4,8 +4,8 @@
 mod bounds;
 mod branches;
 mod contract;
-mod deployed;
 mod forms;
+mod known;
 mod measure;
 mod native_costs;
 mod own;
@@ -16,4 +16,5 @@ mod sum;
 mod using;
 mod walk;
 
-pub use bounds::bound;
+pub use bounds::{Priced, bound};
+pub use known::{ContractBounds, KnownBounds};

@@ -1,14 +1,16 @@
 //! What bounds rest on.
-ghost use Rattle.std.specs.Prelude.{◌≡◌, ◌<◌, ◌^◌, List};
+ghost use Rattle.std.specs.Prelude.{◌≡◌, ℕ, ◌<◌, ◌^◌, List};
 ghost use Rattle.cl_costs.specs.Tables.{function_of};
 ghost use Rattle.cl_shapes.specs.Functions.{cost_at, shape_at, log2};
-ghost use Rattle.cl_rules.specs.Context.{Context, Signature, CostTable as Table, charge, signature_in, if_callable, target_at};
+ghost use Rattle.cl_rules.specs.Context.{Context, Known, Signature, CostTable as Table, charge, signature_in, if_callable, target_at};
+ghost use Rattle.cl_rules.specs.FormRules.{nothing_defined};
 ghost use Rattle.cl_rules.specs.CallShapes.{target_or_not, contract_literal};
 ghost use Rattle.cl_rules.specs.Shapes.{there_or_not};
 ghost use Rattle.cl_bound.specs.Sums.{told};
-ghost use Rattle.cl_bound.specs.Seen.{ShowsPrices, ShowFunctions};
+ghost use Rattle.cl_bound.specs.Seen.{ShowsPrices, ShowDeployed, ShowFunctions};
 ghost use Rattle.cl_bound.specs.Own.{applied, called_at, leaf_of};
 
+use crate::known::KnownBounds;
 use crate::sum::Sum;
 use cl_c32::Principal;
 use cl_code::Target;
@@ -16,6 +18,7 @@ use cl_costs::CostTable;
 use cl_shapes::{Cost5, CostFn, CostName, Shape};
 use cl_types::{Access, Name};
 use indexmap::IndexMap;
+use std::alloc::Global;
 
 /// One application of a function: who may call it, and the bound.
 #[derive(Clone, Copy)]
@@ -24,18 +27,11 @@ pub(crate) struct Application {
     pub(crate) bound: Sum,
 }
 
-/// A deployed contract: the length of its text, in bytes, and its functions.
-#[derive(Drop)]
-pub(crate) struct Known {
-    pub(crate) length: u32,
-    pub(crate) functions: IndexMap<Name, Application>,
-}
-
 /// What bounds rest on: the cost table, the deployed contracts, the contract that they are of, and its functions so far.
 #[derive(Drop)]
-pub(crate) struct Prices {
+pub(crate) struct Prices<'a> {
     pub(crate) costs: CostTable,
-    pub(crate) deployed: IndexMap<Principal, Known>,
+    pub(crate) deployed: &'a KnownBounds,
     pub(crate) principal: Principal,
     pub(crate) functions: IndexMap<Name, Application>,
 }
@@ -103,7 +99,25 @@ fn cost_at(function: CostFn, n: u64) -> Cost5
     }
 }
 
-impl Prices {
+impl<'a> Prices<'a> {
+    /// What the bounds of a contract rest on before its first definition.
+    pub(crate) fn new(
+        alloc: Global,
+        costs: &CostTable,
+        deployed: &'a KnownBounds,
+        principal: &Principal,
+    ) -> Prices<'a>
+        ensures costs { result.costs ≡ costs.now }
+        ensures shown { (known : List Known) (size : ℕ) → ShowDeployed (function_of costs.now) known deployed.now.contracts.entries → ShowsPrices result (nothing_defined known principal.now size).context }
+    {
+        Prices {
+            costs: *costs,
+            deployed,
+            principal: *principal,
+            functions: IndexMap::new(alloc),
+        }
+    }
+
     /// One charge.
     pub(crate) fn charge(&self, name: CostName, n: u64) -> Sum
         requires { n < 2 ^ 40 }
@@ -144,10 +158,10 @@ impl Prices {
         if *principal == self.principal {
             return Sum::ZERO;
         }
-        match self.deployed.get(principal) {
-            Some(known) => {
-                let call = self.charge_length(CostName::ContractCall, known.length);
-                call.add(&callable(&known.functions, name))
+        match self.deployed.contracts.get(principal) {
+            Some(contract) => {
+                let call = self.charge_length(CostName::ContractCall, contract.length);
+                call.add(&callable(&contract.functions, name))
             }
             None => Sum::ZERO,
         }

@@ -5,3 +5,4 @@ pub mod TypedCode
 pub mod TypedFalls
 pub mod Expression
 pub mod Definitions
+pub mod Watched

@@ -4,6 +4,7 @@
 mod code;
 mod definition;
 mod op;
+mod watch;
 
 pub use code::Code;
 pub use definition::{
@@ -12,3 +13,4 @@ pub use definition::{
 pub use op::{
     Applied, Binding, Callee, Iteration, Keyword, NameNative, Op, PartsNative, Target, Word,
 };
+pub use watch::{Silent, Watch};

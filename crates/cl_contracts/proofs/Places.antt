@@ -48,11 +48,11 @@ pub record IsNowhere (x : List ℕ) (forms : List Form) : Type 0 where
   pub nowhere : (n : ℕ) → name_at forms n ≡ Some x → ⊥
   pub none : form_of x forms ≡ None
 
-has_it : (x : List ℕ) (o : Option (List ℕ)) → has_name x o ≡ true → o ≡ Some x
+pub has_it : (x : List ℕ) (o : Option (List ℕ)) → has_name x o ≡ true → o ≡ Some x
 has_it x None h = absurd cc
 has_it x (Some y) h = ap (λ (z : List ℕ). Some z) (keys_equal y x h)
 
-self_same : (x : List ℕ) → pointwise nat_eq x x ≡ true
+pub self_same : (x : List ℕ) → pointwise nat_eq x x ≡ true
 self_same x = nat_list_eq_equiv.refl x
 
 has_not : (x : List ℕ) (o : Option (List ℕ)) → has_name x o ≡ false → o ≡ Some x → ⊥

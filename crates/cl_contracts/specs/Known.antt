@@ -4,12 +4,12 @@ use Rattle.cl_types.specs.Types.{PlainType}
 use Rattle.cl_types.specs.declared.sized.Access.{Access}
 use Rattle.cl_c32.specs.declared.principal.Principal.{Principal}
 use Rattle.cl_code.specs.declared.definition.Function.{Function as TypedFunction}
-use Rattle.cl_rules.specs.Context.{Signature, Known, known_at, signature_in}
+use Rattle.cl_rules.specs.Context.{Signature, Known, known_at, named_in, signature_in}
 use Rattle.cl_rules.specs.FormRules.{Defined}
 use Rattle.cl_contracts.specs.declared.checked.Checked.{Checked}
 use Rattle.cl_contracts.specs.declared.contract.Contract.{Contract}
 use Rattle.cl_contracts.specs.declared.deployed.Deployed.{Deployed}
-use Rattle.cl_contracts.specs.Seen.{function_under, contract_under, AreIndexed, IsIndexed}
+use Rattle.cl_contracts.specs.Seen.{constant_under, function_under, type_given, contract_under, AreIndexed, IsIndexed}
 use Rattle.cl_contracts.specs.Standings.{Knows, StandsAfter}
 
 -- a function as its callers see it, but for its name and its bound
@@ -42,3 +42,7 @@ KnownAsDeployed = (d : Deployed) (known : List Known) → AreIndexed d → Knows
 -- what stands for a contract defines its functions as it has them
 abbrev pub DefinedAsKept : Type 0
 DefinedAsKept = (before : List Known) (c : Checked) (defined : Defined) → IsIndexed c → StandsAfter before c defined → (x : List ℕ) → option_map seen (signature_in x defined.context.functions) ≡ option_map shown (function_under x c)
+
+-- and its constants with the types that it gives them
+abbrev pub ConstantsAsKept : Type 0
+ConstantsAsKept = (before : List Known) (c : Checked) (defined : Defined) → IsIndexed c → StandsAfter before c defined → (x : List ℕ) → named_in x defined.context.constants ≡ option_map type_given (constant_under x c)

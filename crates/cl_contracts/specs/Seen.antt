@@ -1,16 +1,20 @@
 -- How evaluations see the contracts of the code, and that they find what is defined.
-use Rattle.std.specs.Prelude.{◌≡◌, ℕ, List, [], ◌∷◌, map, slice_get, if◌then◌else◌, Option, Some, None, option_and_then}
+use Rattle.std.specs.Prelude.{◌≡◌, ℕ, true, List, [], ◌∷◌, map, slice_get, if◌then◌else◌, Option, Some, None, option_and_then}
+use Rattle.cl_types.specs.Types.{PlainType}
 use Rattle.cl_c32.specs.declared.principal.Principal.{Principal}
+use Rattle.cl_values.specs.Tree.{Tree as Val}
 use Rattle.cl_values.specs.Valid.{IsPrincipal}
+use Rattle.cl_values.specs.Inhabits.{inhabits}
 use Rattle.cl_forms.specs.Forms.{Form, FormKind}
 use Rattle.cl_forms.specs.Names.{name_at}
 use Rattle.cl_forms.specs.Order.{IsGoodOrder}
 use Rattle.cl_code.specs.declared.definition.Function.{Function as TypedFunction}
+use Rattle.cl_code.specs.declared.definition.Constant.{Constant as TypedConstant}
 use Rattle.cl_code.specs.declared.definition.Definition.{Definition}
-use Rattle.cl_code.specs.declared.definition.Definition.TheVariants.{Function}
-use Rattle.cl_code.specs.Typed.{expression_of}
+use Rattle.cl_code.specs.declared.definition.Definition.TheVariants.{Constant, Function}
+use Rattle.cl_code.specs.Typed.{expression_of, type_of}
 use Rattle.cl_code.specs.Definitions.{form_defined}
-use Rattle.cl_meaning.specs.Deployed.{Contract as ContractSeen, Deployed as DeployedSeen, Function as FunctionSeen}
+use Rattle.cl_meaning.specs.Deployed.{Contract as ContractSeen, Deployed as DeployedSeen, Function as FunctionSeen, value_of}
 use Rattle.cl_rules.specs.Context.{named_in, same_principal}
 use Rattle.cl_contracts.specs.declared.checked.Checked.{Checked}
 use Rattle.cl_contracts.specs.declared.contract.Contract.{Contract}
@@ -49,11 +53,32 @@ function_under x c = option_and_then as_function (definition_under x c)
 abbrev pub function_seen : TypedFunction → FunctionSeen
 function_seen f = record { name = f.name; access = f.access; params = f.params.items; body = expression_of f.body }
 
+abbrev pub as_constant : Definition → Option TypedConstant
+as_constant (Constant c) = Some c
+as_constant d = None
+
+-- the constant of a name
+abbrev pub constant_under : List ℕ → Checked → Option TypedConstant
+constant_under x c = option_and_then as_constant (definition_under x c)
+
+abbrev pub type_given : TypedConstant → PlainType
+type_given c = type_of c.value
+
 -- Each name has the place of the form that defines it, and no other name has one; the order of evaluation is a good one.
 pub record IsIndexed (c : Checked) : Type 0 where
   pub placed : (x : List ℕ) (n : ℕ) → name_at (forms_of c) n ≡ Some x → named_in x c.places.entries ≡ Some n
   pub named : (x : List ℕ) (n : ℕ) → named_in x c.places.entries ≡ Some n → name_at (forms_of c) n ≡ Some x
   pub order : IsGoodOrder (forms_of c) c.order.items
+
+-- a value of the type that is given to the constant of a name
+pub record IsConstant (c : Checked) (x : List ℕ) (v : Val) : Type 0 where
+  pub constant : TypedConstant
+  pub there : definition_under x c ≡ Some (Constant constant)
+  pub typed : inhabits v (type_given constant) ≡ true
+
+-- each value that is kept is of the type of the constant of its name
+pub record AreConstants (c : Contract) : Type 0 where
+  pub each : (x : List ℕ) (v : Val) → value_of x c.constants.entries ≡ Some v → IsConstant c.checked x v
 
 -- ---- the contract of a principal
 
@@ -62,11 +87,12 @@ abbrev pub contract_under : Principal → List (Principal × Contract) → Optio
 contract_under p [] = None
 contract_under p (e ∷ es) = if same_principal e.0 p then Some e.1 else contract_under p es
 
--- a contract is deployed under its own principal, and its names are indexed
+-- a contract is deployed under its own principal, its names are indexed, and its constants have their types
 pub record IsEntry (e : Principal × Contract) : Type 0 where
   pub principal : e.1.checked.principal ≡ e.0
   pub valid : IsPrincipal e.0
   pub indexed : IsIndexed e.1.checked
+  pub constants : AreConstants e.1
 
 abbrev pub AreEntries : List (Principal × Contract) → Type 0
 AreEntries [] = Unit {0}

@@ -3,7 +3,7 @@ ghost use Rattle.std.specs.Prelude.{◌≡◌, ◌<◌, ◌≤◌, ◌++◌, ◌
 ghost use Rattle.indexmap.specs.IndexMap.{spare};
 ghost use Rattle.cl_meaning.specs.Deployed.{contract_at};
 ghost use Rattle.cl_values.specs.Valid.{IsPrincipal};
-ghost use Rattle.cl_contracts.specs.Seen.{AreIndexed, IsIndexed, IsEntry, contract_seen, contract_under, deployed_seen};
+ghost use Rattle.cl_contracts.specs.Seen.{AreConstants, AreIndexed, IsIndexed, IsEntry, contract_seen, contract_under, deployed_seen};
 
 use crate::contract::Contract;
 use cl_c32::Principal;
@@ -88,11 +88,13 @@ impl Deployed {
         Ok(())
     }
 
-    /// Puts a contract behind the others, under its own principal. This takes no memory.
+    /// Puts a contract, whose constants have values of their types, behind the others, under its own principal. This takes no
+    /// memory.
     pub fn add(&mut self, contract: Contract)
         requires room { 0 < spare self.old.contracts }
         requires new { contract_under contract.checked.principal self.old.contracts.entries ≡ None }
         requires names { IsIndexed contract.checked }
+        requires constants { AreConstants contract }
         requires indexed { AreIndexed self.old }
         ensures added { self.new.contracts.entries ≡ self.old.contracts.entries ++ (contract.checked.principal, contract) ∷ [] }
         ensures indexed { AreIndexed self.new }

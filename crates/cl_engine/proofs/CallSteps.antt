@@ -11,9 +11,9 @@ use Rattle.cl_meaning.specs.Deployed.{Contract, Function, contract_at, as_functi
 use Rattle.cl_meaning.specs.Limits.{Costs, limited}
 use Rattle.cl_meaning.specs.Scope.{Frame}
 use Rattle.cl_meaning.specs.Top.{call_from}
-use Rattle.cl_tx.specs.declared.entry.Common.{Common}
+use Rattle.cl_file.specs.declared.entry.Common.{Common}
 use Rattle.cl_tx.specs.declared.outcome.EntryRefusal.TheVariants.{NoContract, NoFunction}
-use Rattle.cl_tx.specs.Nodes.{NodeSeen, Stepped, frame_of, no_limit, refused, call_ended}
+use Rattle.cl_tx.specs.Nodes.{NodeSeen, Stepped, frame_of, purse_of, refused, call_ended}
 use Rattle.cl_tx.specs.Step.{first_misfit, run_call, if_fitting, if_as_many, if_open, if_function, if_deployed, call_step}
 use Rattle.cl_engine.specs.Calling.{Comes, MayBeCalled}
 
@@ -52,15 +52,15 @@ module _ (costs : Costs) (node : NodeSeen) (common : Common) (contract : Princip
   in_function c f there h = in_contract c there ∙ ap (if_function costs node common contract args) h
 
   pub ended_so : (c : Contract) (f : Function) (F : Frame) → contract_at contract node.contracts ≡ Some c → function_in function c.forms ≡ Some f → MayBeCalled f args → F ≡ frame_of node common.sender contract →
-      call_step costs node common contract function args ≡ call_ended f.access node (limited costs no_limit (call_from node.contracts F f args node.state))
+      call_step costs node common contract function args ≡ call_ended common f.access node (limited costs (purse_of common) (call_from node.contracts F f args node.state))
   unfolding run_call
   ended_so c f F there h may is =
       in_function c f there h ∙ may_run costs node common contract f args may
-      ∙ ap (λ (G : Frame). call_ended f.access node (limited costs no_limit (call_from node.contracts G f args node.state))) (sym is)
+      ∙ ap (λ (G : Frame). call_ended common f.access node (limited costs (purse_of common) (call_from node.contracts G f args node.state))) (sym is)
 
   -- a call that steps comes to something
   pub comes_so : (c : Contract) (f : Function) (F : Frame) → contract_at contract node.contracts ≡ Some c → function_in function c.forms ≡ Some f → MayBeCalled f args → F ≡ frame_of node common.sender contract →
-      (s : Stepped) × (call_step costs node common contract function args ≡ Some s) → Comes f.access (limited costs no_limit (call_from node.contracts F f args node.state))
+      (s : Stepped) × (call_step costs node common contract function args ≡ Some s) → Comes common f.access (limited costs (purse_of common) (call_from node.contracts F f args node.state))
   comes_so c f F there h may is step = record { node = node; stepped = step.0; ended = sym (ended_so c f F there h may is) ∙ step.1 }
 
 -- a function that is found has the name by which it was looked for

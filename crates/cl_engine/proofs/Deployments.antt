@@ -1,5 +1,5 @@
 -- What a deployment makes of a sound node.
-use Rattle.std.proofs.Common.{◌≡◌, inl, inr, ℕ, List, [], ◌∷◌, ◌++◌, length, Some, None, sym, ap, subst, ◌∙◌}
+use Rattle.std.proofs.Common.{◌≡◌, inl, inr, ℕ, List, [], ◌∷◌, ◌++◌, length, Some, None, refl, sym, ap, subst, ◌∙◌}
 use Rattle.std.proofs.lemmas.List.{map_push}
 use Rattle.cl_c32.specs.declared.principal.Principal.{Principal}
 use Rattle.cl_shapes.specs.declared.cost.Cost5.{Cost5}
@@ -14,35 +14,37 @@ use Rattle.cl_events.specs.State.{State}
 use Rattle.cl_events.specs.declared.event.Event.{Event}
 use Rattle.cl_meaning.specs.Deployed.{Contract}
 use Rattle.cl_meaning.specs.Deploying.{deployment, forms_by, forms_at}
-use Rattle.cl_meaning.specs.Limits.{Limited, Lost, limited}
+use Rattle.cl_meaning.specs.Limits.{Limited, limited}
 use Rattle.cl_meaning.specs.Scope.{Frame}
 use Rattle.cl_rules.specs.Context.{CostTable, Known, known_at}
 use Rattle.cl_rules.specs.FormRules.{Defined, nothing_defined}
 use Rattle.cl_rules.specs.FormTyping.{FormsTyped}
 use Rattle.cl_rules.specs.Acceptance.{Accepted, Bounded, FirstBreakOf, NoneWrites, TypedAs, in_bounds, in_deployment, known_of}
-use Rattle.cl_rules.specs.Laws.{AcceptedIsClean, IsFirstAboveLimit, OneOrder}
+use Rattle.cl_rules.specs.Laws.{IsFirstAboveLimit}
 use Rattle.cl_contracts.specs.declared.checked.Checked.{Checked}
 use Rattle.cl_contracts.specs.declared.contract.Contract.{Contract as ContractOfCode}
-use Rattle.cl_contracts.specs.Seen.{IsIndexed, contract_seen, forms_of}
+use Rattle.cl_contracts.specs.Seen.{AreConstants, IsIndexed, contract_seen, forms_of}
 use Rattle.cl_contracts.specs.Standings.{AllStand, AreStanding, StandsAfter, definitions_in_order}
-use Rattle.cl_contracts.specs.Known.{DefinedAsKept}
+use Rattle.cl_contracts.specs.Known.{ConstantsAsKept, DefinedAsKept}
+use Rattle.cl_contracts.proofs.Constants.{is_constant}
 use Rattle.cl_eval.specs.Deploys.{contract_with}
+use Rattle.cl_eval.specs.Sound.{IsAcceptedAfter}
+use Rattle.cl_node_sound.specs.Laws.{DeployedHaveConstants}
 use Rattle.cl_node_sound.specs.Sound.{HasParts}
-use Rattle.cl_node_sound.specs.Laws.{DeploymentsStep}
-use Rattle.cl_tx.specs.declared.entry.Common.{Common}
-use Rattle.cl_tx.specs.declared.entry.Entry.{Entry}
-use Rattle.cl_tx.specs.declared.entry.Entry.TheVariants.{Deploy}
+use Rattle.cl_file.specs.declared.entry.Common.{Common}
+use Rattle.cl_file.specs.declared.entry.Entry.{Entry}
+use Rattle.cl_file.specs.declared.entry.Entry.TheVariants.{Deploy}
 use Rattle.cl_tx.specs.declared.outcome.Bounds.{Bounds}
 use Rattle.cl_tx.specs.declared.outcome.EntryRefusal.TheVariants.{NameTaken, ContractRefused}
 use Rattle.cl_tx.specs.declared.outcome.Outcome.TheVariants.{Done, Aborted, Refused}
 use Rattle.cl_tx.specs.declared.outcome.Stop.{Stop}
 use Rattle.cl_tx.specs.declared.outcome.TxResult.{TxResult}
-use Rattle.cl_tx.specs.Nodes.{NodeSeen, Stepped, Told, nothing_told, result_of, contract_of, person, frame_of, no_limit, deployment_ended}
+use Rattle.cl_tx.specs.Nodes.{NodeSeen, Stepped, Told, nothing_told, result_of, contract_of, person, frame_of, purse_of, settled_by, with_contract, deployment_ended}
 use Rattle.cl_tx.specs.Step.{DeploySteps, run_deployment, contract_with as contract_deployed, told_of, name_taken, source_refused, evaluated}
 use Rattle.cl_engine.specs.Seen.{Seen, node_with, seen}
 use Rattle.cl_engine.specs.Known.{AreKnown}
 use Rattle.cl_engine.specs.Sound.{Contracts, contracts_seen, IsSoundWith}
-use Rattle.cl_engine.specs.Deploying.{Constants, IsBounded, IsChecked, IsDone, IsFound, IsStopped, MakesWith, told_with}
+use Rattle.cl_engine.specs.Deploying.{Constants, IsBounded, IsChecked, IsDone, IsStopped, MakesWith, told_with}
 use Rattle.cl_engine.proofs.Knowing.{known_push, standing_push, types_told}
 
 -- a bound above the limit is the first break
@@ -119,16 +121,16 @@ module _ (costs : List CostFn) (es : Contracts) (s : State) (height : ℕ) (comm
 
       -- what the limit leaves of the deployment
       abbrev left : Limited Contract
-      left = limited (function_of costs) no_limit (deployment (contracts_seen es) (frame_of node common.sender p) (contract_deployed p source (forms_of c)) s)
+      left = limited (function_of costs) (purse_of common) (deployment (contracts_seen es) (frame_of node common.sender p) (contract_deployed p source (forms_of c)) s)
 
       abbrev left_in : Frame → Limited Contract
-      left_in F = limited (function_of costs) no_limit (deployment (contracts_seen es) F (contract_with c []) s)
+      left_in F = limited (function_of costs) (purse_of common) (deployment (contracts_seen es) F (contract_with c []) s)
 
       abbrev frame : Principal → Frame
       frame q = record { contract = q; sender = person common.sender; caller = person common.sender; height = height }
 
       pub same_left : (F : Frame) → F ≡ frame c.principal → left_in F ≡ left
-      same_left F is = λ i. limited (function_of costs) no_limit (deployment (contracts_seen es) ((is ∙ ap frame checked.principal_is) i) (record { principal = checked.principal_is i; forms = forms_of c; source_length = checked.size i; constants = [] }) s)
+      same_left F is = λ i. limited (function_of costs) (purse_of common) (deployment (contracts_seen es) ((is ∙ ap frame checked.principal_is) i) (record { principal = checked.principal_is i; forms = forms_of c; source_length = checked.size i; constants = [] }) s)
 
       -- what is told is what the bounds and the typed functions tell
       pub same_told : DefinedAsKept → told ≡ told_with bounds c.definitions.items
@@ -137,40 +139,33 @@ module _ (costs : List CostFn) (es : Contracts) (s : State) (height : ℕ) (comm
         types = types_told law known c found.0 checked.indexed found.3 i;
       }
 
-      -- something comes of it: it is neither wrong, nor does it need more depth
-      pub is_found : DeploymentsStep → AcceptedIsClean → OneOrder → HasParts entry → known_at p known ≡ None → IsFound left
-      unfolding run_deployment
-      is_found step clean one_order parts new = by (step (function_of costs) node common name source parts sound.sound new accepted)
-        where
-          none_known : (k : Known) → known_at p known ≡ Some k → ⊥
-          none_known k there = no_some (sym new ∙ there)
-            where
-              no_some : None ≡ Some k → ⊥
-              no_some e = cc
+      -- the contract is accepted after the deployed ones
+      pub is_accepted : known_at p known ≡ None → IsAcceptedAfter (contracts_seen es) s c
+      is_accepted new = record {
+        costs = function_of costs;
+        known = known;
+        node = record { contracts = sound.sound.contracts; kept = sound.sound.kept };
+        new = subst (λ q. known_at q known ≡ None) (sym checked.principal_is) new;
+        text = source;
+        accepted = record {
+          forms = forms_of c;
+          order = c.order.items;
+          defined = found.0;
+          typed = subst (λ q. TypedAs known q source (forms_of c) c.order.items found.0) (sym checked.principal_is) found.1;
+          none_writes = subst (λ q. NoneWrites known q (forms_of c)) (sym checked.principal_is) found.2;
+          bounded = within.0;
+        };
+        forms = refl;
+        order = refl;
+        size = checked.size;
+      }
 
-          none_ended : (t : Stepped) → None ≡ Some t → ⊥
-          none_ended t e = cc
-
-          by_steps : (t : Stepped) → DeploySteps (function_of costs) node common p source t → IsFound left
-          by_steps t (name_taken k there is) = absurd (none_known k there)
-          by_steps t (source_refused rule span names n first is) = absurd (clean known p (function_of costs) source rule span names accepted first)
-          by_steps t (evaluated n other run) = record {
-            found = λ purse lost.
-                let same : other.forms ≡ forms_of c = (one_order source other.forms (forms_of c) other.order c.order.items other.typed.is_ordered found.1.is_ordered).0 in
-                let gone : limited (function_of costs) no_limit (deployment (contracts_seen es) (frame_of node common.sender p) (contract_deployed p source other.forms) s) ≡ Lost purse =
-                ap (λ fs. limited (function_of costs) no_limit (deployment (contracts_seen es) (frame_of node common.sender p) (contract_deployed p source fs) s)) same ∙ lost in
-                none_ended t (sym (ap (deployment_ended node (told_of (function_of costs) other.defined other.forms) (known_of p (length source) other.defined)) gone) ∙ run);
-          }
-
-          by : (t : Stepped) × DeploySteps (function_of costs) node common p source t → IsFound left
-          by found_step = by_steps found_step.0 found_step.1
-
-      steps_so : (z : Stepped) → known_at p known ≡ None → deployment_ended node told one left ≡ Some z → DeploySteps (function_of costs) node common p source z
+      steps_so : (z : Stepped) → known_at p known ≡ None → deployment_ended common node told one left ≡ Some z → DeploySteps (function_of costs) node common p source z
       unfolding run_deployment
       steps_so z new ended = evaluated new accepted ended
 
       -- it stops
-      pub makes_stopped : DefinedAsKept → known_at p known ≡ None → (why : Stop) (cost : Cost5) (after : State) (r : TxResult) → IsStopped left why cost s after →
+      pub makes_stopped : DefinedAsKept → known_at p known ≡ None → (why : Stop) (cost : Cost5) (after : State) (r : TxResult) → IsStopped common left why cost s after →
           r ≡ result_of (told_with bounds c.definitions.items) (Aborted why) (Some cost) [] → MakesWith known before entry r es (seen after (contracts_seen es) height costs)
       makes_stopped law new why cost after r stopped is = record {
         now = known;
@@ -193,8 +188,16 @@ module _ (costs : List CostFn) (es : Contracts) (s : State) (height : ℕ) (comm
       same_known : known_of c.principal c.source_length found.0 ≡ one
       same_known = λ i. known_of (checked.principal_is i) (checked.size i) found.0
 
+      -- each value that is given is of the type of its constant
+      pub constants_so : DeployedHaveConstants → ConstantsAsKept → HasParts entry → known_at p known ≡ None → (cost : Cost5) (constants : Constants) (events : List Event) (after : State) → IsDone common left c cost constants.entries events after → AreConstants (put constants).1
+      constants_so law kept parts new cost constants events after done = record {
+        each = λ x v h.
+            let u = law (function_of costs) node common name source parts sound.sound new accepted (contract_with c constants.entries) done.state done.purse done.gave x v h in
+            is_constant x c u.type v (sym (kept known c found.0 checked.indexed found.3 x) ∙ u.there) u.typed.typed;
+      }
+
       -- it is done
-      pub makes_done : DefinedAsKept → known_at p known ≡ None → (cost : Cost5) (constants : Constants) (events : List Event) (after : State) (r : TxResult) → IsDone left c cost constants.entries events after →
+      pub makes_done : DefinedAsKept → known_at p known ≡ None → (cost : Cost5) (constants : Constants) (events : List Event) (after : State) (r : TxResult) → IsDone common left c cost constants.entries events after →
           r ≡ result_of (told_with bounds c.definitions.items) Done (Some cost) events →
           MakesWith known before entry r (es ++ put constants ∷ []) (seen after (contracts_seen (es ++ put constants ∷ [])) height costs)
       makes_done law new cost constants events after r done is = record {
@@ -207,7 +210,8 @@ module _ (costs : List CostFn) (es : Contracts) (s : State) (height : ℕ) (comm
             (ap (forms_by (forms_of c)) found.1.is_ordered.order_is)
             (subst (λ (n : Principal × ℕ). FormsTyped (nothing_defined known n.0 n.1) (forms_at (forms_of c) c.order.items) found.0) (λ i. (sym checked.principal_is i, sym checked.size i)) found.1.are_typed)));
         steps = steps_so (record { node = node_with (known ++ one ∷ []) (seen after (contracts_seen (es ++ put constants ∷ [])) height costs); result = r }) new
-            (ap (deployment_ended node told one) done.gave
+            (ap (deployment_ended common node told one) done.gave
+            ∙ (λ i. Some (settled_by (done.passes i) node (with_contract node (contract_with c constants.entries) one) told Done done.purse.spent done.state))
             ∙ (λ i. Some (record {
               node = record { state = sym done.rests i; contracts = sym (grown constants) i; known = known ++ one ∷ []; height = height };
               result = ((λ j. result_of (same_told law j) Done (Some (done.spent j)) (sym done.told j)) ∙ sym is) i;

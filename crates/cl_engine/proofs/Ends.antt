@@ -15,124 +15,102 @@ use Rattle.cl_meaning.specs.Limits.{Costs, Limited, Gave, Threw, AbortedBy, Pass
 use Rattle.cl_meaning.specs.Scope.{Frame}
 use Rattle.cl_meaning.specs.Top.{call_from}
 use Rattle.cl_eval.specs.declared.abort.Abort.{Abort}
-use Rattle.cl_eval.specs.declared.abort.Abort.TheVariants.{Overflow, Underflow, DivideByZero, NegativeArgument, Panic, SupplyOverflow, EarlyTop, CostLimit, Stuck}
+use Rattle.cl_eval.specs.declared.abort.Abort.TheVariants.{Overflow, Underflow, DivideByZero, NegativeArgument, Panic, SupplyOverflow, EarlyTop, CostLimit}
 use Rattle.cl_eval.specs.Aborts.{AbortsBy, Answers, IsEarly}
-use Rattle.cl_tx.specs.declared.outcome.Stop.{Stop}
-use Rattle.cl_tx.specs.declared.outcome.Stop.TheVariants as stops
 use Rattle.cl_tx.specs.declared.outcome.Outcome.TheVariants.{Aborted}
 use Rattle.cl_tx.specs.declared.outcome.TxResult.{TxResult}
-use Rattle.cl_tx.specs.Nodes.{NodeSeen, Stepped, nothing_told, no_limit, result_of, aborted, answered, call_ended}
+use Rattle.cl_file.specs.declared.entry.Common.{Common}
+use Rattle.cl_tx.specs.Nodes.{NodeSeen, Stepped, nothing_told, result_of, aborted, answered, call_ended}
 use Rattle.cl_engine.specs.Calling.{AbortsCall, Comes, IsResponse, MayAnswer, stop_by, cost_by}
 
 -- ---- what comes to something
 
 -- a public function that comes to something answers a response
-public_answers : (v : Tree) (node : NodeSeen) (cost : Cost5) (s : State) (stepped : Stepped) → answered Public v node cost s ≡ Some stepped → IsResponse v
-public_answers (ResponseV good v) node cost s stepped h = tt
-public_answers (IntV z) node cost s stepped h = absurd cc
-public_answers (UintV n) node cost s stepped h = absurd cc
-public_answers (BoolV b) node cost s stepped h = absurd cc
-public_answers (BuffV b) node cost s stepped h = absurd cc
-public_answers (AsciiV a) node cost s stepped h = absurd cc
-public_answers (Utf8V u) node cost s stepped h = absurd cc
-public_answers (PrincipalV p) node cost s stepped h = absurd cc
-public_answers (ListV vs) node cost s stepped h = absurd cc
-public_answers (TupleV es) node cost s stepped h = absurd cc
-public_answers NoneV node cost s stepped h = absurd cc
-public_answers (SomeV v) node cost s stepped h = absurd cc
+public_answers : (common : Common) (v : Tree) (node : NodeSeen) (cost : Cost5) (s : State) (stepped : Stepped) → answered common Public v node cost s ≡ Some stepped → IsResponse v
+public_answers common (ResponseV good v) node cost s stepped h = tt
+public_answers common (IntV z) node cost s stepped h = absurd cc
+public_answers common (UintV n) node cost s stepped h = absurd cc
+public_answers common (BoolV b) node cost s stepped h = absurd cc
+public_answers common (BuffV b) node cost s stepped h = absurd cc
+public_answers common (AsciiV a) node cost s stepped h = absurd cc
+public_answers common (Utf8V u) node cost s stepped h = absurd cc
+public_answers common (PrincipalV p) node cost s stepped h = absurd cc
+public_answers common (ListV vs) node cost s stepped h = absurd cc
+public_answers common (TupleV es) node cost s stepped h = absurd cc
+public_answers common NoneV node cost s stepped h = absurd cc
+public_answers common (SomeV v) node cost s stepped h = absurd cc
 
-response : (access : Access) (v : Tree) (node : NodeSeen) (cost : Cost5) (s : State) (stepped : Stepped) → answered access v node cost s ≡ Some stepped → access ≡ Public → IsResponse v
-response Public v node cost s stepped h is = public_answers v node cost s stepped h
-response ReadOnly v node cost s stepped h is = absurd cc
-response Private v node cost s stepped h is = absurd cc
+response : (common : Common) (access : Access) (v : Tree) (node : NodeSeen) (cost : Cost5) (s : State) (stepped : Stepped) → answered common access v node cost s ≡ Some stepped → access ≡ Public → IsResponse v
+response common Public v node cost s stepped h is = public_answers common v node cost s stepped h
+response common ReadOnly v node cost s stepped h is = absurd cc
+response common Private v node cost s stepped h is = absurd cc
 
 -- nothing comes of a call out of which a value is thrown
-early : (access : Access) (node : NodeSeen) (l : Limited Tree) (q : Purse) → IsEarly l q → call_ended access node l ≡ None
-early access node (Threw v s p) q h = refl
-early access node (Gave v s p) q h = absurd h
-early access node (AbortedBy why p) q h = absurd h
-early access node (Passed over p) q h = absurd h
-early access node (Lost p) q h = absurd h
+early : (common : Common) (access : Access) (node : NodeSeen) (l : Limited Tree) (q : Purse) → IsEarly l q → call_ended common access node l ≡ None
+early common access node (Threw v s p) q h = refl
+early common access node (Gave v s p) q h = absurd h
+early common access node (AbortedBy why p) q h = absurd h
+early common access node (Passed over p) q h = absurd h
+early common access node (Lost p) q h = absurd h
 
--- and it is neither stuck, nor is a value thrown out of it
-aborts_call : (access : Access) (l : Limited Tree) (abort : Abort) (q : Purse) → Comes access l → AbortsBy l abort q → AbortsCall abort
-aborts_call access l Stuck q comes h = none (sym (ap (call_ended access comes.node) h) ∙ comes.ended)
+-- so no value is thrown out of one that comes to something
+aborts_call : (common : Common) (access : Access) (l : Limited Tree) (abort : Abort) (q : Purse) → Comes common access l → AbortsBy l abort q → AbortsCall abort
+aborts_call common access l EarlyTop q comes h = none (sym (early common access comes.node l q h) ∙ comes.ended)
   where
     none : None ≡ Some comes.stepped → ⊥
     none e = cc
-aborts_call access l EarlyTop q comes h = none (sym (early access comes.node l q h) ∙ comes.ended)
-  where
-    none : None ≡ Some comes.stepped → ⊥
-    none e = cc
-aborts_call access l Overflow q comes h = tt
-aborts_call access l Underflow q comes h = tt
-aborts_call access l DivideByZero q comes h = tt
-aborts_call access l NegativeArgument q comes h = tt
-aborts_call access l Panic q comes h = tt
-aborts_call access l SupplyOverflow q comes h = tt
-aborts_call access l (CostLimit over) q comes h = tt
+aborts_call common access l Overflow q comes h = tt
+aborts_call common access l Underflow q comes h = tt
+aborts_call common access l DivideByZero q comes h = tt
+aborts_call common access l NegativeArgument q comes h = tt
+aborts_call common access l Panic q comes h = tt
+aborts_call common access l SupplyOverflow q comes h = tt
+aborts_call common access l (CostLimit over) q comes h = tt
 
-pub may_answer : (access : Access) (l : Limited Tree) (answer : Result Tree (Fault Abort)) (q : Purse) (s : State) → Comes access l → Answers l answer q s → MayAnswer access answer
-may_answer access l (Ok v) q s comes h = response access v comes.node q.spent s comes.stepped (sym (ap (call_ended access comes.node) h) ∙ comes.ended)
-may_answer access l (Err (Refused abort)) q s comes h = aborts_call access l abort q comes h
-may_answer access l (Err OutOfMemory) q s comes h = tt
+pub may_answer : (common : Common) (access : Access) (l : Limited Tree) (answer : Result Tree (Fault Abort)) (q : Purse) (s : State) → Comes common access l → Answers l answer q s → MayAnswer access answer
+may_answer common access l (Ok v) q s comes h = response common access v comes.node q.spent s comes.stepped (sym (ap (call_ended common access comes.node) h) ∙ comes.ended)
+may_answer common access l (Err (Refused abort)) q s comes h = aborts_call common access l abort q comes h
+may_answer common access l (Err OutOfMemory) q s comes h = tt
 
 -- ---- aborts
 
-abbrev ended : NodeSeen → Cost5 → Option Stop → Option Stepped
-ended node cost None = None
-ended node cost (Some stop) = Some (aborted node nothing_told stop cost)
-
 -- an abort is the result's
-abort_ends : (access : Access) (node : NodeSeen) (l : Limited Tree) (abort : Abort) (q : Purse) (stop : Stop) → AbortsCall abort → AbortsBy l abort q → stop_by abort ≡ Some stop → call_ended access node l ≡ Some (aborted node nothing_told stop (cost_by abort q.spent))
-abort_ends access node l Overflow q stop may h e = ap (call_ended access node) h ∙ ap (ended node q.spent) e
-abort_ends access node l Underflow q stop may h e = ap (call_ended access node) h ∙ ap (ended node q.spent) e
-abort_ends access node l DivideByZero q stop may h e = ap (call_ended access node) h ∙ ap (ended node q.spent) e
-abort_ends access node l NegativeArgument q stop may h e = ap (call_ended access node) h ∙ ap (ended node q.spent) e
-abort_ends access node l Panic q stop may h e = ap (call_ended access node) h ∙ ap (ended node q.spent) e
-abort_ends access node l SupplyOverflow q stop may h e = ap (call_ended access node) h ∙ ap (ended node q.spent) e
-abort_ends access node l EarlyTop q stop may h e = absurd may
-abort_ends access node l (CostLimit over) q stop may h e = ap (call_ended access node) h ∙ ap (ended node over.attempted) e
-abort_ends access node l Stuck q stop may h e = absurd may
-
-stop_there : (abort : Abort) → AbortsCall abort → (stop : Stop) × (stop_by abort ≡ Some stop)
-stop_there Overflow h = (stops.Overflow, refl)
-stop_there Underflow h = (stops.Underflow, refl)
-stop_there DivideByZero h = (stops.DivideByZero, refl)
-stop_there NegativeArgument h = (stops.NegativeArgument, refl)
-stop_there Panic h = (stops.Panic, refl)
-stop_there SupplyOverflow h = (stops.SupplyOverflow, refl)
-stop_there EarlyTop h = absurd h
-stop_there (CostLimit over) h = (stops.CostLimit over, refl)
-stop_there Stuck h = absurd h
+abort_ends : (common : Common) (access : Access) (node : NodeSeen) (l : Limited Tree) (abort : Abort) (q : Purse) → AbortsCall abort → AbortsBy l abort q → call_ended common access node l ≡ Some (aborted node nothing_told (stop_by abort) (cost_by abort q.spent))
+abort_ends common access node l Overflow q may h = ap (call_ended common access node) h
+abort_ends common access node l Underflow q may h = ap (call_ended common access node) h
+abort_ends common access node l DivideByZero q may h = ap (call_ended common access node) h
+abort_ends common access node l NegativeArgument q may h = ap (call_ended common access node) h
+abort_ends common access node l Panic q may h = ap (call_ended common access node) h
+abort_ends common access node l SupplyOverflow q may h = ap (call_ended common access node) h
+abort_ends common access node l EarlyTop q may h = absurd may
+abort_ends common access node l (CostLimit over) q may h = ap (call_ended common access node) h
 
 pub abort_steps :
-    (access : Access) (node : NodeSeen) (l : Limited Tree) (answer : Result Tree (Fault Abort)) (fault : Fault Abort) (abort : Abort) (q : Purse) (t u : State) (below : List State) (spent : Cost5) (r : TxResult) →
+    (common : Common) (access : Access) (node : NodeSeen) (l : Limited Tree) (answer : Result Tree (Fault Abort)) (fault : Fault Abort) (abort : Abort) (q : Purse) (t u : State) (below : List State) (spent : Cost5) (r : TxResult) →
     answer ≡ Err fault → fault ≡ Refused abort → MayAnswer access answer → Answers l answer q t → q.spent ≡ spent → node.state ∷ [] ≡ below → u ∷ [] ≡ below →
-    ((stop : Stop) → stop_by abort ≡ Some stop → r ≡ result_of nothing_told (Aborted stop) (Some (cost_by abort spent)) []) →
-    call_ended access node l ≡ Some (record { node = record node { state = u }; result = r })
-abort_steps access node l answer fault abort q t u below spent r err refused may answers cost before undone told =
+    r ≡ result_of nothing_told (Aborted (stop_by abort)) (Some (cost_by abort spent)) [] →
+    call_ended common access node l ≡ Some (record { node = record node { state = u }; result = r })
+abort_steps common access node l answer fault abort q t u below spent r err refused may answers cost before undone told =
     let is : answer ≡ Err (Refused abort) = err ∙ ap Err refused in
     let fine : AbortsCall abort = subst (MayAnswer access) is may in
     let h : AbortsBy l abort q = subst (λ (a : Result Tree (Fault Abort)). Answers l a q t) is answers in
-    let there : (stop : Stop) × (stop_by abort ≡ Some stop) = stop_there abort fine in
     let same : node.state ∷ [] ≡ u ∷ [] = before ∙ sym undone in
     let state : node.state ≡ u = cc in
-    let result : result_of nothing_told (Aborted there.0) (Some (cost_by abort q.spent)) [] ≡ r =
-    ap (λ (c : Cost5). result_of nothing_told (Aborted there.0) (Some (cost_by abort c)) []) cost ∙ sym (told there.0 there.1) in
-    let stepped : Some (aborted node nothing_told there.0 (cost_by abort q.spent)) ≡ Some (record { node = record node { state = u }; result = r }) =
+    let result : result_of nothing_told (Aborted (stop_by abort)) (Some (cost_by abort q.spent)) [] ≡ r =
+    ap (λ (c : Cost5). result_of nothing_told (Aborted (stop_by abort)) (Some (cost_by abort c)) []) cost ∙ sym told in
+    let stepped : Some (aborted node nothing_told (stop_by abort) (cost_by abort q.spent)) ≡ Some (record { node = record node { state = u }; result = r }) =
     λ i. Some (record { node = record node { state = state i }; result = result i }) in
-    abort_ends access node l abort q there.0 fine h there.1 ∙ stepped
+    abort_ends common access node l abort q fine h ∙ stepped
 
 -- ---- what a run answers
 
 pub run_answers :
-    (costs : Costs) (p : Purse) (W : Deployed) (F : Frame) (x : List ℕ) (f : Function) (args values : List Tree) (s u : State) (answer : Result Tree (Fault Abort)) (q : Purse) (t : State) →
-    p ≡ no_limit → function_of x (contract_at F.contract W) ≡ Some f → values ≡ args → u ≡ s →
+    (costs : Costs) (p full : Purse) (W : Deployed) (F : Frame) (x : List ℕ) (f : Function) (args values : List Tree) (s u : State) (answer : Result Tree (Fault Abort)) (q : Purse) (t : State) →
+    p ≡ full → function_of x (contract_at F.contract W) ≡ Some f → values ≡ args → u ≡ s →
     Answers (limited costs p (with_known (function_of x (contract_at F.contract W)) (λ g. call_from W F g values) u)) answer q t →
-    Answers (limited costs no_limit (call_from W F f args s)) answer q t
-run_answers costs p W F x f args values s u answer q t ep ef ev es h =
-    let same : limited costs p (with_known (function_of x (contract_at F.contract W)) (λ g. call_from W F g values) u) ≡ limited costs no_limit (call_from W F f args s) =
+    Answers (limited costs full (call_from W F f args s)) answer q t
+run_answers costs p full W F x f args values s u answer q t ep ef ev es h =
+    let same : limited costs p (with_known (function_of x (contract_at F.contract W)) (λ g. call_from W F g values) u) ≡ limited costs full (call_from W F f args s) =
     λ i. limited costs (ep i) (with_known (ef i) (λ g. call_from W F g (ev i)) (es i)) in
     subst (λ (l : Limited Tree). Answers l answer q t) same h
 

@@ -1,6 +1,6 @@
 -- Nodes stay sound, and what an entry makes of them.
 use Rattle.std.specs.Prelude.{IfOk, OnErr}
-use Rattle.std.proofs.Common.{◌≡◌, ℕ, List, Some, Result, Ok, Err, refl, sym, subst}
+use Rattle.std.proofs.Common.{◌≡◌, ℕ, List, [], Some, None, Result, Ok, Err, refl, sym, subst}
 use Rattle.cl_types.specs.declared.fault.NoMemory.{NoMemory}
 use Rattle.cl_c32.specs.declared.principal.Principal.{Principal}
 use Rattle.cl_shapes.specs.declared.function.CostFn.{CostFn}
@@ -10,11 +10,13 @@ use Rattle.cl_events.specs.State.{State}
 use Rattle.cl_rules.specs.Context.{Known}
 use Rattle.cl_node_sound.specs.Sound.{HasParts}
 use Rattle.cl_node_sound.specs.Laws.{SoundStay}
-use Rattle.cl_tx.specs.declared.entry.Common.{Common}
-use Rattle.cl_tx.specs.declared.entry.Entry.{Entry}
-use Rattle.cl_tx.specs.declared.entry.Entry.TheVariants.{Call}
+use Rattle.cl_file.specs.declared.entry.Common.{Common}
+use Rattle.cl_file.specs.declared.entry.Entry.{Entry}
+use Rattle.cl_file.specs.declared.entry.Entry.TheVariants.{Call, Block}
+use Rattle.cl_tx.specs.declared.outcome.Outcome.TheVariants.{Moved}
 use Rattle.cl_tx.specs.declared.outcome.TxResult.{TxResult}
 use Rattle.cl_tx.specs.Laws.{FailedChangeNothing, IsKept}
+use Rattle.cl_tx.specs.Nodes.{nothing_told, result_of}
 use Rattle.cl_tx.specs.Step.{call_step}
 use Rattle.cl_engine.specs.Seen.{Seen, node_with, seen}
 use Rattle.cl_engine.specs.Sound.{Contracts, contracts_seen, IsSound}
@@ -23,12 +25,12 @@ use Rattle.cl_engine.specs.Steps.{Makes}
 
 -- ---- one step
 
-module _ (costs : List CostFn) (es fs : Contracts) (s t : State) (height : ℕ) (entry : Entry) (r : TxResult) where
+module _ (costs : List CostFn) (es fs : Contracts) (s t : State) (height later : ℕ) (entry : Entry) (r : TxResult) where
   abbrev before : Seen
   before = seen s (contracts_seen es) height costs
 
   abbrev after : Seen
-  after = seen t (contracts_seen fs) height costs
+  after = seen t (contracts_seen fs) later costs
 
   pub makes : IsSound es before → MakesSound es before entry r fs after → Makes before entry r after
   makes sound steps =
@@ -66,6 +68,17 @@ pub call_makes : (costs : List CostFn) (es : Contracts) (s t : State) (height : 
     MakesSound es (seen s (contracts_seen es) height costs) (Call common contract function args) r es (seen t (contracts_seen es) height costs)
 call_makes costs es s t height common contract function args r steps known sound = record { now = known; trees = sound.trees; forms = sound.forms; steps = steps known }
 
+-- ---- a block
+
+module _ (costs : List CostFn) (es : Contracts) (s : State) (height later : ℕ) (r : TxResult) where
+  pub block_makes : r ≡ result_of nothing_told Moved None [] → MakesSound es (seen s (contracts_seen es) height costs) (Block later) r es (seen s (contracts_seen es) later costs)
+  block_makes is known sound = record {
+    now = known;
+    trees = sound.trees;
+    forms = sound.forms;
+    steps = λ i. record { node = node_with known (seen s (contracts_seen es) later costs); result = is i };
+  }
+
 -- ---- after a call that may want memory
 
 module _ (costs : List CostFn) (es fs : Contracts) (s t : State) (height : ℕ) (entry : Entry) (result : Result TxResult NoMemory) where
@@ -79,7 +92,7 @@ module _ (costs : List CostFn) (es fs : Contracts) (s t : State) (height : ℕ) 
   sound_still stay parts sound = by result
     where
       by : (result : Result TxResult NoMemory) → IfOk result (λ r. MakesSound es first entry r fs last) → OnErr result ((t ≡ s) × (fs ≡ es)) → IsSound fs last
-      by (Ok r) steps same = sound_after costs es fs s t height entry r stay parts sound steps
+      by (Ok r) steps same = sound_after costs es fs s t height height entry r stay parts sound steps
       by (Err e) steps same =
           subst (λ (n : Contracts × State). IsSound n.0 (seen n.1 (contracts_seen n.0) height costs)) (λ i. (sym same.1 i, sym same.0 i)) sound
 
@@ -87,14 +100,14 @@ module _ (costs : List CostFn) (es fs : Contracts) (s t : State) (height : ℕ) 
   makes_still sound = by result
     where
       by : (result : Result TxResult NoMemory) → IfOk result (λ r. MakesSound es first entry r fs last) → IfOk result (λ r. Makes first entry r last)
-      by (Ok r) steps = makes costs es fs s t height entry r sound steps
+      by (Ok r) steps = makes costs es fs s t height height entry r sound steps
       by (Err e) steps = tt
 
   pub undone_still : FailedChangeNothing → IsSound es first → IfOk result (λ r. MakesSound es first entry r fs last) → IfOk result (λ r. (IsKept r.outcome → ⊥) → last ≡ first)
   undone_still failed sound = by result
     where
       by : (result : Result TxResult NoMemory) → IfOk result (λ r. MakesSound es first entry r fs last) → IfOk result (λ r. (IsKept r.outcome → ⊥) → last ≡ first)
-      by (Ok r) steps = undone costs es fs s t height entry r failed sound steps
+      by (Ok r) steps = undone costs es fs s t height height entry r failed sound steps
       by (Err e) steps = tt
 
 -- a call

@@ -1,13 +1,12 @@
--- Values that are within the limits, one after another.
+-- What holds of items one after another.
 use Rattle.std.proofs.Common.{◌≡◌, ℕ, zero, suc, ◌+◌, ◌<◌, List, [], ◌∷◌, length, get_or, subst, arith}
 use borrow.Author.Count.{below_more}
-use Rattle.cl_values.specs.Tree.{Tree}
-use Rattle.cl_values.specs.Valid.{IsVal}
 
-valid_at : (vs : List Tree) (i : ℕ) (v d : Tree) → v ≡ get_or vs i v → i < length vs → IsVal v → IsVal (get_or vs i d)
-valid_at [] i v d is low h = absurd (omega arith)
-valid_at (w ∷ ws) zero v d is low h = subst IsVal is h
-valid_at (w ∷ ws) (suc i) v d is low h = valid_at ws i v d is (omega arith) h
+module _ {A : Type 0} (P : A → Type 0) where
+  holds_at : (xs : List A) (i : ℕ) (x d : A) → x ≡ get_or xs i x → i < length xs → P x → P (get_or xs i d)
+  holds_at [] i x d is low h = absurd (omega arith)
+  holds_at (y ∷ ys) zero x d is low h = subst P is h
+  holds_at (y ∷ ys) (suc i) x d is low h = holds_at ys i x d is (omega arith) h
 
-pub one_more_valid : (vs : List Tree) (i : ℕ) (v : Tree) → v ≡ get_or vs i v → i < length vs → IsVal v → ((k : ℕ) (d : Tree) → k < i → IsVal (get_or vs k d)) → (k : ℕ) (d : Tree) → k < i + 1 → IsVal (get_or vs k d)
-one_more_valid vs i v is low h below k d under = below_more (λ (k : ℕ). (d : Tree) → IsVal (get_or vs k d)) i (λ k low d. below k d low) (λ d. valid_at vs i v d is low h) k under d
+  pub one_more : (xs : List A) (i : ℕ) (x : A) → x ≡ get_or xs i x → i < length xs → P x → ((k : ℕ) (d : A) → k < i → P (get_or xs k d)) → (k : ℕ) (d : A) → k < i + 1 → P (get_or xs k d)
+  one_more xs i x is low h below k d under = below_more (λ (k : ℕ). (d : A) → P (get_or xs k d)) i (λ k low d. below k d low) (λ d. holds_at xs i x d is low h) k under d

@@ -8,8 +8,9 @@ use Rattle.cl_shapes.specs.declared.cost.Cost5.{Cost5}
 use Rattle.cl_values.specs.Tree.{Tree, ResponseV}
 use Rattle.cl_meaning.specs.Deployed.{Function}
 use Rattle.cl_meaning.specs.Limits.{Limited}
+use Rattle.cl_file.specs.declared.entry.Common.{Common}
 use Rattle.cl_eval.specs.declared.abort.Abort.{Abort}
-use Rattle.cl_eval.specs.declared.abort.Abort.TheVariants.{Overflow, Underflow, DivideByZero, NegativeArgument, Panic, SupplyOverflow, EarlyTop, CostLimit, Stuck}
+use Rattle.cl_eval.specs.declared.abort.Abort.TheVariants.{Overflow, Underflow, DivideByZero, NegativeArgument, Panic, SupplyOverflow, EarlyTop, CostLimit}
 use Rattle.cl_tx.specs.declared.outcome.Stop.{Stop}
 use Rattle.cl_tx.specs.declared.outcome.Stop.TheVariants as stop
 use Rattle.cl_tx.specs.Nodes.{NodeSeen, Stepped, call_ended}
@@ -17,21 +18,16 @@ use Rattle.cl_tx.specs.Step.{first_misfit}
 
 -- ---- aborts
 
--- the abort that the result of an entry has; a stuck evaluation has none
-abbrev pub stop_by : Abort → Option Stop
-stop_by Overflow = Some stop.Overflow
-stop_by Underflow = Some stop.Underflow
-stop_by DivideByZero = Some stop.DivideByZero
-stop_by NegativeArgument = Some stop.NegativeArgument
-stop_by Panic = Some stop.Panic
-stop_by SupplyOverflow = Some stop.SupplyOverflow
-stop_by EarlyTop = Some stop.EarlyTop
-stop_by (CostLimit over) = Some (stop.CostLimit over)
-stop_by Stuck = None
-
-abbrev pub IsStuck : Abort → Type 0
-IsStuck Stuck = Unit {0}
-IsStuck abort = ⊥
+-- the abort that the result of an entry has
+abbrev pub stop_by : Abort → Stop
+stop_by Overflow = stop.Overflow
+stop_by Underflow = stop.Underflow
+stop_by DivideByZero = stop.DivideByZero
+stop_by NegativeArgument = stop.NegativeArgument
+stop_by Panic = stop.Panic
+stop_by SupplyOverflow = stop.SupplyOverflow
+stop_by EarlyTop = stop.EarlyTop
+stop_by (CostLimit over) = stop.CostLimit over
 
 -- what an abort costs: what is spent, or the first sum that is above the limit
 abbrev pub cost_by : Abort → Cost5 → Cost5
@@ -51,10 +47,9 @@ abbrev pub IsResponse : Tree → Type 0
 IsResponse (ResponseV good v) = Unit {0}
 IsResponse v = ⊥
 
--- how a call may abort: it is never stuck, and nothing is thrown out of it
+-- how a call may abort: nothing is thrown out of it
 abbrev pub AbortsCall : Abort → Type 0
 AbortsCall EarlyTop = ⊥
-AbortsCall Stuck = ⊥
 AbortsCall abort = Unit {0}
 
 -- what a function of this access may answer; a public one gives a response
@@ -63,8 +58,8 @@ MayAnswer access (Ok v) = access ≡ Public → IsResponse v
 MayAnswer access (Err (Refused abort)) = AbortsCall abort
 MayAnswer access (Err OutOfMemory) = Unit {0}
 
--- something comes of what a limit leaves of the evaluation of a function of this access
-pub record Comes (access : Access) (l : Limited Tree) : Type 0 where
+-- something comes of what a limit leaves of the evaluation of a function of this access, for this entry
+pub record Comes (common : Common) (access : Access) (l : Limited Tree) : Type 0 where
   pub node : NodeSeen
   pub stepped : Stepped
-  pub ended : call_ended access node l ≡ Some stepped
+  pub ended : call_ended common access node l ≡ Some stepped

@@ -13,7 +13,7 @@ use Rattle.cl_values.specs.Tree.{Tree as Val}
 use Rattle.cl_events.specs.State.{State, at_rest}
 use Rattle.cl_events.specs.declared.event.Event.{Event}
 use Rattle.cl_state.specs.Stack.{Stack}
-use Rattle.cl_meaning.specs.Limits.{Costs, Limited, Gave, Lost}
+use Rattle.cl_meaning.specs.Limits.{Costs, Limited, Gave}
 use Rattle.cl_meaning.specs.Deployed.{Contract, contract_at}
 use Rattle.cl_code.specs.declared.definition.Definition.{Definition}
 use Rattle.cl_code.specs.declared.definition.Definition.TheVariants.{Function}
@@ -25,16 +25,19 @@ use Rattle.cl_contracts.specs.Seen.{IsIndexed, contract_under, forms_of}
 use Rattle.cl_contracts.specs.Standings.{AreStanding, StandsAfter}
 use Rattle.cl_eval.specs.declared.abort.Abort.{Abort}
 use Rattle.cl_eval.specs.Deploys.{contract_with}
-use Rattle.cl_tx.specs.declared.entry.Entry.{Entry}
+use Rattle.cl_post.specs.Post.{holds}
+use Rattle.cl_file.specs.declared.entry.Common.{Common}
+use Rattle.cl_file.specs.declared.entry.Entry.{Entry}
 use Rattle.cl_tx.specs.declared.outcome.Bounds.{Bounds}
 use Rattle.cl_tx.specs.declared.outcome.Stop.{Stop}
+use Rattle.cl_tx.specs.declared.outcome.Stop.TheVariants.{PostCondition}
 use Rattle.cl_tx.specs.declared.outcome.TxResult.{TxResult}
 use Rattle.cl_tx.specs.Nodes.{NodeSeen, Told, deployment_ended, aborted}
 use Rattle.cl_tx.specs.Step.{Steps, told_of}
 use Rattle.cl_engine.specs.Seen.{Seen, costs_of, node_with}
 use Rattle.cl_engine.specs.Known.{AreKnown}
 use Rattle.cl_engine.specs.Sound.{Contracts, contracts_seen, IsSoundWith}
-use Rattle.cl_engine.specs.Calling.{IsStuck, cost_by, stop_by}
+use Rattle.cl_engine.specs.Calling.{cost_by, stop_by}
 use Rattle.cl_engine.specs.declared.told.Told.{Told as ToldOfCode}
 use Rattle.cl_engine.specs.declared.deployment.Ran.{Ran}
 use Rattle.cl_engine.specs.declared.deployment.Ran.TheVariants.{Done, Stopped}
@@ -63,41 +66,34 @@ pub record IsBounded (costs : Costs) (contracts : Contracts) (c : Checked) (boun
 abbrev pub Constants : Type 0
 Constants = IndexMap (List ℕ) Val (BuildHasherDefault FoldHasher)
 
--- the evaluation is neither wrong, nor does it need more depth than there is
-pub record IsFound (l : Limited Contract) : Type 0 where
-  pub found : (purse : Purse) → l ≡ Lost purse → ⊥
-
--- the contract is given with these constants, at this cost and with these events; the state then, at rest, is the one after
-pub record IsDone (l : Limited Contract) (c : Checked) (cost : Cost5) (constants : List (List ℕ × Val)) (events : List Event) (after : State) : Type 0 where
+-- the contract is given with these constants, at this cost and with these events, and no condition of the entry fails; the state
+-- then, at rest, is the one after
+pub record IsDone (common : Common) (l : Limited Contract) (c : Checked) (cost : Cost5) (constants : List (List ℕ × Val)) (events : List Event) (after : State) : Type 0 where
   pub state : State
   pub purse : Purse
   pub gave : l ≡ Gave (contract_with c constants) state purse
   pub spent : purse.spent ≡ cost
+  pub passes : holds state.moves common.mode common.conditions ≡ None
   pub told : events ≡ state.events
   pub rests : after ≡ at_rest state
 
 -- it stops so, at this cost, whatever is told; the state is as before
-pub record IsStopped (l : Limited Contract) (why : Stop) (cost : Cost5) (before after : State) : Type 0 where
-  pub ended : (node : NodeSeen) (told : Told) (known : Known) → deployment_ended node told known l ≡ Some (aborted node told why cost)
+pub record IsStopped (common : Common) (l : Limited Contract) (why : Stop) (cost : Cost5) (before after : State) : Type 0 where
+  pub ended : (node : NodeSeen) (told : Told) (known : Known) → deployment_ended common node told known l ≡ Some (aborted node told why cost)
   pub undone : after ≡ before
 
 -- what a limit leaves of the deployment of a contract, by how it ran
-abbrev pub Runs : Limited Contract → Checked → Ran → State → State → Type 0
-Runs l c (Done cost constants events) before after = IsDone l c cost constants.entries events.items after
-Runs l c (Stopped why cost) before after = IsStopped l why cost before after
+abbrev pub Runs : Common → Limited Contract → Checked → Ran → State → State → Type 0
+Runs common l c (Done cost constants events) before after = IsDone common l c cost constants.entries events.items after
+Runs common l c (Stopped why cost) before after = IsStopped common l why cost before after
 
--- how an evaluation may end; it is never stuck
-abbrev pub MayEnd : Result Constants (Fault Abort) → Type 0
-MayEnd (Ok constants) = Unit {0}
-MayEnd (Err (Refused abort)) = IsStuck abort → ⊥
-MayEnd (Err OutOfMemory) = Unit {0}
-
--- an evaluation that ended so on a layer, where so much is spent: it is done, and the layer's state is the one after; or it
--- stops, and the one below is
-abbrev pub EndsAs : Result Constants (Fault Abort) → Cost5 → Ran → Stack → State → Type 0
-EndsAs (Ok given) spent (Done cost constants events) layer after = (constants ≡ given) × (cost ≡ spent) × (events.items ≡ layer.top.events) × (after ≡ at_rest layer.top)
-EndsAs (Err (Refused abort)) spent (Stopped why cost) layer after = (stop_by abort ≡ Some why) × (cost ≡ cost_by abort spent) × (after ∷ [] ≡ layer.below)
-EndsAs ended spent ran layer after = ⊥
+-- an evaluation that ended so on a layer, with this condition failing if any, where so much is spent: it is done, and the
+-- layer's state is the one after; or it stops, and the one below is
+abbrev pub EndsAs : Result Constants (Fault Abort) → Option ℕ → Cost5 → Ran → Stack → State → Type 0
+EndsAs (Ok given) None spent (Done cost constants events) layer after = (constants ≡ given) × (cost ≡ spent) × (events.items ≡ layer.top.events) × (after ≡ at_rest layer.top)
+EndsAs (Ok given) (Some index) spent (Stopped why cost) layer after = (why ≡ PostCondition index) × (cost ≡ spent) × (after ∷ [] ≡ layer.below)
+EndsAs (Err (Refused abort)) failing spent (Stopped why cost) layer after = (why ≡ stop_by abort) × (cost ≡ cost_by abort spent) × (after ∷ [] ≡ layer.below)
+EndsAs ended failing spent ran layer after = ⊥
 
 -- ---- steps
 

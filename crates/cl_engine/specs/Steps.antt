@@ -1,5 +1,5 @@
 -- What an entry makes of a node.
-use Rattle.cl_tx.specs.declared.entry.Entry.{Entry}
+use Rattle.cl_file.specs.declared.entry.Entry.{Entry}
 use Rattle.cl_tx.specs.declared.outcome.TxResult.{TxResult}
 use Rattle.cl_tx.specs.Nodes.{NodeSeen}
 use Rattle.cl_tx.specs.Step.{Steps}

@@ -1,15 +1,18 @@
 //! Calls.
-ghost use Rattle.std.specs.Prelude.{◌≡◌, ◌<◌, ◌^◌, [], List, Some, length, IfOk, OnErr};
+ghost use Rattle.std.specs.Prelude.{◌≡◌, ◌<◌, ◌^◌, [], ℕ, List, Some, length, map, IfOk, OnErr};
 ghost use Rattle.cl_costs.specs.Tables.{function_of};
 ghost use Rattle.cl_meaning.specs.Deployed.{contract_at, function_of as function_under};
 ghost use Rattle.cl_meaning.specs.Limits.{limited};
 ghost use Rattle.cl_meaning.specs.Top.{call_from};
 ghost use Rattle.cl_contracts.specs.Seen.{AreIndexed, deployed_seen, function_seen};
 ghost use Rattle.cl_eval.specs.Homes.{frame_seen};
+ghost use Rattle.cl_eval.specs.Sound.{IsKeptWorld};
+ghost use Rattle.cl_types.specs.Types.{PlainType};
+ghost use Rattle.cl_values.specs.Typed.{AreOf};
 ghost use Rattle.cl_rules.specs.Context.{Known};
 ghost use Rattle.cl_node_sound.specs.Sound.{HasParts};
-ghost use Rattle.cl_tx.specs.declared.entry.Entry.TheVariants.{Call};
-ghost use Rattle.cl_tx.specs.Nodes.{NodeSeen, call_ended, no_limit};
+ghost use Rattle.cl_file.specs.declared.entry.Entry.TheVariants.{Call};
+ghost use Rattle.cl_tx.specs.Nodes.{NodeSeen, call_ended, purse_of};
 ghost use Rattle.cl_tx.specs.Step.{call_step};
 ghost use Rattle.cl_engine.specs.Seen.{node_with, seen};
 ghost use Rattle.cl_engine.specs.Sound.{IsSound};
@@ -18,7 +21,7 @@ ghost use Rattle.cl_engine.specs.Calling.{Comes};
 use crate::ending::finish;
 use crate::frame::frame_of;
 use crate::lookup::{function_named, refusal_of};
-use crate::result::{refused, unlimited};
+use crate::result::{meter_of, refused};
 use cl_c32::Principal;
 use cl_code::Function;
 use cl_contract_sound::functions_are_named;
@@ -42,11 +45,12 @@ fn copied(alloc: Global, args: &[Val]) -> Result<Vec<Val>, NoMemory>
     Ok(copies)
 }
 
-/// Applies a function to arguments, on a layer of its own.
+/// Applies a function to arguments, on a layer of its own and under the limit of the entry.
 fn apply(
     alloc: Global,
     world: &mut World,
     deployed: &Deployed,
+    common: &Common,
     frame: &Frame,
     function: &Function,
     args: &[Val],
@@ -56,16 +60,18 @@ fn apply(
     requires indexed { AreIndexed deployed.now }
     requires there { function_under function.now.name (contract_at frame.now.contract (deployed_seen deployed.now)) ≡ Some (function_seen function.now) }
     requires few { length args.now < 2 ^ 32 }
-    requires comes { Comes function.now.access (limited (function_of costs.now) no_limit (call_from (deployed_seen deployed.now) (frame_seen frame.now) (function_seen function.now) args.now world.old.stack.top)) }
+    requires kept { IsKeptWorld (deployed_seen deployed.now) world.old.stack.top }
+    requires fitting { AreOf args.now (map (λ (param : List ℕ × PlainType). param.1) function.now.params.items) }
+    requires comes { Comes common.now function.now.access (limited (function_of costs.now) (purse_of common.now) (call_from (deployed_seen deployed.now) (frame_seen frame.now) (function_seen function.now) args.now world.old.stack.top)) }
     ensures ended { IfOk result (λ r. (node : NodeSeen) → node.state ≡ world.old.stack.top →
-        call_ended function.now.access node (limited (function_of costs.now) no_limit (call_from (deployed_seen deployed.now) (frame_seen frame.now) (function_seen function.now) args.now world.old.stack.top))
+        call_ended common.now function.now.access node (limited (function_of costs.now) (purse_of common.now) (call_from (deployed_seen deployed.now) (frame_seen frame.now) (function_seen function.now) args.now world.old.stack.top))
         ≡ Some (record { node = record node { state = world.new.stack.top }; result = r })) }
     ensures base { world.new.stack.below ≡ [] }
     ensures refused { OnErr result (world.new.stack.top ≡ world.old.stack.top) }
 {
     let copies = copied(alloc, args)?;
     world.push_layer()?;
-    let mut meter = unlimited();
+    let mut meter = meter_of(common);
     let answer = run(
         alloc,
         world,
@@ -76,7 +82,7 @@ fn apply(
         costs,
         &mut meter,
     );
-    finish(alloc, world, function.access, answer, meter.spent())
+    finish(alloc, world, common, function.access, answer, meter.spent())
 }
 
 /// Calls a function of a deployed contract with these values, or says why not.
@@ -113,5 +119,5 @@ pub(crate) fn call(
         return Ok(refused(alloc, refusal));
     }
     let frame = frame_of(common, contract, height);
-    apply(alloc, world, deployed, &frame, called, args, costs)
+    apply(alloc, world, deployed, common, &frame, called, args, costs)
 }

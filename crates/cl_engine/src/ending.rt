@@ -5,16 +5,15 @@ ghost use Rattle.cl_values.specs.Tree.{Tree, ResponseV};
 ghost use Rattle.cl_events.specs.State.{State, at_rest};
 ghost use Rattle.cl_meaning.specs.Limits.{Limited};
 ghost use Rattle.cl_eval.specs.Aborts.{Answers};
-ghost use Rattle.cl_tx.specs.declared.outcome.Stop.{Stop};
-ghost use Rattle.cl_tx.specs.Nodes.{NodeSeen, nothing_told, result_of, answered, call_ended};
-ghost use Rattle.cl_engine.specs.Calling.{AbortsCall, MayAnswer, IsResponse, stop_by, cost_by};
+ghost use Rattle.cl_tx.specs.Nodes.{NodeSeen, nothing_told, result_of, settled, answered, call_ended};
+ghost use Rattle.cl_engine.specs.Calling.{MayAnswer, IsResponse, stop_by, cost_by};
 
 use crate::layer;
 use crate::result::{cost_of, result_with, stop_of};
 use cl_eval::Abort;
 use cl_shapes::Cost5;
 use cl_state::World;
-use cl_tx::{Outcome, TxResult};
+use cl_tx::{Common, Outcome, Stop, TxResult};
 use cl_types::{Access, Fault, NoMemory};
 use cl_values::{Kind, Val};
 use std::alloc::Global;
@@ -61,10 +60,34 @@ fn undo(alloc: Global, world: &mut World, outcome: Outcome, spent: Cost5) -> TxR
     result_with(alloc, outcome, Some(spent), Vec::new(alloc))
 }
 
+/// Ends a call without an err and an abort: where a post-condition fails, it undoes what was done.
+fn settle(
+    alloc: Global,
+    world: &mut World,
+    common: &Common,
+    outcome: Outcome,
+    spent: Cost5,
+) -> Result<TxResult, NoMemory>
+    requires { length world.old.stack.below ≡ 1 }
+    ensures settled { IfOk result (λ r. (node : NodeSeen) → node.state ∷ [] ≡ world.old.stack.below →
+        settled common.now node node nothing_told outcome spent world.old.stack.top ≡ record { node = record node { state = world.new.stack.top }; result = r }) }
+    ensures base { world.new.stack.below ≡ [] }
+    ensures refused { OnErr result (world.new.stack.top ∷ [] ≡ world.old.stack.below) }
+{
+    match layer::failing(world, common) {
+        None => keep(alloc, world, outcome, spent),
+        Some(index) => {
+            let stopped = Outcome::Aborted(Stop::PostCondition { index });
+            Ok(undo(alloc, world, stopped, spent))
+        }
+    }
+}
+
 /// Ends a call that gave a value: a public function's err undoes what was done.
 fn answer_with(
     alloc: Global,
     world: &mut World,
+    common: &Common,
     access: Access,
     value: Val,
     spent: Cost5,
@@ -72,7 +95,7 @@ fn answer_with(
     requires response { access ≡ Access.Public → IsResponse value }
     requires layer { length world.old.stack.below ≡ 1 }
     ensures ended { IfOk result (λ r. (node : NodeSeen) → node.state ∷ [] ≡ world.old.stack.below →
-        answered access value node spent world.old.stack.top ≡ Some (record { node = record node { state = world.new.stack.top }; result = r })) }
+        answered common.now access value node spent world.old.stack.top ≡ Some (record { node = record node { state = world.new.stack.top }; result = r })) }
     ensures base { world.new.stack.below ≡ [] }
     ensures refused { OnErr result (world.new.stack.top ∷ [] ≡ world.old.stack.below) }
 {
@@ -80,20 +103,25 @@ fn answer_with(
         Access::Public => {
             let (good, inner) = opened(value);
             if good {
-                keep(alloc, world, Outcome::Good(inner), spent)
+                settle(alloc, world, common, Outcome::Good(inner), spent)
             } else {
                 Ok(undo(alloc, world, Outcome::Bad(inner), spent))
             }
         }
-        Access::ReadOnly | Access::Private => keep(alloc, world, Outcome::Plain(value), spent),
+        Access::ReadOnly | Access::Private => settle(
+            alloc,
+            world,
+            common,
+            Outcome::Plain(value),
+            spent,
+        ),
     }
 }
 
 /// Ends a call that aborts.
 fn abort_with(alloc: Global, world: &mut World, abort: Abort, spent: Cost5) -> TxResult
-    requires fine { AbortsCall abort }
-    requires layer { length world.old.stack.below ≡ 1 }
-    ensures told { (stop : Stop) → stop_by abort ≡ Some stop → result ≡ result_of nothing_told (Outcome.Aborted stop) (Some (cost_by abort spent)) [] }
+    requires { length world.old.stack.below ≡ 1 }
+    ensures told { result ≡ result_of nothing_told (Outcome.Aborted (stop_by abort)) (Some (cost_by abort spent)) [] }
     ensures base { world.new.stack.below ≡ [] }
     ensures undone { world.new.stack.top ∷ [] ≡ world.old.stack.below }
 {
@@ -109,6 +137,7 @@ fn abort_with(alloc: Global, world: &mut World, abort: Abort, spent: Cost5) -> T
 pub(crate) fn finish(
     alloc: Global,
     world: &mut World,
+    common: &Common,
     access: Access,
     answer: Result<Val, Fault<Abort>>,
     spent: Cost5,
@@ -117,12 +146,12 @@ pub(crate) fn finish(
     requires layer { length world.old.stack.below ≡ 1 }
     ensures ended { IfOk result (λ r. (l : Limited Tree) (q : Purse) (node : NodeSeen) →
         Answers l answer q world.old.stack.top → q.spent ≡ spent → node.state ∷ [] ≡ world.old.stack.below →
-        call_ended access node l ≡ Some (record { node = record node { state = world.new.stack.top }; result = r })) }
+        call_ended common.now access node l ≡ Some (record { node = record node { state = world.new.stack.top }; result = r })) }
     ensures base { world.new.stack.below ≡ [] }
     ensures refused { OnErr result (world.new.stack.top ∷ [] ≡ world.old.stack.below) }
 {
     match answer {
-        Ok(value) => answer_with(alloc, world, access, value, spent),
+        Ok(value) => answer_with(alloc, world, common, access, value, spent),
         Err(fault) => match fault {
             Fault::Refused(abort) => Ok(abort_with(alloc, world, abort, spent)),
             Fault::NoMemory => {

@@ -1,9 +1,12 @@
 //! The layer on which an entry is evaluated.
 ghost use Rattle.std.specs.Prelude.{◌≡◌, ◌∷◌, [], length, take, IfOk, OnOk, OnErr};
 ghost use Rattle.cl_events.specs.State.{at_rest};
+ghost use Rattle.cl_post.specs.Post.{holds};
 
 use cl_events::Event;
+use cl_post::holds;
 use cl_state::World;
+use cl_tx::Common;
 use cl_types::NoMemory;
 use std::alloc::Global;
 
@@ -15,6 +18,13 @@ fn copied(alloc: Global, events: &[Event]) -> Result<Vec<Event>, NoMemory>
         copies.push(event.copy(alloc)?)?;
     }
     Ok(copies)
+}
+
+/// The place of the first post-condition of an entry that fails, by what moved on its layer.
+pub(crate) fn failing(world: &World, common: &Common) -> Option<u32>
+    ensures { result ≡ holds world.now.stack.top.moves common.now.mode common.now.conditions }
+{
+    holds(world.moves(), common.mode, common.conditions.as_slice())
 }
 
 /// Makes the one layer the base, and gives its events.

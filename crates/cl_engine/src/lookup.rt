@@ -5,7 +5,7 @@ ghost use Rattle.cl_c32.specs.declared.principal.Principal.{Principal};
 ghost use Rattle.cl_meaning.specs.Deployed.{Function as FunctionSeen, function_in};
 ghost use Rattle.cl_meaning.specs.Limits.{Costs};
 ghost use Rattle.cl_contracts.specs.Seen.{IsIndexed, forms_of, function_seen};
-ghost use Rattle.cl_tx.specs.declared.entry.Common.{Common};
+ghost use Rattle.cl_file.specs.declared.entry.Common.{Common};
 ghost use Rattle.cl_tx.specs.Nodes.{NodeSeen, refused};
 ghost use Rattle.cl_tx.specs.Step.{first_misfit, if_open};
 ghost use Rattle.cl_engine.specs.Calling.{MayBeCalled};

@@ -1,6 +1,11 @@
 //! The node.
-ghost use Rattle.std.specs.Prelude.{◌≡◌, [], IfOk, OnErr};
-ghost use Rattle.cl_events.specs.State.{genesis};
+ghost use Rattle.std.specs.Prelude.{◌≡◌, ◌<◌, ◌≤◌, ◌^◌, [], IfOk, OnErr};
+ghost use Rattle.cl_c32.specs.declared.principal.Principal.{Principal as Who};
+ghost use Rattle.cl_tokens.specs.Ledger.{balance};
+ghost use Rattle.cl_events.specs.State.{genesis, holder};
+ghost use Rattle.cl_file.specs.Entries.{height_after};
+ghost use Rattle.cl_file.specs.Files.{AreOnce, total};
+ghost use Rattle.cl_state.specs.Holders.{sum_for};
 ghost use Rattle.cl_state.specs.Stack.{base_alone};
 ghost use Rattle.cl_meaning.specs.Kept.{Kept, Whole};
 ghost use Rattle.cl_contracts.specs.Seen.{AreIndexed, deployed_seen};
@@ -9,7 +14,10 @@ ghost use Rattle.cl_engine.specs.Steps.{Makes};
 
 use crate::call::call;
 use crate::deploy::deploy;
-use crate::parts::has_parts;
+use crate::parts::{are_holders, has_parts};
+use crate::result::moved;
+use cl_bound::KnownBounds;
+use cl_c32::Principal;
 use cl_contracts::Deployed;
 use cl_costs::CostTable;
 use cl_node_sound::nodes_stay_sound;
@@ -19,13 +27,14 @@ use cl_types::NoMemory;
 use std::alloc::Global;
 use std::marker::Model;
 
-/// A node between two entries: its world, which has no layer above the base, the contracts that are deployed, the height of the
-/// block, and the costs under which contracts are accepted and entries charged. Contracts see the state, the contracts, the
-/// height and the costs.
+/// A node between two entries: its world, which has no layer above the base, the contracts that are deployed, with the bounds of
+/// their functions, the height of the block, and the costs under which contracts are accepted and entries charged. Contracts see
+/// the state, the contracts, the height and the costs.
 #[derive(Drop)]
 pub struct Node {
     world: World,
     deployed: Deployed,
+    known: KnownBounds,
     height: u64,
     costs: CostTable,
 }
@@ -33,6 +42,8 @@ pub struct Node {
 impl Model for Node {
     ghost use Rattle.std.specs.Prelude.{◌≡◌, []};
     ghost use Rattle.cl_contracts.specs.Seen.{AreIndexed, deployed_seen};
+    ghost use Rattle.cl_costs.specs.Tables.{function_of};
+    ghost use Rattle.cl_bound.specs.Known.{AreBounds};
     ghost use Rattle.cl_engine.specs.Seen.{Seen, seen};
     ghost use Rattle.cl_engine.specs.Sound.{IsSound};
     ghost use Rattle.cl_engine.specs.Codes.{seen_code};
@@ -46,28 +57,43 @@ impl Model for Node {
     ghost invariant = { λ n. record {
       base : n.world.stack.below ≡ [];
       indexed : AreIndexed n.deployed;
+      known : AreBounds (function_of n.costs) n.deployed.contracts.entries n.known;
       sound : IsSound n.deployed.contracts.entries (seen n.world.stack.top (deployed_seen n.deployed) n.height n.costs);
     } };
 }
 
 impl Node {
-    /// A node without contracts, at height 0, under a table of costs.
-    pub fn genesis(alloc: Global, costs: &CostTable) -> Result<Node, NoMemory>
-        ensures { IfOk result (λ n. n ≡ record { state = genesis []; contracts = []; height = 0; costs = costs.now }) }
+    /// The first node: the holders have their STX, no contract is deployed, the height is 0; contracts are accepted and entries
+    /// charged under the table of costs. Each holder stands once, and together they have at most 2^128-1.
+    pub fn genesis(
+        alloc: Global,
+        holders: Vec<(Principal, u128)>,
+        costs: &CostTable,
+    ) -> Result<Node, NoMemory>
+        requires once { AreOnce [] holders.items }
+        requires total { total holders.items < 2 ^ 128 }
+        ensures first { IfOk result (λ n. n ≡ record { state = genesis holders.items; contracts = []; height = 0; costs = costs.now }) }
+        ensures supply { IfOk result (λ n. n.state.stx.supply ≡ total holders.items) }
+        ensures balances { IfOk result (λ n. (who : Who) → balance (holder who) n.state.stx.balances ≡ sum_for who holders.items) }
     {
         nodes_stay_sound();
-        let world = World::genesis(Vec::new(alloc))?;
+        are_holders(holders.as_slice());
+        let world = World::genesis(holders)?;
         Ok(Node {
             world,
             deployed: Deployed::new(alloc),
+            known: KnownBounds::new(alloc),
             height: 0,
             costs: *costs,
         })
     }
 
-    /// What the contracts keep, and who has what: as the contracts say, each value of its type.
+    /// What the contracts keep, and who has what: as the contracts say, each value of its type. No layer stands above the base,
+    /// in which nothing was told and nothing was moved.
     pub fn world(&self) -> &World
         ensures stack { result.now.stack ≡ base_alone self.now.state }
+        ensures events { self.now.state.events ≡ [] }
+        ensures moves { self.now.state.moves ≡ [] }
         ensures kept { Kept self.now.contracts Whole self.now.state }
     {
         &self.world
@@ -88,11 +114,13 @@ impl Node {
         self.height
     }
 
-    /// Does what an entry asks for: deploys a contract, or calls a function of a contract. An err, an abort, a refusal and want
-    /// of memory leave the node as it was.
+    /// Does what an entry asks for: begins a block, whose height is at least the node's, deploys a contract, or calls a function
+    /// of a contract. An err, an abort, a refusal and want of memory leave the node as it was.
     pub fn step(&mut self, alloc: Global, entry: &Entry) -> Result<TxResult, NoMemory>
+        requires rises { self.old.height ≤ height_after self.old.height entry.now }
         ensures steps { IfOk result (λ r. Makes self.old entry.now r self.new) }
         ensures undone { IfOk result (λ r. (IsKept r.outcome → ⊥) → self.new ≡ self.old) }
+        ensures height { IfOk result (λ _. self.new.height ≡ height_after self.old.height entry.now) }
         ensures refused { OnErr result (self.new ≡ self.old) }
         ensures costs { self.new.costs ≡ self.old.costs }
     {
@@ -108,6 +136,7 @@ impl Node {
                 alloc,
                 &mut self.world,
                 &mut self.deployed,
+                &mut self.known,
                 self.height,
                 &self.costs,
                 common,
@@ -130,6 +159,10 @@ impl Node {
                 function.as_slice(),
                 args.as_slice(),
             ),
+            Entry::Block { height } => {
+                self.height = *height;
+                Ok(moved(alloc))
+            }
         }
     }
 }

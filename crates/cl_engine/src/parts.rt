@@ -25,7 +25,16 @@ fn are_valid(args: &[Val])
     }
 }
 
-/// The principals and values of an entry are within the limits.
+/// Holders are within the limits.
+pub(crate) fn are_holders(holders: &[(Principal, u128)])
+    ensures { All (λ h. IsPrincipal h.0) holders.now }
+{
+    for holder in holders {
+        is_valid(&holder.0);
+    }
+}
+
+/// The principals, the values and the height of an entry are within the limits.
 pub(crate) fn has_parts(entry: &Entry)
     ensures { HasParts entry.now }
 {
@@ -40,6 +49,9 @@ pub(crate) fn has_parts(entry: &Entry)
             are_valid(args.as_slice());
             is_valid(contract);
             is_valid(&person(common));
+        }
+        Entry::Block { height } => {
+            let _height = *height;
         }
     }
 }

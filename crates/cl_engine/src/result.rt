@@ -1,19 +1,19 @@
 //! Results of entries.
 ghost use Rattle.std.specs.Prelude.{◌≡◌, [], Option, Some, None};
-ghost use Rattle.cl_tx.specs.Nodes.{nothing_told, no_limit, result_of};
-ghost use Rattle.cl_engine.specs.Calling.{stop_by, cost_by, IsStuck};
+ghost use Rattle.cl_tx.specs.Nodes.{nothing_told, purse_of, result_of};
+ghost use Rattle.cl_engine.specs.Calling.{stop_by, cost_by};
 
 use cl_eval::Abort;
 use cl_events::Event;
 use cl_shapes::{Cost5, Meter};
-use cl_tx::{EntryRefusal, Outcome, Row, Stop, TxResult};
+use cl_tx::{Common, EntryRefusal, Outcome, Row, Stop, TxResult};
 use std::alloc::Global;
 
-/// Nothing is spent of the limit that stands where none is stated.
-pub(crate) fn unlimited() -> Meter
-    ensures { result ≡ no_limit }
+/// Nothing is spent of the limit of an entry.
+pub(crate) fn meter_of(common: &Common) -> Meter
+    ensures { result ≡ purse_of common.now }
 {
-    Meter::new([u64::MAX; 5])
+    Meter::new(common.limit)
 }
 
 /// A result without bounds.
@@ -41,10 +41,16 @@ pub(crate) fn refused(alloc: Global, refusal: EntryRefusal) -> TxResult
     result_with(alloc, Outcome::Refused(refusal), None, Vec::new(alloc))
 }
 
+/// The result of a block.
+pub(crate) fn moved(alloc: Global) -> TxResult
+    ensures { result ≡ result_of nothing_told Outcome.Moved None [] }
+{
+    result_with(alloc, Outcome::Moved, None, Vec::new(alloc))
+}
+
 /// The abort that the result of an entry has.
 pub(crate) fn stop_of(abort: Abort) -> Stop
-    requires { IsStuck abort → ⊥ }
-    ensures { stop_by abort ≡ Some result }
+    ensures { result ≡ stop_by abort }
 {
     match abort {
         Abort::Overflow => Stop::Overflow,
@@ -55,7 +61,6 @@ pub(crate) fn stop_of(abort: Abort) -> Stop
         Abort::SupplyOverflow => Stop::SupplyOverflow,
         Abort::EarlyTop => Stop::EarlyTop,
         Abort::CostLimit(over) => Stop::CostLimit(over),
-        Abort::Stuck => unreachable!(),
     }
 }
 

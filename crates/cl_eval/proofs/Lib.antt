@@ -19,7 +19,7 @@ pub mod Defining
 pub mod NoTokens
 pub mod NoTokensMade
 pub mod Newness
-pub mod NoThrows
+pub mod NeverStuck
 pub mod Rows
 pub mod Iterating
 pub mod IterateLaws

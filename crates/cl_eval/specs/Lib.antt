@@ -11,3 +11,4 @@ pub mod Deploys
 pub mod Applying
 pub mod Rows
 pub mod Kept
+pub mod Sound

@@ -1,6 +1,6 @@
 //! How a call aborts.
-ghost use Rattle.std.specs.Prelude.{◌≡◌};
-ghost use Rattle.cl_eval.specs.Aborts.{abort_of, fault_of};
+ghost use Rattle.std.specs.Prelude.{◌≡◌, Some};
+ghost use Rattle.cl_eval.specs.Aborts.{IsNotStuck, abort_of, fault_of};
 
 use crate::stop::Stop;
 use cl_arith::ArithRefusal;
@@ -26,8 +26,6 @@ pub enum Abort {
     EarlyTop,
     /// A8: more would have been spent than the limit. The charge that passed isn't spent.
     CostLimit(Over),
-    /// An expression isn't well typed, or goes deeper than 256.
-    Stuck,
 }
 
 fn arithmetic_abort(refusal: ArithRefusal) -> Abort
@@ -43,7 +41,8 @@ fn arithmetic_abort(refusal: ArithRefusal) -> Abort
 
 /// The abort, or want of memory, by which an evaluation stops.
 pub(crate) fn fault(stop: Stop) -> Fault<Abort>
-    ensures { result ≡ fault_of stop }
+    requires { IsNotStuck stop }
+    ensures { fault_of stop ≡ Some result }
 {
     match stop {
         Stop::Arithmetic(refusal) => Fault::Refused(arithmetic_abort(refusal)),
@@ -51,7 +50,7 @@ pub(crate) fn fault(stop: Stop) -> Fault<Abort>
         Stop::Supply => Fault::Refused(Abort::SupplyOverflow),
         Stop::Thrown(_) => Fault::Refused(Abort::EarlyTop),
         Stop::CostLimit(over) => Fault::Refused(Abort::CostLimit(over)),
-        Stop::Stuck => Fault::Refused(Abort::Stuck),
+        Stop::Stuck => unreachable!(),
         Stop::NoMemory => Fault::NoMemory,
     }
 }

@@ -1,5 +1,5 @@
 //! Calls from outside.
-ghost use Rattle.std.specs.Prelude.{◌≡◌, ◌≢◌, ◌<◌, length, Some};
+ghost use Rattle.std.specs.Prelude.{◌≡◌, ◌≢◌, ◌<◌, length, Some, IfOk};
 ghost use Rattle.cl_types.specs.Fault.{IfRefused};
 ghost use Rattle.cl_costs.specs.Tables.{function_of as cost_function};
 ghost use Rattle.cl_contracts.specs.Seen.{AreIndexed, IsEntry, contract_seen, deployed_seen};
@@ -10,13 +10,15 @@ ghost use Rattle.cl_meaning.specs.Top.{call_from};
 ghost use Rattle.cl_eval.specs.Aborts.{Answers};
 ghost use Rattle.cl_eval.specs.Homes.{frame_seen};
 ghost use Rattle.cl_eval.specs.Runs.{Ends};
+ghost use Rattle.cl_eval.specs.Sound.{IsFittingCall, IsKeptWorld, IsReturnOf};
 
 use crate::abort::{Abort, fault};
 use crate::calls::enter;
 use crate::context::Context;
-use crate::frame::Frame;
+use crate::frame::{Frame, is_valid};
 use crate::home::Home;
 use crate::stop::Stop;
+use cl_contract_sound::{functions_are_sound, limits_leave_sound_answers};
 use cl_contracts::{Contract, Deployed};
 use cl_costs::CostTable;
 use cl_shapes::Meter;
@@ -87,8 +89,9 @@ fn call_named(
     }
 }
 
-/// Calls a function of the frame's contract, which is deployed. What it does is done to the top state of the world, and charged
-/// to the meter. Where a public function answers err, the state is as before and the charges stay. It never aborts by `EarlyTop`.
+/// Calls a function of the frame's contract with values of its parameters' types. What it does is done to the top state of the
+/// world, and charged to the meter. Where a public function answers err, the state is as before and the charges stay. It never
+/// aborts by `EarlyTop`. What it answers is of the function's return type, and the state that it leaves is kept.
 pub fn run(
     alloc: Global,
     world: &mut World,
@@ -100,11 +103,18 @@ pub fn run(
     meter: &mut Meter,
 ) -> Result<Val, Fault<Abort>>
     requires indexed { AreIndexed deployed.now }
+    requires kept { IsKeptWorld (deployed_seen deployed.now) world.old.stack.top }
+    requires called { IsFittingCall (deployed_seen deployed.now) frame.now.contract function.now args.items }
     requires few { length args.items < 4294967296 }
     ensures meant { Answers (limited (cost_function costs.now) meter.old (with_known (function_of function.now (contract_at frame.now.contract (deployed_seen deployed.now))) (λ f. call_from (deployed_seen deployed.now) (frame_seen frame.now) f args.items) world.old.stack.top)) result meter.new world.new.stack.top }
     ensures returned { IfRefused result (λ abort. abort ≢ Abort.EarlyTop) }
+    ensures typed { IfOk result (λ value. IsReturnOf (deployed_seen deployed.now) frame.now.contract function.now value) }
+    ensures kept { IfOk result (λ _. IsKeptWorld (deployed_seen deployed.now) world.new.stack.top) }
     ensures below { world.new.stack.below ≡ world.old.stack.below }
 {
+    functions_are_sound();
+    limits_leave_sound_answers();
+    is_valid(frame);
     match call_named(alloc, world, deployed, frame, function, args, costs, meter) {
         Ok(value) => Ok(value),
         Err(stop) => Err(fault(stop)),

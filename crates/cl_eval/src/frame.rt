@@ -1,8 +1,10 @@
 //! Where code is evaluated.
-ghost use Rattle.std.specs.Prelude.{◌≡◌};
+ghost use Rattle.std.specs.Prelude.{◌≡◌, ◌<◌, ◌^◌};
+ghost use Rattle.cl_values.specs.Valid.{IsPrincipal};
 ghost use Rattle.cl_meaning.specs.Scope.{as_contract, called};
 ghost use Rattle.cl_eval.specs.Homes.{frame_seen};
 
+use crate::across::is_valid as is_principal;
 use cl_c32::Principal;
 
 /// Where code is evaluated.
@@ -34,10 +36,24 @@ pub(crate) fn as_contract(frame: &Frame) -> Frame
 pub(crate) fn called(frame: &Frame, target: Principal) -> Frame
     ensures { frame_seen result ≡ called target (frame_seen frame.now) }
 {
+    let caller = frame.contract;
     Frame {
         contract: target,
         sender: frame.sender,
-        caller: frame.contract,
+        caller,
         height: frame.height,
     }
+}
+
+/// A law of each frame: its principals and its height are within the limits.
+pub(crate) fn is_valid(frame: &Frame)
+    ensures contract { IsPrincipal frame.now.contract }
+    ensures sender { IsPrincipal frame.now.sender }
+    ensures caller { IsPrincipal frame.now.caller }
+    ensures height { frame.now.height < 2 ^ 128 }
+{
+    is_principal(&frame.contract);
+    is_principal(&frame.sender);
+    is_principal(&frame.caller);
+    let _height = frame.height;
 }

@@ -1,20 +1,21 @@
 //! The evaluation of a deployment.
-ghost use Rattle.std.specs.Prelude.{◌≡◌, ◌<◌, [], length, slice_get, Some, Ok};
+ghost use Rattle.std.specs.Prelude.{◌≡◌, ◌<◌, [], ◌∷◌, length, slice_get, Some, IfOk};
 ghost use Rattle.cl_costs.specs.Tables.{function_of};
-ghost use Rattle.cl_forms.specs.Order.{ordered};
-ghost use Rattle.cl_contracts.specs.Seen.{forms_of, deployed_seen, IsIndexed, AreIndexed};
+ghost use Rattle.cl_contracts.specs.Seen.{deployed_seen, IsIndexed, AreIndexed};
 ghost use Rattle.cl_meaning.specs.Deploying.{deployment};
 ghost use Rattle.cl_meaning.specs.Limits.{limited};
 ghost use Rattle.cl_eval.specs.Homes.{frame_seen};
 ghost use Rattle.cl_eval.specs.Deploys.{IsDeploying, AreNew, HasNoTokens, Makes, Deploys, contract_with, all_by, all_charged};
+ghost use Rattle.cl_eval.specs.Sound.{IsAcceptedAfter, IsKeptWorld};
 
 use crate::abort::{Abort, fault};
 use crate::definitions::define;
 use crate::deploying::Deploying;
-use crate::frame::Frame;
+use crate::frame::{Frame, is_valid};
 use crate::payment::pay;
 use crate::stop::Stop;
 use cl_code::Definition;
+use cl_contract_sound::{deployments_are_sound, limits_leave_sound_answers};
 use cl_contracts::{Checked, Deployed};
 use cl_costs::CostTable;
 use cl_shapes::{CostName, Meter};
@@ -71,8 +72,9 @@ fn deploy(
     define_all(deploying, places, constants, world, meter)
 }
 
-/// Evaluates the deployment of the frame's contract after the deployed ones, and gives the values of its constants. What it does
-/// is done to the top state of the world, which has no token of the contract yet, and charged to the meter.
+/// Evaluates the deployment of the frame's contract, which was accepted after the deployed ones, and gives the values of its
+/// constants. What it does is done to the top state of the world, which has no token of the contract yet, and charged to the
+/// meter. The constants' values are of their types, and the state that it leaves is kept with the contract.
 pub fn run_top(
     alloc: Global,
     world: &mut World,
@@ -84,12 +86,16 @@ pub fn run_top(
 ) -> Result<IndexMap<Name, Val>, Fault<Abort>>
     requires indexed { AreIndexed deployed.now }
     requires names { IsIndexed checked.now }
-    requires order { ordered (forms_of checked.now) ≡ Ok checked.now.order.items }
+    requires accepted { IsAcceptedAfter (deployed_seen deployed.now) world.old.stack.top checked.now }
     requires home { checked.now.principal ≡ frame.now.contract }
     requires tokens { HasNoTokens frame.now.contract world.old.stack.top }
     ensures meant { Deploys (limited (function_of costs.now) meter.old (deployment (deployed_seen deployed.now) (frame_seen frame.now) (contract_with checked.now []) world.old.stack.top)) checked.now result meter.new world.new.stack.top }
+    ensures kept { IfOk result (λ constants. IsKeptWorld (contract_with checked.now constants.entries ∷ deployed_seen deployed.now) world.new.stack.top) }
     ensures below { world.new.stack.below ≡ world.old.stack.below }
 {
+    deployments_are_sound();
+    limits_leave_sound_answers();
+    is_valid(frame);
     let deploying = Deploying {
         alloc,
         deployed,

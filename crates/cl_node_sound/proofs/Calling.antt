@@ -10,37 +10,49 @@ use Rattle.cl_types.proofs.OfKind.{response_type}
 use Rattle.cl_c32.specs.declared.principal.Principal.{Principal}
 use Rattle.cl_c32.specs.Address.{IsAddress}
 use Rattle.cl_shapes.specs.declared.cost.Cost5.{Cost5}
+use Rattle.cl_shapes.specs.declared.limit.Over.{Over}
+use Rattle.cl_shapes.specs.Costs.{IsAtMost}
+use Rattle.cl_shapes.specs.Limits.{limit_of}
 use Rattle.cl_values.specs.Tree.{Tree}
 use Rattle.cl_values.specs.Valid.{IsVal, IsPrincipal}
 use Rattle.cl_values.specs.Inhabits.{inhabits}
 use Rattle.cl_values.specs.Typed.{IsOf, AreOf}
 use Rattle.cl_values.proofs.OfTypes.{response_of}
 use Rattle.cl_events.specs.State.{State}
+use Rattle.cl_meaning.specs.Answers.{Cause}
 use Rattle.cl_meaning.specs.Deployed.{Contract, Function, contract_at, function_in, function_of}
 use Rattle.cl_meaning.specs.Kept.{Whole, Kept}
 use Rattle.cl_meaning.specs.Limits.{Costs, cost, Limited, Gave, Threw, AbortedBy, Passed, Lost, limited}
 use Rattle.cl_meaning.specs.Top.{call_from}
-use Rattle.cl_rules.specs.Context.{Signature}
+use Rattle.cl_rules.specs.Context.{Known, Signature, known_at, signature_in}
 use Rattle.cl_expression_sound.specs.Sound.{types_of_params, deployed_world}
 use Rattle.cl_contract_sound.specs.Laws.{Answers, IsFineUnder}
 use Rattle.cl_contract_sound.proofs.Functions.{function_is_sound}
 use Rattle.cl_contract_sound.proofs.Signed.{each_signed}
 use Rattle.cl_contract_sound.proofs.UnderLimits.{fine_under, charged, charged_low}
 use Rattle.cl_expression_sound.proofs.Costs.{at_most}
-use Rattle.cl_tx.specs.declared.entry.Common.{Common}
+use Rattle.cl_file.specs.declared.entry.Common.{Common}
+use Rattle.cl_post.specs.Post.{holds}
 use Rattle.cl_tx.specs.declared.outcome.Outcome.{Outcome}
+use Rattle.cl_tx.specs.declared.outcome.Outcome.TheVariants.{Good, Bad, Plain, Aborted}
+use Rattle.cl_tx.specs.declared.outcome.Stop.TheVariants.{CostLimit, PostCondition}
 use Rattle.cl_tx.specs.declared.outcome.EntryRefusal.{EntryRefusal}
-use Rattle.cl_tx.specs.Nodes.{NodeSeen, Stepped, Told, nothing_told, frame_of, no_limit, moves_on, stays, refused, answered, call_ended}
+use Rattle.cl_tx.specs.Nodes.{NodeSeen, Stepped, Told, nothing_told, frame_of, purse_of, stop_of, moves_on, stays, aborted, refused, settled_by, settled, answered, call_ended}
 use Rattle.cl_tx.specs.Step.{first_misfit, run_call, if_fitting, if_as_many, if_open, if_function, if_deployed, call_step}
 use Rattle.cl_node_sound.specs.Sound.{IsSoundNode, IsWithinBound}
+use Rattle.cl_node_sound.specs.Told.{IsStopped}
+use Rattle.cl_node_sound.proofs.Enough.{IsPassed, passes_not, aborts_not_stopped}
 use Rattle.cl_node_sound.proofs.SameContracts.{itself, kept_moved}
 
--- it comes to something; the node after it is sound, and what is charged is low
-pub record Comes (costs : Costs) (Low : Cost5 → Type 0) (o : Option Stepped) : Type 0 where
+-- It comes to something: the node after it is sound, this was told, what is charged is low, and where it is stopped by its limit,
+-- that has a reason.
+pub record Comes (costs : Costs) (told : Told) (Low : Cost5 → Type 0) (Reason : Type 0) (o : Option Stepped) : Type 0 where
   pub step : Stepped
   pub is : o ≡ Some step
   pub sound : IsSoundNode costs step.node
+  pub tells : step.result.bounds ≡ told.bounds
   pub low : (cost : Cost5) → step.result.cost ≡ Some cost → Low cost
+  pub stopped : IsStopped step.result.outcome → Reason
 
 pub some_cost : (b c : Cost5) → Some b ≡ Some c → b ≡ c
 some_cost b c e = cc
@@ -48,41 +60,60 @@ some_cost b c e = cc
 no_cost : (Low : Cost5 → Type 0) (c : Cost5) → None ≡ Some c → Low c
 no_cost Low c e = absurd cc
 
-module _ (costs : Costs) (node : NodeSeen) (N : IsSoundNode costs node) (Low : Cost5 → Type 0) where
-  pub stays_sound : (told : Told) (outcome : Outcome) (cost : Cost5) → Low cost → Comes costs Low (Some (stays node told outcome (Some cost)))
-  stays_sound told outcome cost low = record { step = stays node told outcome (Some cost); is = refl; sound = N; low = λ c e. subst Low (some_cost cost c e) low }
+module _ (costs : Costs) (node : NodeSeen) (N : IsSoundNode costs node) (told : Told) (Low : Cost5 → Type 0) (Reason : Type 0) where
+  stays_sound : (outcome : Outcome) (cost : Cost5) → Low cost → (IsStopped outcome → Reason) → Comes costs told Low Reason (Some (stays node told outcome (Some cost)))
+  stays_sound outcome cost low reason = record { step = stays node told outcome (Some cost); is = refl; sound = N; tells = refl; low = λ c e. subst Low (some_cost cost c e) low; stopped = reason }
 
-  refusal : (why : EntryRefusal) → Comes costs Low (Some (refused node why))
-  refusal why = record { step = refused node why; is = refl; sound = N; low = λ c e. no_cost Low c e }
+  -- an abort by a cause
+  pub aborted_sound : (why : Cause) (cost : Cost5) → Low cost → Comes costs told Low Reason (Some (aborted node told (stop_of why) cost))
+  aborted_sound why cost low = stays_sound (Aborted (stop_of why)) cost low (λ h. absurd (aborts_not_stopped why h))
 
-  moved_sound : (outcome : Outcome) (cost : Cost5) (s : State) → Kept node.contracts Whole s → Low cost → Comes costs Low (Some (moves_on node nothing_told outcome cost s))
-  moved_sound outcome cost s kept low = record {
-    low = λ c e. subst Low (some_cost cost c e) low;
-    step = moves_on node nothing_told outcome cost s;
-    is = refl;
-    sound = record { contracts = N.contracts; kept = kept_moved node.contracts node.contracts (itself node.contracts) Whole s kept; height = N.height; no_events = refl; no_moves = refl };
-  }
+  -- another outcome than a stop by the limit
+  pub failed_sound : (outcome : Outcome) (cost : Cost5) → Low cost → (IsStopped outcome → ⊥) → Comes costs told Low Reason (Some (stays node told outcome (Some cost)))
+  failed_sound outcome cost low goes_on = stays_sound outcome cost low (λ h. absurd (goes_on h))
+
+  -- a stop by the limit
+  pub stopped_sound : (over : Over) (cost : Cost5) → Low cost → Reason → Comes costs told Low Reason (Some (aborted node told (CostLimit over) cost))
+  stopped_sound over cost low reason = stays_sound (Aborted (CostLimit over)) cost low (λ h. reason)
+
+  -- a run that is settled, where it would move on to a sound node
+  pub settled_sound : (failing : Option ℕ) (after : NodeSeen) (outcome : Outcome) (cost : Cost5) (s : State) → IsSoundNode costs (moves_on after told outcome cost s).node → Low cost → (IsStopped outcome → ⊥) → Comes costs told Low Reason (Some (settled_by failing node after told outcome cost s))
+  settled_sound None after outcome cost s sound low goes_on = record { step = moves_on after told outcome cost s; is = refl; sound = sound; tells = refl; low = λ c e. subst Low (some_cost cost c e) low; stopped = λ h. absurd (goes_on h) }
+  settled_sound (Some index) after outcome cost s sound low goes_on = failed_sound (Aborted (PostCondition index)) cost low (λ h. h)
+
+module _ (costs : Costs) (node : NodeSeen) (N : IsSoundNode costs node) (Low : Cost5 → Type 0) (Reason : Type 0) (common : Common) where
+  abbrev CallComes : Option Stepped → Type 0
+  CallComes = Comes costs nothing_told Low Reason
+
+  refusal : (why : EntryRefusal) → CallComes (Some (refused node why))
+  refusal why = record { step = refused node why; is = refl; sound = N; tells = refl; low = λ c e. no_cost Low c e; stopped = λ h. absurd h }
+
+  moved_sound : (outcome : Outcome) (cost : Cost5) (s : State) → Kept node.contracts Whole s → Low cost → (IsStopped outcome → ⊥) → CallComes (Some (settled common node node nothing_told outcome cost s))
+  moved_sound outcome cost s kept low goes_on =
+      settled_sound costs node N nothing_told Low Reason (holds s.moves common.mode common.conditions) node outcome cost s
+      (record { contracts = N.contracts; kept = kept_moved node.contracts node.contracts (itself node.contracts) Whole s kept; height = N.height; no_events = refl; no_moves = refl })
+      low goes_on
 
   -- a public function's value is a response
-  public_answer : (t : PlainType) (v : Tree) (cost : Cost5) (s : State) → Answers Public t → IsOf v t → Kept node.contracts Whole s → Low cost → Comes costs Low (answered Public v node cost s)
+  public_answer : (t : PlainType) (v : Tree) (cost : Cost5) (s : State) → Answers Public t → IsOf v t → Kept node.contracts Whole s → Low cost → CallComes (answered common Public v node cost s)
   public_answer t v cost s answers typed kept low =
-      response_type (λ t. IsOf v t → Comes costs Low (answered Public v node cost s)) t answers
-      (λ u e i. response_of (λ v. Comes costs Low (answered Public v node cost s)) v u e i (λ w j. moved_sound _ cost s kept low) (λ w j. stays_sound nothing_told _ cost low)) typed
+      response_type (λ t. IsOf v t → CallComes (answered common Public v node cost s)) t answers
+      (λ u e i. response_of (λ v. CallComes (answered common Public v node cost s)) v u e i (λ w j. moved_sound (Good w) cost s kept low (λ h. h)) (λ w j. failed_sound costs node N nothing_told Low Reason (Bad w) cost low (λ h. h))) typed
 
-  answer : (access : Access) (t : PlainType) (v : Tree) (cost : Cost5) (s : State) → Answers access t → IsOf v t → Kept node.contracts Whole s → Low cost → Comes costs Low (answered access v node cost s)
+  answer : (access : Access) (t : PlainType) (v : Tree) (cost : Cost5) (s : State) → Answers access t → IsOf v t → Kept node.contracts Whole s → Low cost → CallComes (answered common access v node cost s)
   answer Public t v cost s answers typed kept low = public_answer t v cost s answers typed kept low
-  answer ReadOnly t v cost s answers typed kept low = moved_sound _ cost s kept low
-  answer Private t v cost s answers typed kept low = moved_sound _ cost s kept low
+  answer ReadOnly t v cost s answers typed kept low = moved_sound (Plain v) cost s kept low (λ h. h)
+  answer Private t v cost s answers typed kept low = moved_sound (Plain v) cost s kept low (λ h. h)
 
-  ended : (access : Access) (t : PlainType) → Answers access t → (l : Limited Tree) → IsFineUnder (λ v. IsOf v t) (Kept node.contracts Whole) l → Low (charged l) → Comes costs Low (call_ended access node l)
-  ended access t answers (Gave v s purse) fine low = answer access t v purse.spent s answers fine.0 fine.1 low
-  ended access t answers (Threw v s purse) fine low = absurd fine
-  ended access t answers (AbortedBy why purse) fine low = stays_sound nothing_told _ purse.spent low
-  ended access t answers (Passed over purse) fine low = stays_sound nothing_told _ over.attempted low
-  ended access t answers (Lost purse) fine low = absurd fine
+  ended : (access : Access) (t : PlainType) → Answers access t → (l : Limited Tree) → IsFineUnder (λ v. IsOf v t) (Kept node.contracts Whole) l → Low (charged l) → (IsPassed l → Reason) → CallComes (call_ended common access node l)
+  ended access t answers (Gave v s purse) fine low reason = answer access t v purse.spent s answers fine.0 fine.1 low
+  ended access t answers (Threw v s purse) fine low reason = absurd fine
+  ended access t answers (AbortedBy why purse) fine low reason = aborted_sound costs node N nothing_told Low Reason why purse.spent low
+  ended access t answers (Passed over purse) fine low reason = stopped_sound costs node N nothing_told Low Reason over over.attempted low (reason tt)
+  ended access t answers (Lost purse) fine low reason = absurd fine
 
 -- arguments that are fitting are of the parameters' types
-fitting_are : (n : ℕ) (ps : List (List ℕ × PlainType)) (vs : List Tree) → length vs ≡ length ps → All IsVal vs → first_misfit n ps vs ≡ None → AreOf vs (map (λ (p : List ℕ × PlainType). p.1) ps)
+pub fitting_are : (n : ℕ) (ps : List (List ℕ × PlainType)) (vs : List Tree) → length vs ≡ length ps → All IsVal vs → first_misfit n ps vs ≡ None → AreOf vs (map (λ (p : List ℕ × PlainType). p.1) ps)
 fitting_are n [] [] many vals none = tt
 fitting_are n [] (v ∷ vs) many vals none = absurd (omega (arith, many))
 fitting_are n (p ∷ ps) [] many vals none = absurd (omega (arith, many))
@@ -92,6 +123,14 @@ fitting_are n (p ∷ ps) (v ∷ vs) many vals none = by (inhabits v p.1) refl no
     by true typed none more = (record { valid = All-head IsVal v vs vals; typed = typed }, more none)
     by false typed none more = absurd cc
 
+-- the function that callers see under this name has a bound that in some dimension is above the limit
+pub record IsBoundAbove (costs : Costs) (ks : List Known) (p : Principal) (x : List ℕ) (limit : Cost5) : Type 0 where
+  pub known : Known
+  pub signature : Signature
+  pub there : known_at p ks ≡ Some known
+  pub told : signature_in x known.functions ≡ Some signature
+  pub above : IsAtMost (signature.bound costs) limit → ⊥
+
 module _ (costs : Costs) (node : NodeSeen) (N : IsSoundNode costs node) where
   module _ (common : Common) (sender : IsAddress common.sender) (p : Principal) (valid : IsPrincipal p) (function : List ℕ) (args : List Tree) (vals : All IsVal args) where
     some_function : (f g : Function) → Some f ≡ Some g → f ≡ g
@@ -100,7 +139,13 @@ module _ (costs : Costs) (node : NodeSeen) (N : IsSoundNode costs node) where
     abbrev Low : Cost5 → Type 0
     Low = IsWithinBound costs node.known p function
 
-    run : (c : Contract) (f : Function) → contract_at p node.contracts ≡ Some c → function_in function c.forms ≡ Some f → length args ≡ length f.params → first_misfit 0 f.params args ≡ None → Comes costs Low (run_call costs node common p f args)
+    abbrev Reason : Type 0
+    Reason = IsBoundAbove costs node.known p function (limit_of common.limit)
+
+    abbrev HasCome : Option Stepped → Type 0
+    HasCome = Comes costs nothing_told Low Reason
+
+    run : (c : Contract) (f : Function) → contract_at p node.contracts ≡ Some c → function_in function c.forms ≡ Some f → length args ≡ length f.params → first_misfit 0 f.params args ≡ None → HasCome (run_call costs node common p f args)
     unfolding run_call
     run c f at there many none =
         let signed = each_signed costs node.contracts node.known N.contracts p valid c at function f there in
@@ -111,34 +156,40 @@ module _ (costs : Costs) (node : NodeSeen) (N : IsSoundNode costs node) where
         let access : g.access ≡ f.access = sym s.access ∙ ap (λ (f : Function). f.access) same in
         let are : AreOf args (types_of_params g) = subst (λ ps. AreOf args (map (λ (p : List ℕ × PlainType). p.1) ps)) params (fitting_are 0 f.params args many vals none) in
         let frame = frame_of node common.sender p in
+        let purse = purse_of common in
         let sound = s.sound frame refl (sender, tt) (sender, tt) N.height args are node.state N.kept in
-        let under = fine_under (deployed_world costs node.contracts Whole) (λ v. IsOf v g.returns) (g.bound costs) (call_from node.contracts frame s.function args node.state) sound costs no_limit in
-        let low : Low (charged (limited costs no_limit (call_from node.contracts frame s.function args node.state))) = record { known = signed.known; signature = g; there = signed.there; told = signed.told; low = at_most _ (cost costs (call_from node.contracts frame s.function args node.state)) (g.bound costs) (charged_low costs no_limit.limit (call_from node.contracts frame s.function args node.state)) sound.within } in
-        ended costs node N Low f.access g.returns (subst (λ a. Answers a g.returns) access s.answers) (limited costs no_limit (call_from node.contracts frame f args node.state))
-        (subst (λ f. IsFineUnder (λ v. IsOf v g.returns) (Kept node.contracts Whole) (limited costs no_limit (call_from node.contracts frame f args node.state))) same under)
-        (subst (λ f. Low (charged (limited costs no_limit (call_from node.contracts frame f args node.state)))) same low)
+        let under = fine_under (deployed_world costs node.contracts Whole) (λ v. IsOf v g.returns) (g.bound costs) (call_from node.contracts frame s.function args node.state) sound costs purse in
+        let low : Low (charged (limited costs purse (call_from node.contracts frame s.function args node.state))) = record { known = signed.known; signature = g; there = signed.there; told = signed.told; low = at_most _ (cost costs (call_from node.contracts frame s.function args node.state)) (g.bound costs) (charged_low costs purse.limit (call_from node.contracts frame s.function args node.state)) sound.within } in
+        let reason : IsPassed (limited costs purse (call_from node.contracts frame s.function args node.state)) → Reason = λ passed. record { known = signed.known; signature = g; there = signed.there; told = signed.told; above = λ enough. passes_not costs (g.bound costs) purse.limit (call_from node.contracts frame s.function args node.state) sound.within enough passed } in
+        ended costs node N Low Reason common f.access g.returns (subst (λ a. Answers a g.returns) access s.answers) (limited costs purse (call_from node.contracts frame f args node.state))
+        (subst (λ f. IsFineUnder (λ v. IsOf v g.returns) (Kept node.contracts Whole) (limited costs purse (call_from node.contracts frame f args node.state))) same under)
+        (subst (λ f. Low (charged (limited costs purse (call_from node.contracts frame f args node.state)))) same low)
+        (subst (λ f. IsPassed (limited costs purse (call_from node.contracts frame f args node.state)) → Reason) same reason)
 
-    fitting : (c : Contract) (f : Function) → contract_at p node.contracts ≡ Some c → function_in function c.forms ≡ Some f → length args ≡ length f.params → (misfit : Option ℕ) → first_misfit 0 f.params args ≡ misfit → Comes costs Low (if_fitting costs node common p f args misfit)
-    fitting c f at there many (Some index) e = refusal costs node N Low _
+    refused_here : (why : EntryRefusal) → HasCome (Some (refused node why))
+    refused_here = refusal costs node N Low Reason common
+
+    fitting : (c : Contract) (f : Function) → contract_at p node.contracts ≡ Some c → function_in function c.forms ≡ Some f → length args ≡ length f.params → (misfit : Option ℕ) → first_misfit 0 f.params args ≡ misfit → HasCome (if_fitting costs node common p f args misfit)
+    fitting c f at there many (Some index) e = refused_here _
     fitting c f at there many None e = run c f at there many e
 
-    as_many : (c : Contract) (f : Function) → contract_at p node.contracts ≡ Some c → function_in function c.forms ≡ Some f → (b : Bool) → nat_eq (length args) (length f.params) ≡ b → Comes costs Low (if_as_many costs node common p f args b)
-    as_many c f at there false e = refusal costs node N Low _
+    as_many : (c : Contract) (f : Function) → contract_at p node.contracts ≡ Some c → function_in function c.forms ≡ Some f → (b : Bool) → nat_eq (length args) (length f.params) ≡ b → HasCome (if_as_many costs node common p f args b)
+    as_many c f at there false e = refused_here _
     as_many c f at there true e = fitting c f at there (eqb-true (length args) (length f.params) e) (first_misfit 0 f.params args) refl
 
-    opened : (c : Contract) (f : Function) → contract_at p node.contracts ≡ Some c → function_in function c.forms ≡ Some f → (access : Access) → Comes costs Low (if_open costs node common p f args access)
-    opened c f at there Private = refusal costs node N Low _
+    opened : (c : Contract) (f : Function) → contract_at p node.contracts ≡ Some c → function_in function c.forms ≡ Some f → (access : Access) → HasCome (if_open costs node common p f args access)
+    opened c f at there Private = refused_here _
     opened c f at there Public = as_many c f at there (nat_eq (length args) (length f.params)) refl
     opened c f at there ReadOnly = as_many c f at there (nat_eq (length args) (length f.params)) refl
 
-    found : (c : Contract) → contract_at p node.contracts ≡ Some c → (o : Option Function) → function_in function c.forms ≡ o → Comes costs Low (if_function costs node common p args o)
-    found c at None e = refusal costs node N Low _
+    found : (c : Contract) → contract_at p node.contracts ≡ Some c → (o : Option Function) → function_in function c.forms ≡ o → HasCome (if_function costs node common p args o)
+    found c at None e = refused_here _
     found c at (Some f) e = opened c f at e f.access
 
-    deployed : (o : Option Contract) → contract_at p node.contracts ≡ o → Comes costs Low (if_deployed costs node common p function args o)
-    deployed None e = refusal costs node N Low _
+    deployed : (o : Option Contract) → contract_at p node.contracts ≡ o → HasCome (if_deployed costs node common p function args o)
+    deployed None e = refused_here _
     deployed (Some c) e = found c e (function_in function c.forms) refl
 
-    pub call_comes : Comes costs Low (call_step costs node common p function args)
+    pub call_comes : HasCome (call_step costs node common p function args)
     unfolding call_step
     call_comes = deployed (contract_at p node.contracts) refl

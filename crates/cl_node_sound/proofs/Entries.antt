@@ -1,34 +1,38 @@
 -- Nodes stay sound from entry to entry.
 use Rattle.std.proofs.Common.{◌≡◌, ℕ, List, [], ◌∷◌, Option, Some, None, refl, sym, ap, subst, ◌∙◌, arith}
 use Rattle.std.specs.List.{All}
-use Rattle.std.proofs.lemmas.List.Elements.{All-head, All-tail, All-nil}
+use Rattle.std.proofs.lemmas.List.Elements.{All-head, All-tail}
 use Rattle.cl_c32.specs.declared.principal.Principal.{Principal}
 use Rattle.cl_shapes.specs.declared.cost.Cost5.{Cost5}
 use Rattle.cl_shapes.specs.Costs.{IsAtMost}
+use Rattle.cl_shapes.specs.Limits.{limit_of}
 use Rattle.cl_values.specs.Tree.{Tree}
 use Rattle.cl_values.specs.Valid.{IsPrincipal}
-use Rattle.cl_meaning.specs.Deployed.{Contract}
-use Rattle.cl_meaning.specs.Limits.{Costs, Limited, Gave, Threw, AbortedBy, Passed, Lost}
-use Rattle.cl_rules.specs.Context.{Known, known_at}
+use Rattle.cl_meaning.specs.Limits.{Costs}
+use Rattle.cl_rules.specs.Context.{Known, Signature, known_at, signature_in}
 use Rattle.cl_rules.specs.Acceptance.{Accepted}
 use Rattle.cl_contract_sound.proofs.NextNode.{first_node as first_is_node}
-use Rattle.cl_tx.specs.declared.entry.Common.{Common}
-use Rattle.cl_tx.specs.declared.entry.Entry.{Entry}
-use Rattle.cl_tx.specs.declared.entry.Entry.TheVariants.{Deploy, Call}
+use Rattle.cl_file.specs.declared.entry.Common.{Common}
+use Rattle.cl_file.specs.declared.entry.Entry.{Entry}
+use Rattle.cl_file.specs.declared.entry.Entry.TheVariants.{Deploy, Call, Block}
+use Rattle.cl_file.specs.Files.{FileSeen}
 use Rattle.cl_tx.specs.declared.outcome.Bounds.{Bounds}
 use Rattle.cl_tx.specs.declared.outcome.TxResult.{TxResult}
-use Rattle.cl_tx.specs.Nodes.{NodeSeen, Stepped, Told, contract_of, deployment_ended}
-use Rattle.cl_tx.specs.Step.{Steps, name_taken, source_refused, evaluated, AllStep, first_node, told_of, run_deployment}
-use Rattle.cl_node_sound.specs.Sound.{IsSoundNode, IsWithinBound, HasParts}
-use Rattle.cl_node_sound.proofs.Calling.{call_comes}
-use Rattle.cl_node_sound.proofs.Deploying.{deployment_comes}
+use Rattle.cl_tx.specs.Nodes.{NodeSeen, Stepped, contract_of}
+use Rattle.cl_tx.specs.Step.{Steps, name_taken, source_refused, evaluated, AllStep, Runs, first_node, told_of, run_deployment}
+use Rattle.cl_node_sound.specs.Sound.{IsSoundNode, IsWithinBound, HasParts, FileHasParts}
+use Rattle.cl_node_sound.specs.Told.{IsStopped}
+use Rattle.cl_node_sound.specs.Laws.{DeployedHaveConstants}
+use Rattle.cl_node_sound.proofs.Calling.{call_comes, IsBoundAbove}
+use Rattle.cl_node_sound.proofs.Constants.{typed_under}
+use Rattle.cl_node_sound.proofs.Deploying.{deployment_comes, constants_bound}
 
 some_same : (s t : Stepped) → Some s ≡ Some t → s ≡ t
 some_same s t e = cc
 
-pub first_sound : (costs : Costs) → IsSoundNode costs first_node
-first_sound costs =
-    let n = first_is_node costs [] (All-nil (λ (h : Principal × ℕ). IsPrincipal h.0)) in
+pub first_sound : (costs : Costs) (holders : List (Principal × ℕ)) → All (λ (h : Principal × ℕ). IsPrincipal h.0) holders → IsSoundNode costs (first_node holders)
+first_sound costs holders are =
+    let n = first_is_node costs holders are in
     record { contracts = n.contracts; kept = n.kept; height = omega arith; no_events = refl; no_moves = refl }
 
 pub sound_stays : (costs : Costs) (node : NodeSeen) (entry : Entry) (s : Stepped) → HasParts entry → IsSoundNode costs node → Steps costs node entry s → IsSoundNode costs s.node
@@ -40,13 +44,15 @@ sound_stays costs node (Deploy common name source) s parts N (source_refused rul
 sound_stays costs node (Deploy common name source) s parts N (evaluated new accepted is) =
     let c = deployment_comes costs node N common parts.0 (contract_of common.sender name) (parts.0, parts.1) new source accepted in
     subst (λ (s : Stepped). IsSoundNode costs s.node) (some_same c.step s (sym c.is ∙ is)) c.sound
+sound_stays costs node (Block height) s parts N x =
+    subst (λ (s : Stepped). IsSoundNode costs s.node) (sym x) (record { contracts = N.contracts; kept = N.kept; height = omega (arith, parts); no_events = N.no_events; no_moves = N.no_moves })
 
 all_stay : (costs : Costs) (entries : List Entry) (node : NodeSeen) (results : List TxResult) (after : NodeSeen) → All HasParts entries → IsSoundNode costs node → AllStep costs node entries results after → IsSoundNode costs after
 all_stay costs [] node results after parts N x = subst (λ n. IsSoundNode costs n) (sym x.1) N
 all_stay costs (e ∷ es) node results after parts N x = all_stay costs es x.0.node x.1 after (All-tail HasParts e es parts) (sound_stays costs node e x.0 (All-head HasParts e es parts) N x.2) x.3
 
-pub runs_end_sound : (costs : Costs) (entries : List Entry) (results : List TxResult) (after : NodeSeen) → All HasParts entries → AllStep costs first_node entries results after → IsSoundNode costs after
-runs_end_sound costs entries results after parts x = all_stay costs entries first_node results after parts (first_sound costs) x
+pub runs_end_sound : (costs : Costs) (file : FileSeen) (results : List TxResult) (after : NodeSeen) → FileHasParts file → Runs costs file results after → IsSoundNode costs after
+runs_end_sound costs file results after parts x = all_stay costs file.entries (first_node file.genesis) results after parts.entries (first_sound costs file.genesis parts.holders) x.steps
 
 pub calls_step : (costs : Costs) (node : NodeSeen) (common : Common) (contract : Principal) (function : List ℕ) (args : List Tree) → HasParts (Call common contract function args) → IsSoundNode costs node → (s : Stepped) × Steps costs node (Call common contract function args) s
 calls_step costs node common contract function args parts N =
@@ -58,34 +64,70 @@ deployments_step costs node common name source parts N new accepted =
     let c = deployment_comes costs node N common parts.0 (contract_of common.sender name) (parts.0, parts.1) new source accepted in
     (c.step, evaluated new accepted c.is)
 
--- ---- costs
+pub deployed_constants : DeployedHaveConstants
+deployed_constants costs node common name source parts N new accepted c s purse is x v =
+    typed_under accepted.defined.context.constants c.constants x v (constants_bound costs node N common parts.0 (contract_of common.sender name) (parts.0, parts.1) new source accepted c s purse is)
 
-pub calls_within : (costs : Costs) (node : NodeSeen) (common : Common) (contract : Principal) (function : List ℕ) (args : List Tree) (s : Stepped) → HasParts (Call common contract function args) → IsSoundNode costs node → Steps costs node (Call common contract function args) s → (cost : Cost5) → s.result.cost ≡ Some cost → IsWithinBound costs node.known contract function cost
-calls_within costs node common contract function args s parts N x cost e =
-    let c = call_comes costs node N common parts.0 contract parts.1 function args parts.2 in
-    c.low cost (ap (λ (s : Stepped). s.result.cost) (some_same c.step s (sym c.is ∙ x)) ∙ e)
+-- ---- costs and limits
 
-pub told_bounds : (costs : Costs) (node : NodeSeen) (told : Told) (known : Known) (l : Limited Contract) (s : Stepped) → deployment_ended node told known l ≡ Some s → s.result.bounds ≡ told.bounds
-told_bounds costs node told known (Gave c t purse) s e = ap (λ (s : Stepped). s.result.bounds) (sym (some_same _ s e))
-told_bounds costs node told known (Threw v t purse) s e = ap (λ (s : Stepped). s.result.bounds) (sym (some_same _ s e))
-told_bounds costs node told known (AbortedBy why purse) s e = ap (λ (s : Stepped). s.result.bounds) (sym (some_same _ s e))
-told_bounds costs node told known (Passed over purse) s e = ap (λ (s : Stepped). s.result.bounds) (sym (some_same _ s e))
-told_bounds costs node told known (Lost purse) s e = absurd cc
+module _ (costs : Costs) (node : NodeSeen) (common : Common) (contract : Principal) (function : List ℕ) (args : List Tree) (s : Stepped) (parts : HasParts (Call common contract function args)) (N : IsSoundNode costs node) where
+  pub calls_within : Steps costs node (Call common contract function args) s → (cost : Cost5) → s.result.cost ≡ Some cost → IsWithinBound costs node.known contract function cost
+  calls_within x cost e =
+      let c = call_comes costs node N common parts.0 contract parts.1 function args parts.2 in
+      c.low cost (ap (λ (s : Stepped). s.result.cost) (some_same c.step s (sym c.is ∙ x)) ∙ e)
+
+  -- a call that is stopped by its limit has a bound above it
+  pub bound_above : Steps costs node (Call common contract function args) s → IsStopped s.result.outcome → IsBoundAbove costs node.known contract function (limit_of common.limit)
+  bound_above x h =
+      let c = call_comes costs node N common parts.0 contract parts.1 function args parts.2 in
+      c.stopped (subst (λ (s : Stepped). IsStopped s.result.outcome) (sym (some_same c.step s (sym c.is ∙ x))) h)
+
+  pub calls_not_stopped : (known : Known) (signature : Signature) → known_at contract node.known ≡ Some known → signature_in function known.functions ≡ Some signature → IsAtMost (signature.bound costs) (limit_of common.limit) → Steps costs node (Call common contract function args) s → IsStopped s.result.outcome → ⊥
+  calls_not_stopped known signature there told low x h =
+      let b = bound_above x h in
+      let one : b.known ≡ known = same_known b.known known (sym b.there ∙ there) in
+      let same : b.signature ≡ signature = same_signature b.signature signature (sym b.told ∙ ap (λ (k : Known). signature_in function k.functions) one ∙ told) in
+      b.above (subst (λ (g : Signature). IsAtMost (g.bound costs) (limit_of common.limit)) (sym same) low)
+    where
+      same_known : (k l : Known) → Some k ≡ Some l → k ≡ l
+      same_known k l e = cc
+
+      same_signature : (f g : Signature) → Some f ≡ Some g → f ≡ g
+      same_signature f g e = cc
 
 no_bounds : (o : Option Bounds) (b : Bounds) (P : Type 0) → o ≡ None → o ≡ Some b → P
 no_bounds o b P e h = let f : None ≡ Some b = sym e ∙ h in absurd cc
 
-same_deploy : (a b : Bounds) → Some a ≡ Some b → a.deploy ≡ b.deploy
-same_deploy a b e = ap (λ (b : Bounds). b.deploy) (same_bounds e)
-  where
-    same_bounds : Some a ≡ Some b → a ≡ b
-    same_bounds e = cc
+pub same_bounds : (a b : Bounds) → Some a ≡ Some b → a ≡ b
+same_bounds a b e = cc
 
-pub deployments_within : (costs : Costs) (node : NodeSeen) (common : Common) (name source : List ℕ) (s : Stepped) → HasParts (Deploy common name source) → IsSoundNode costs node → Steps costs node (Deploy common name source) s → (cost : Cost5) (bounds : Bounds) → s.result.cost ≡ Some cost → s.result.bounds ≡ Some bounds → IsAtMost cost bounds.deploy
-unfolding run_deployment
-deployments_within costs node common name source s parts N (name_taken known e is) cost bounds c b = no_bounds s.result.bounds bounds (IsAtMost cost bounds.deploy) (ap (λ (s : Stepped). s.result.bounds) is) b
-deployments_within costs node common name source s parts N (source_refused rule span names e f is) cost bounds c b = no_bounds s.result.bounds bounds (IsAtMost cost bounds.deploy) (ap (λ (s : Stepped). s.result.bounds) is) b
-deployments_within costs node common name source s parts N (evaluated new accepted is) cost bounds c b =
-    let d = deployment_comes costs node N common parts.0 (contract_of common.sender name) (parts.0, parts.1) new source accepted in
-    subst (IsAtMost cost) (same_deploy _ bounds (sym (told_bounds costs node (told_of costs accepted.defined accepted.forms) _ _ s is) ∙ b))
-    (d.low cost (ap (λ (s : Stepped). s.result.cost) (some_same d.step s (sym d.is ∙ is)) ∙ c))
+-- what a deployment comes to that tells bounds
+pub record TellsBounds (costs : Costs) (limit : Cost5) (bounds : Bounds) (s : Stepped) : Type 0 where
+  pub charged : (cost : Cost5) → s.result.cost ≡ Some cost → IsAtMost cost bounds.deploy
+  pub stopped : IsStopped s.result.outcome → IsAtMost bounds.deploy limit → ⊥
+
+module _ (costs : Costs) (node : NodeSeen) (common : Common) (name source : List ℕ) (s : Stepped) (parts : HasParts (Deploy common name source)) (N : IsSoundNode costs node) where
+  -- of an accepted source
+  pub evaluated_tells : (new : known_at (contract_of common.sender name) node.known ≡ None) (accepted : Accepted node.known (contract_of common.sender name) costs source) → run_deployment costs node common (contract_of common.sender name) source accepted.forms accepted.defined ≡ Some s →
+      s.result.bounds ≡ (told_of costs accepted.defined accepted.forms).bounds
+  evaluated_tells new accepted is =
+      let d = deployment_comes costs node N common parts.0 (contract_of common.sender name) (parts.0, parts.1) new source accepted in
+      ap (λ (s : Stepped). s.result.bounds) (some_same s d.step (sym is ∙ d.is)) ∙ d.tells
+
+  tells : Steps costs node (Deploy common name source) s → (bounds : Bounds) → s.result.bounds ≡ Some bounds → TellsBounds costs (limit_of common.limit) bounds s
+  tells (name_taken known e is) bounds b = no_bounds s.result.bounds bounds (TellsBounds costs (limit_of common.limit) bounds s) (ap (λ (s : Stepped). s.result.bounds) is) b
+  tells (source_refused rule span names e f is) bounds b = no_bounds s.result.bounds bounds (TellsBounds costs (limit_of common.limit) bounds s) (ap (λ (s : Stepped). s.result.bounds) is) b
+  tells (evaluated new accepted is) bounds b =
+      let d = deployment_comes costs node N common parts.0 (contract_of common.sender name) (parts.0, parts.1) new source accepted in
+      let same : d.step ≡ s = some_same d.step s (sym d.is ∙ is) in
+      let bound : accepted.defined.deploy costs ≡ bounds.deploy = ap (λ (b : Bounds). b.deploy) (same_bounds _ bounds (sym (evaluated_tells new accepted is) ∙ b)) in
+      record {
+        charged = λ cost c. subst (IsAtMost cost) bound (d.low cost (ap (λ (s : Stepped). s.result.cost) same ∙ c));
+        stopped = λ h low. d.stopped (subst (λ (s : Stepped). IsStopped s.result.outcome) (sym same) h) (subst (λ b. IsAtMost b (limit_of common.limit)) (sym bound) low);
+      }
+
+  pub deployments_within : Steps costs node (Deploy common name source) s → (cost : Cost5) (bounds : Bounds) → s.result.cost ≡ Some cost → s.result.bounds ≡ Some bounds → IsAtMost cost bounds.deploy
+  deployments_within x cost bounds c b = (tells x bounds b).charged cost c
+
+  pub deployments_not_stopped : Steps costs node (Deploy common name source) s → (bounds : Bounds) → s.result.bounds ≡ Some bounds → IsAtMost bounds.deploy (limit_of common.limit) → IsStopped s.result.outcome → ⊥
+  deployments_not_stopped x bounds b low h = (tells x bounds b).stopped h low

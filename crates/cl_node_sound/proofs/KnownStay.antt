@@ -8,8 +8,11 @@ use Rattle.cl_values.specs.Tree.{Tree, ResponseV}
 use Rattle.cl_events.specs.State.{State}
 use Rattle.cl_meaning.specs.Deployed.{Contract, Function, contract_at, function_in}
 use Rattle.cl_meaning.specs.Limits.{Costs, Limited, Gave, Threw, AbortedBy, Passed, Lost}
-use Rattle.cl_tx.specs.declared.entry.Common.{Common}
-use Rattle.cl_tx.specs.Nodes.{NodeSeen, Stepped, answered, call_ended}
+use Rattle.cl_file.specs.declared.entry.Common.{Common}
+use Rattle.cl_post.specs.Post.{holds}
+use Rattle.cl_tx.specs.declared.outcome.Outcome.{Outcome}
+use Rattle.cl_tx.specs.declared.outcome.Outcome.TheVariants.{Good, Plain}
+use Rattle.cl_tx.specs.Nodes.{NodeSeen, Stepped, nothing_told, settled_by, settled, answered, call_ended}
 use Rattle.cl_tx.specs.Step.{first_misfit, run_call, if_fitting, if_as_many, if_open, if_function, if_deployed, call_step}
 
 pub one_step : (s t : Stepped) → Some s ≡ Some t → s ≡ t
@@ -26,24 +29,32 @@ module _ (node : NodeSeen) where
   nothing : Keeps None
   nothing s e = absurd cc
 
-  answer : (access : Access) (v : Tree) (cost : Cost5) (s : State) → Keeps (answered access v node cost s)
-  answer Public (ResponseV true v) cost s = same _ refl
-  answer Public (ResponseV false v) cost s = same _ refl
-  answer Public v cost s = nothing
-  answer ReadOnly v cost s = same _ refl
-  answer Private v cost s = same _ refl
+  -- whether its conditions hold or not
+  settles : (failing : Option ℕ) (outcome : Outcome) (cost : Cost5) (s : State) → Keeps (Some (settled_by failing node node nothing_told outcome cost s))
+  settles None outcome cost s = same _ refl
+  settles (Some index) outcome cost s = same _ refl
 
-  ended : (access : Access) (l : Limited Tree) → Keeps (call_ended access node l)
-  ended access (Gave v s purse) = answer access v purse.spent s
-  ended access (Threw v s purse) = nothing
-  ended access (AbortedBy why purse) = same _ refl
-  ended access (Passed over purse) = same _ refl
-  ended access (Lost purse) = nothing
+  settled_keeps : (common : Common) (outcome : Outcome) (cost : Cost5) (s : State) → Keeps (Some (settled common node node nothing_told outcome cost s))
+  settled_keeps common outcome cost s = settles (holds s.moves common.mode common.conditions) outcome cost s
+
+  answer : (common : Common) (access : Access) (v : Tree) (cost : Cost5) (s : State) → Keeps (answered common access v node cost s)
+  answer common Public (ResponseV true v) cost s = settled_keeps common (Good v) cost s
+  answer common Public (ResponseV false v) cost s = same _ refl
+  answer common Public v cost s = nothing
+  answer common ReadOnly v cost s = settled_keeps common (Plain v) cost s
+  answer common Private v cost s = settled_keeps common (Plain v) cost s
+
+  ended : (common : Common) (access : Access) (l : Limited Tree) → Keeps (call_ended common access node l)
+  ended common access (Gave v s purse) = answer common access v purse.spent s
+  ended common access (Threw v s purse) = nothing
+  ended common access (AbortedBy why purse) = same _ refl
+  ended common access (Passed over purse) = same _ refl
+  ended common access (Lost purse) = nothing
 
   module _ (costs : Costs) (common : Common) (contract : Principal) (args : List Tree) where
     run : (f : Function) → Keeps (run_call costs node common contract f args)
     unfolding run_call
-    run f = ended f.access _
+    run f = ended common f.access _
 
     fitting : (f : Function) (misfit : Option ℕ) → Keeps (if_fitting costs node common contract f args misfit)
     fitting f (Some index) = same _ refl

@@ -1,6 +1,8 @@
 pub mod SameContracts
+pub mod Enough
 pub mod Calling
 pub mod Deploying
+pub mod Constants
 pub mod Entries
 pub mod NewContracts
 pub mod KnownStay

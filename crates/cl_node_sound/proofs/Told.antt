@@ -1,27 +1,34 @@
--- What is charged is within the bounds that were told last.
+-- What is charged is within the bounds that were told last, and they suffice as limits.
 use Rattle.std.proofs.Common.{◌≡◌, ◌⊎◌, inl, inr, ℕ, Bool, true, false, List, [], ◌∷◌, ◌++◌, length, Option, Some, None, refl, sym, ap, subst, ◌∙◌}
 use Rattle.std.specs.Prelude.{if◌then◌else◌, filter_map}
 use Rattle.std.specs.List.{All}
 use Rattle.std.proofs.lemmas.List.Elements.{All-head, All-tail}
 use Rattle.cl_c32.specs.declared.principal.Principal.{Principal}
 use Rattle.cl_shapes.specs.declared.cost.Cost5.{Cost5}
+use Rattle.cl_shapes.specs.Costs.{IsAtMost}
+use Rattle.cl_shapes.specs.Limits.{limit_of}
 use Rattle.cl_forms.specs.Forms.{Form}
+use Rattle.cl_events.specs.State.{State}
 use Rattle.cl_meaning.specs.Deployed.{Contract}
 use Rattle.cl_meaning.specs.Limits.{Costs, Limited, Gave, Threw, AbortedBy, Passed, Lost}
 use Rattle.cl_rules.specs.Context.{Known, Signature, known_at, signature_in, named_in, same_principal}
 use Rattle.cl_rules.specs.FormRules.{Defined}
 use Rattle.cl_rules.specs.Acceptance.{known_of}
 use Rattle.cl_contract_sound.proofs.Serving.{known_split, principal_equal, principal_same}
-use Rattle.cl_tx.specs.declared.entry.Common.{Common}
-use Rattle.cl_tx.specs.declared.entry.Entry.{Entry}
-use Rattle.cl_tx.specs.declared.entry.Entry.TheVariants.{Deploy, Call}
+use Rattle.cl_file.specs.declared.entry.Common.{Common}
+use Rattle.cl_file.specs.declared.entry.Entry.{Entry}
+use Rattle.cl_file.specs.declared.entry.Entry.TheVariants.{Deploy, Call, Block}
+use Rattle.cl_file.specs.Files.{FileSeen}
+use Rattle.cl_post.specs.Post.{holds}
 use Rattle.cl_tx.specs.declared.outcome.Bounds.{Bounds}
+use Rattle.cl_tx.specs.declared.outcome.Outcome.TheVariants.{Done}
 use Rattle.cl_tx.specs.declared.outcome.TxResult.{TxResult}
-use Rattle.cl_tx.specs.Nodes.{NodeSeen, Stepped, Told, contract_of, deployment_ended}
-use Rattle.cl_tx.specs.Step.{Steps, DeploySteps, name_taken, source_refused, evaluated, AllStep, first_node, bound_line, told_of, run_deployment}
-use Rattle.cl_node_sound.specs.Sound.{IsSoundNode, HasParts}
-use Rattle.cl_node_sound.specs.Told.{ToldLast, none_told, or_before, told_after, IsWithinOwn, IsChargedWithin, AreChargedWithin}
-use Rattle.cl_node_sound.proofs.Entries.{first_sound, sound_stays, calls_within, deployments_within, told_bounds}
+use Rattle.cl_tx.specs.Nodes.{NodeSeen, Stepped, Told, contract_of, with_contract, settled_by, deployment_ended}
+use Rattle.cl_tx.specs.Step.{Steps, DeploySteps, name_taken, source_refused, evaluated, AllStep, Runs, first_node, bound_line, told_of, run_deployment}
+use Rattle.cl_node_sound.specs.Sound.{IsSoundNode, HasParts, FileHasParts}
+use Rattle.cl_node_sound.specs.Told.{ToldLast, none_told, or_before, told_after, EachAfter, IsWithinOwn, IsChargedWithin, AreChargedWithin, IsStopped, IsNotStopped, AreNotStopped}
+use Rattle.cl_node_sound.proofs.Calling.{some_cost}
+use Rattle.cl_node_sound.proofs.Entries.{first_sound, sound_stays, calls_within, bound_above, same_bounds, evaluated_tells, deployments_within, deployments_not_stopped}
 use Rattle.cl_node_sound.proofs.KnownStay.{one_step, call_keeps}
 use Rattle.cl_node_sound.proofs.Lines.{accepted_lines}
 
@@ -94,12 +101,16 @@ module _ (costs : Costs) where
     done : (o : Option Bounds) → o ≡ Some bounds → AreTold (node.known ++ n ∷ []) (λ q. if same_principal p q then or_before o (told q) else told q)
     done o e = subst (λ o. AreTold (node.known ++ n ∷ []) (λ q. if same_principal p q then or_before o (told q) else told q)) (sym e) (one_deployed node.known told T p n bounds named new own)
 
-    ended_stays : (l : Limited Contract) (s : Stepped) → deployment_ended node now n l ≡ Some s → Stays node told p s
-    ended_stays (Gave c t purse) s e = then_told _ s (done now.bounds is) e
-    ended_stays (Threw v t purse) s e = then_told _ s (none_deployed node.known told T p now.bounds new) e
-    ended_stays (AbortedBy why purse) s e = then_told _ s (none_deployed node.known told T p now.bounds new) e
-    ended_stays (Passed over purse) s e = then_told _ s (none_deployed node.known told T p now.bounds new) e
-    ended_stays (Lost purse) s e = absurd cc
+    settled_stays : (failing : Option ℕ) (c : Contract) (cost : Cost5) (t : State) → Stays node told p (settled_by failing node (with_contract node c n) now Done cost t)
+    settled_stays None c cost t = done now.bounds is
+    settled_stays (Some index) c cost t = none_deployed node.known told T p now.bounds new
+
+    ended_stays : (common : Common) (l : Limited Contract) (s : Stepped) → deployment_ended common node now n l ≡ Some s → Stays node told p s
+    ended_stays common (Gave c t purse) s e = then_told _ s (settled_stays (holds t.moves common.mode common.conditions) c purse.spent t) e
+    ended_stays common (Threw v t purse) s e = then_told _ s (none_deployed node.known told T p now.bounds new) e
+    ended_stays common (AbortedBy why purse) s e = then_told _ s (none_deployed node.known told T p now.bounds new) e
+    ended_stays common (Passed over purse) s e = then_told _ s (none_deployed node.known told T p now.bounds new) e
+    ended_stays common (Lost purse) s e = absurd cc
 
   deployed_stay : (node : NodeSeen) (common : Common) (p : Principal) (source : List ℕ) (s : Stepped) (told : ToldLast) → AreTold node.known told → DeploySteps costs node common p source s → Stays node told p s
   unfolding run_deployment
@@ -107,11 +118,12 @@ module _ (costs : Costs) where
   deployed_stay node common p source s told T (source_refused rule span names e b is) = subst (Stays node told p) (sym is) (nothing_more node.known told T p)
   deployed_stay node common p source s told T (evaluated new accepted is) =
       ended_stays node told T p new (told_of costs accepted.defined accepted.forms) (known_of p (length source) accepted.defined) refl (bounds_of costs accepted.defined accepted.forms) refl
-      (record { bounds = bounds_of costs accepted.defined accepted.forms; is = refl; lines = accepted_lines costs node.known p source accepted }) _ s is
+      (record { bounds = bounds_of costs accepted.defined accepted.forms; is = refl; lines = accepted_lines costs node.known p source accepted }) common _ s is
 
   told_stay : (node : NodeSeen) (entry : Entry) (s : Stepped) (told : ToldLast) → AreTold node.known told → Steps costs node entry s → AreTold s.node.known (told_after told entry s.result)
   told_stay node (Deploy common name source) s told T x = deployed_stay node common (contract_of common.sender name) source s told T x
   told_stay node (Call common contract function args) s told T x = subst (λ ks. AreTold ks told) (sym (call_keeps node costs common contract args function s x)) T
+  told_stay node (Block height) s told T x = subst (λ (z : Stepped). AreTold z.node.known told) (sym x) T
 
   -- ---- charges
 
@@ -119,11 +131,10 @@ module _ (costs : Costs) where
   no_cost o cost P e h = let f : None ≡ Some cost = sym e ∙ h in absurd cc
 
   within_own : (node : NodeSeen) (common : Common) (name source : List ℕ) (s : Stepped) → HasParts (Deploy common name source) → IsSoundNode costs node → Steps costs node (Deploy common name source) s → (cost : Cost5) → s.result.cost ≡ Some cost → IsWithinOwn s.result cost
-  unfolding run_deployment
   within_own node common name source s parts N (name_taken known e is) cost c = no_cost s.result.cost cost (IsWithinOwn s.result cost) (ap (λ (z : Stepped). z.result.cost) is) c
   within_own node common name source s parts N (source_refused rule span names e b is) cost c = no_cost s.result.cost cost (IsWithinOwn s.result cost) (ap (λ (z : Stepped). z.result.cost) is) c
   within_own node common name source s parts N (evaluated new accepted is) cost c =
-      let told = told_bounds costs node (told_of costs accepted.defined accepted.forms) _ _ s is in
+      let told = evaluated_tells costs node common name source s parts N new accepted is in
       let bounds = bounds_of costs accepted.defined accepted.forms in
       record { bounds = bounds; are_told = told; low = deployments_within costs node common name source s parts N (evaluated new accepted is) cost bounds c told }
 
@@ -133,18 +144,39 @@ module _ (costs : Costs) where
       let w = calls_within costs node common contract function args s parts N x cost e in
       let own = T.each contract w.known w.there in
       record { bounds = own.bounds; bound = w.signature.bound costs; are_told = own.is; line = own.lines function w.signature w.told; low = w.low }
+  within node (Block height) s told parts N T x = ap (λ (z : Stepped). z.result.cost) x
 
-  all_within : (entries : List Entry) (node : NodeSeen) (results : List TxResult) (after : NodeSeen) (told : ToldLast) → All HasParts entries → IsSoundNode costs node → AreTold node.known told → AllStep costs node entries results after → AreChargedWithin told entries results
-  all_within [] node results after told parts N T x = subst (AreChargedWithin told []) (sym x.0) tt
-  all_within (e ∷ es) node results after told parts N T x =
-      let here = All-head HasParts e es parts in
-      subst (AreChargedWithin told (e ∷ es)) (sym x.4) (
-        within node e x.0 told here N T x.2,
-        all_within es x.0.node x.1 after (told_after told e x.0.result) (All-tail HasParts e es parts) (sound_stays costs node e x.0 here N x.2) (told_stay node e x.0 told T x.2) x.3,
-      )
+  -- ---- limits
 
-  first_told : AreTold [] none_told
-  first_told = record { each = λ p k h. absurd cc }
+  not_stopped : (node : NodeSeen) (entry : Entry) (s : Stepped) (told : ToldLast) → HasParts entry → IsSoundNode costs node → AreTold node.known told → Steps costs node entry s → IsNotStopped told entry s.result
+  not_stopped node (Deploy common name source) s told parts N T x = deployments_not_stopped costs node common name source s parts N x
+  not_stopped node (Call common contract function args) s told parts N T x = λ bounds bound are_told line low h.
+      let above = bound_above costs node common contract function args s parts N x h in
+      let own = T.each contract above.known above.there in
+      let one : own.bounds ≡ bounds = same_bounds own.bounds bounds (sym own.is ∙ are_told) in
+      let same : above.signature.bound costs ≡ bound = some_cost (above.signature.bound costs) bound (sym (own.lines function above.signature above.told) ∙ ap (λ (b : Bounds). named_in function b.functions) one ∙ line) in
+      above.above (subst (λ b. IsAtMost b (limit_of common.limit)) (sym same) low)
+  not_stopped node (Block height) s told parts N T x = λ h. subst (λ (z : Stepped). IsStopped z.result.outcome) x h
 
-pub runs_within : (costs : Costs) (entries : List Entry) (results : List TxResult) (after : NodeSeen) → All HasParts entries → AllStep costs first_node entries results after → AreChargedWithin none_told entries results
-runs_within costs entries results after parts x = all_within costs entries first_node results after none_told parts (first_sound costs) (first_told costs) x
+  -- ---- files
+
+  module _ (Holds : ToldLast → Entry → TxResult → Type 0)
+      (each : (node : NodeSeen) (entry : Entry) (s : Stepped) (told : ToldLast) → HasParts entry → IsSoundNode costs node → AreTold node.known told → Steps costs node entry s → Holds told entry s.result) where
+    all_hold : (entries : List Entry) (node : NodeSeen) (results : List TxResult) (after : NodeSeen) (told : ToldLast) → All HasParts entries → IsSoundNode costs node → AreTold node.known told → AllStep costs node entries results after → EachAfter Holds told entries results
+    all_hold [] node results after told parts N T x = subst (EachAfter Holds told []) (sym x.0) tt
+    all_hold (e ∷ es) node results after told parts N T x =
+        let here = All-head HasParts e es parts in
+        subst (EachAfter Holds told (e ∷ es)) (sym x.4) (
+          each node e x.0 told here N T x.2,
+          all_hold es x.0.node x.1 after (told_after told e x.0.result) (All-tail HasParts e es parts) (sound_stays costs node e x.0 here N x.2) (told_stay node e x.0 told T x.2) x.3,
+        )
+
+    run_holds : (file : FileSeen) (results : List TxResult) (after : NodeSeen) → FileHasParts file → Runs costs file results after → EachAfter Holds none_told file.entries results
+    run_holds file results after parts x =
+        all_hold file.entries (first_node file.genesis) results after none_told parts.entries (first_sound costs file.genesis parts.holders) (record { each = λ p k h. absurd cc }) x.steps
+
+pub runs_within : (costs : Costs) (file : FileSeen) (results : List TxResult) (after : NodeSeen) → FileHasParts file → Runs costs file results after → AreChargedWithin none_told file.entries results
+runs_within costs = run_holds costs IsChargedWithin (within costs)
+
+pub runs_not_stopped : (costs : Costs) (file : FileSeen) (results : List TxResult) (after : NodeSeen) → FileHasParts file → Runs costs file results after → AreNotStopped none_told file.entries results
+runs_not_stopped costs = run_holds costs IsNotStopped (not_stopped costs)

@@ -4,34 +4,38 @@ use Rattle.std.specs.List.{All}
 use Rattle.cl_c32.specs.declared.principal.Principal.{Principal}
 use Rattle.cl_shapes.specs.declared.cost.Cost5.{Cost5}
 use Rattle.cl_shapes.specs.Costs.{IsAtMost}
+use Rattle.cl_shapes.specs.Limits.{Purse, limit_of}
 use Rattle.cl_values.specs.Tree.{Tree}
 use Rattle.cl_values.specs.Valid.{IsPrincipal}
 use Rattle.cl_maps.specs.Maps.{get}
-use Rattle.cl_events.specs.State.{place}
-use Rattle.cl_meaning.specs.Deployed.{contract_at}
-use Rattle.cl_meaning.specs.Limits.{Costs}
-use Rattle.cl_rules.specs.Context.{known_at}
+use Rattle.cl_events.specs.State.{State, place}
+use Rattle.cl_meaning.specs.Deployed.{Contract, contract_at, value_of}
+use Rattle.cl_meaning.specs.Deploying.{deployment}
+use Rattle.cl_meaning.specs.Limits.{Costs, Gave, limited}
+use Rattle.cl_rules.specs.Context.{Known, Signature, known_at, signature_in}
 use Rattle.cl_rules.specs.Acceptance.{Accepted}
-use Rattle.cl_tx.specs.declared.entry.Common.{Common}
-use Rattle.cl_tx.specs.declared.entry.Entry.{Entry}
-use Rattle.cl_tx.specs.declared.entry.Entry.TheVariants.{Deploy, Call}
+use Rattle.cl_file.specs.declared.entry.Common.{Common}
+use Rattle.cl_file.specs.declared.entry.Entry.{Entry}
+use Rattle.cl_file.specs.declared.entry.Entry.TheVariants.{Deploy, Call}
+use Rattle.cl_file.specs.Files.{FileSeen}
 use Rattle.cl_tx.specs.declared.outcome.Bounds.{Bounds}
 use Rattle.cl_tx.specs.declared.outcome.TxResult.{TxResult}
-use Rattle.cl_tx.specs.Nodes.{NodeSeen, Stepped, contract_of}
-use Rattle.cl_tx.specs.Step.{Steps, AllStep, first_node}
-use Rattle.cl_node_sound.specs.Sound.{IsSoundNode, IsWithinBound, HasParts}
-use Rattle.cl_node_sound.specs.Told.{none_told, AreChargedWithin}
+use Rattle.cl_tx.specs.Nodes.{NodeSeen, Stepped, contract_of, frame_of, purse_of}
+use Rattle.cl_tx.specs.Step.{Steps, Runs, contract_with, first_node}
+use Rattle.cl_node_sound.specs.Sound.{IsSoundNode, IsWithinBound, IsTypedUnder, HasParts, FileHasParts}
+use Rattle.cl_node_sound.specs.Told.{none_told, AreChargedWithin, IsStopped, AreNotStopped}
 
+-- with holders who are principals
 abbrev pub FirstIsSound : Type 0
-FirstIsSound = (costs : Costs) → IsSoundNode costs first_node
+FirstIsSound = (costs : Costs) (holders : List (Principal × ℕ)) → All (λ (h : Principal × ℕ). IsPrincipal h.0) holders → IsSoundNode costs (first_node holders)
 
 -- what an entry makes of a sound node is one
 abbrev pub SoundStay : Type 0
 SoundStay = (costs : Costs) (node : NodeSeen) (entry : Entry) (s : Stepped) → HasParts entry → IsSoundNode costs node → Steps costs node entry s → IsSoundNode costs s.node
 
--- after entries from the first node on there is a sound one
+-- after the entries of a file there is a sound one
 abbrev pub RunsEndSound : Type 0
-RunsEndSound = (costs : Costs) (entries : List Entry) (results : List TxResult) (after : NodeSeen) → All HasParts entries → AllStep costs first_node entries results after → IsSoundNode costs after
+RunsEndSound = (costs : Costs) (file : FileSeen) (results : List TxResult) (after : NodeSeen) → FileHasParts file → Runs costs file results after → IsSoundNode costs after
 
 -- what a call is charged, aborted or not, is at most its function's bound
 abbrev pub CallsStayWithin : Type 0
@@ -45,9 +49,30 @@ DeploymentsStayWithin =
     (costs : Costs) (node : NodeSeen) (common : Common) (name source : List ℕ) (s : Stepped) → HasParts (Deploy common name source) → IsSoundNode costs node →
     Steps costs node (Deploy common name source) s → (cost : Cost5) (bounds : Bounds) → s.result.cost ≡ Some cost → s.result.bounds ≡ Some bounds → IsAtMost cost bounds.deploy
 
--- in a run from the first node on no entry is charged above the bound that was told last
+-- of a file no entry is charged above the bound that was told last
 abbrev pub RunsStayWithin : Type 0
-RunsStayWithin = (costs : Costs) (entries : List Entry) (results : List TxResult) (after : NodeSeen) → All HasParts entries → AllStep costs first_node entries results after → AreChargedWithin none_told entries results
+RunsStayWithin = (costs : Costs) (file : FileSeen) (results : List TxResult) (after : NodeSeen) → FileHasParts file → Runs costs file results after → AreChargedWithin none_told file.entries results
+
+-- ---- limits
+
+-- a call whose limit in each dimension is no less than its function's bound isn't stopped by it
+abbrev pub CallsAreNotStopped : Type 0
+CallsAreNotStopped =
+    (costs : Costs) (node : NodeSeen) (common : Common) (contract : Principal) (function : List ℕ) (args : List Tree) (s : Stepped) → HasParts (Call common contract function args) → IsSoundNode costs node →
+    (known : Known) (signature : Signature) → known_at contract node.known ≡ Some known → signature_in function known.functions ≡ Some signature → IsAtMost (signature.bound costs) (limit_of common.limit) →
+    Steps costs node (Call common contract function args) s → IsStopped s.result.outcome → ⊥
+
+-- nor is a deployment whose limit is no less than the bound that is told with it
+abbrev pub DeploymentsAreNotStopped : Type 0
+DeploymentsAreNotStopped =
+    (costs : Costs) (node : NodeSeen) (common : Common) (name source : List ℕ) (s : Stepped) → HasParts (Deploy common name source) → IsSoundNode costs node →
+    Steps costs node (Deploy common name source) s → (bounds : Bounds) → s.result.bounds ≡ Some bounds → IsAtMost bounds.deploy (limit_of common.limit) → IsStopped s.result.outcome → ⊥
+
+-- nor is an entry of a file whose limit is no less than the bound that was told last
+abbrev pub RunsAreNotStopped : Type 0
+RunsAreNotStopped = (costs : Costs) (file : FileSeen) (results : List TxResult) (after : NodeSeen) → FileHasParts file → Runs costs file results after → AreNotStopped none_told file.entries results
+
+-- ---- answers
 
 -- each call comes to something: its evaluation is never wrong, and needs no more depth than there is
 abbrev pub CallsStep : Type 0
@@ -61,6 +86,14 @@ DeploymentsStep =
     (costs : Costs) (node : NodeSeen) (common : Common) (name source : List ℕ) → HasParts (Deploy common name source) → IsSoundNode costs node →
     known_at (contract_of common.sender name) node.known ≡ None → Accepted node.known (contract_of common.sender name) costs source →
     (s : Stepped) × Steps costs node (Deploy common name source) s
+
+-- each value that the deployment of an accepted source gives is of the type of the constant of its name
+abbrev pub DeployedHaveConstants : Type 0
+DeployedHaveConstants =
+    (costs : Costs) (node : NodeSeen) (common : Common) (name source : List ℕ) → HasParts (Deploy common name source) → IsSoundNode costs node →
+    known_at (contract_of common.sender name) node.known ≡ None → (accepted : Accepted node.known (contract_of common.sender name) costs source) → (c : Contract) (s : State) (purse : Purse) →
+    limited costs (purse_of common) (deployment node.contracts (frame_of node common.sender (contract_of common.sender name)) (contract_with (contract_of common.sender name) source accepted.forms) node.state) ≡ Gave c s purse →
+    (x : List ℕ) (v : Tree) → value_of x c.constants ≡ Some v → IsTypedUnder accepted.defined.context.constants x v
 
 -- where no contract is deployed there is no token of one
 abbrev pub NewHaveNoTokens : Type 0

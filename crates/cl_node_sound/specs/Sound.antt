@@ -1,18 +1,22 @@
 -- Sound nodes: each contract stands for one accepted text, the state is kept, and nothing was told or moved.
 use Rattle.std.specs.Prelude.{◌≡◌, ℕ, ◌<◌, ◌^◌, List, [], Some}
 use Rattle.std.specs.List.{All}
+use Rattle.cl_types.specs.Types.{PlainType}
 use Rattle.cl_c32.specs.Address.{IsAddress}
 use Rattle.cl_c32.specs.ContractName.{IsContractName}
 use Rattle.cl_c32.specs.declared.principal.Principal.{Principal}
 use Rattle.cl_shapes.specs.declared.cost.Cost5.{Cost5}
 use Rattle.cl_shapes.specs.Costs.{IsAtMost}
+use Rattle.cl_values.specs.Tree.{Tree}
+use Rattle.cl_values.specs.Typed.{IsOf}
 use Rattle.cl_values.specs.Valid.{IsVal, IsPrincipal}
 use Rattle.cl_meaning.specs.Kept.{Whole, Kept}
 use Rattle.cl_meaning.specs.Limits.{Costs}
-use Rattle.cl_rules.specs.Context.{Known, Signature, known_at, signature_in}
+use Rattle.cl_rules.specs.Context.{Known, Names, Signature, known_at, named_in, signature_in}
 use Rattle.cl_contract_sound.specs.Nodes.{AreContracts}
-use Rattle.cl_tx.specs.declared.entry.Entry.{Entry}
-use Rattle.cl_tx.specs.declared.entry.Entry.TheVariants.{Deploy, Call}
+use Rattle.cl_file.specs.declared.entry.Entry.{Entry}
+use Rattle.cl_file.specs.declared.entry.Entry.TheVariants.{Deploy, Call, Block}
+use Rattle.cl_file.specs.Files.{FileSeen}
 use Rattle.cl_tx.specs.Nodes.{NodeSeen}
 
 pub record IsSoundNode (costs : Costs) (node : NodeSeen) : Type 0 where
@@ -30,7 +34,19 @@ pub record IsWithinBound (costs : Costs) (ks : List Known) (p : Principal) (x : 
   pub told : signature_in x known.functions ≡ Some signature
   pub low : IsAtMost cost (signature.bound costs)
 
--- principals and values of an entry are within the limits, as the types of the code keep them
+-- a value of the type that stands under a name
+pub record IsTypedUnder (types : Names) (x : List ℕ) (v : Tree) : Type 0 where
+  pub type : PlainType
+  pub there : named_in x types ≡ Some type
+  pub typed : IsOf v type
+
+-- principals and values of an entry are within the limits, and its height has 64 bits, as the types of the code keep them
 abbrev pub HasParts : Entry → Type 0
 HasParts (Deploy common name source) = IsAddress common.sender × IsContractName name
 HasParts (Call common contract function args) = IsAddress common.sender × IsPrincipal contract × All IsVal args
+HasParts (Block height) = height < 2 ^ 64
+
+-- and so are the holders and entries of a file
+pub record FileHasParts (file : FileSeen) : Type 0 where
+  pub holders : All (λ (h : Principal × ℕ). IsPrincipal h.0) file.genesis
+  pub entries : All HasParts file.entries

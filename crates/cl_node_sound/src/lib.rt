@@ -1,10 +1,10 @@
 //! Nodes stay sound. Each function here is a law, and does nothing.
 #![tactic(auto)]
 
-ghost use Rattle.cl_node_sound.specs.Laws.{FirstIsSound, SoundStay, RunsEndSound, CallsStayWithin, DeploymentsStayWithin, RunsStayWithin, CallsStep, DeploymentsStep, NewHaveNoTokens};
+ghost use Rattle.cl_node_sound.specs.Laws.{FirstIsSound, SoundStay, RunsEndSound, CallsStayWithin, DeploymentsStayWithin, RunsStayWithin, CallsAreNotStopped, DeploymentsAreNotStopped, RunsAreNotStopped, CallsStep, DeploymentsStep, DeployedHaveConstants, NewHaveNoTokens};
 
 /// Before all entries a node is sound: each of its contracts stands for one accepted text, its state is kept, and nothing was
-/// told or moved. It stays so from entry to entry, under each table of costs.
+/// told or moved. It stays so from entry to entry, under each table of costs, whatever limits and conditions the entries have.
 pub fn nodes_stay_sound()
     ensures first { FirstIsSound }
     ensures stay { SoundStay }
@@ -12,12 +12,20 @@ pub fn nodes_stay_sound()
 {}
 
 /// At a sound node a call, aborted or not, is charged at most the bound of its function, and a deployment at most its own, in
-/// each of the five dimensions. So in a run from the first node on each call is charged at most the bound that was told last for
-/// its function, by the deployment of its contract.
+/// each of the five dimensions. So each call of a file is charged at most the bound that was told last for its function, by the
+/// deployment of its contract.
 pub fn costs_stay_within_bounds()
     ensures calls { CallsStayWithin }
     ensures deployments { DeploymentsStayWithin }
     ensures run { RunsStayWithin }
+{}
+
+/// At a sound node an entry whose limit in each of the five dimensions is no less than its bound never ends in A8. So it is with
+/// each call of a file whose limit is no less than the bound that was told last for its function.
+pub fn bounds_suffice_as_limits()
+    ensures calls { CallsAreNotStopped }
+    ensures deployments { DeploymentsAreNotStopped }
+    ensures run { RunsAreNotStopped }
 {}
 
 /// Each call, and each deployment of an accepted source, comes to something at a sound node: no evaluation is wrong, and none
@@ -25,6 +33,11 @@ pub fn costs_stay_within_bounds()
 pub fn entries_come_to_something()
     ensures calls { CallsStep }
     ensures deployments { DeploymentsStep }
+{}
+
+/// Each value that the deployment of an accepted source gives at a sound node is of the type of the constant of its name.
+pub fn constants_have_their_types()
+    ensures { DeployedHaveConstants }
 {}
 
 /// At a sound node there is no token of a principal without a contract.

@@ -11,11 +11,12 @@ use Rattle.cl_events.specs.State.{State, at_rest}
 use Rattle.cl_meaning.specs.Answers.{Outcome, Given, Thrown, Aborted, Wrong, Deeper, Answer}
 use Rattle.cl_meaning.specs.Deployed.{Contract, Function, contract_at, function_in}
 use Rattle.cl_meaning.specs.Limits.{Costs, Paid, Within, Past, pay, Limited, Gave, Threw, AbortedBy, Passed, Lost, limit_on, limited}
-use Rattle.cl_tx.specs.declared.entry.Common.{Common}
-use Rattle.cl_tx.specs.declared.entry.Entry.TheVariants.{Call}
+use Rattle.cl_file.specs.declared.entry.Common.{Common}
+use Rattle.cl_file.specs.declared.entry.Entry.TheVariants.{Call}
 use Rattle.cl_tx.specs.declared.outcome.Outcome.{Outcome as TxOutcome}
 use Rattle.cl_tx.specs.declared.outcome.Outcome.TheVariants.{Good, Plain}
-use Rattle.cl_tx.specs.Nodes.{NodeSeen, Stepped, Told, nothing_told, stays, frame_of, no_limit, moves_on, answered, call_ended}
+use Rattle.cl_post.specs.Post.{holds}
+use Rattle.cl_tx.specs.Nodes.{NodeSeen, Stepped, Told, nothing_told, stays, frame_of, purse_of, moves_on, settled_by, settled, answered, call_ended}
 use Rattle.cl_tx.specs.Step.{Steps, first_misfit, run_call, if_fitting, if_as_many, if_open, if_function, if_deployed, call_step}
 use Rattle.cl_node_sound.specs.Sound.{IsSoundNode, HasParts}
 use Rattle.cl_readonly_sound.specs.Untouched.{ArePrints, IsUntouched}
@@ -68,14 +69,22 @@ module _ (costs : Costs) (node : NodeSeen) (N : IsSoundNode costs node) (common 
     prints = subst ArePrints (sym (h.events ∙ ap (λ es. es ++ h.printed) N.no_events)) h.prints;
   })
 
-  answer_stays : (access : Access) (v : Tree) (cost : Cost5) (t : State) → IsUntouched node.state t → Stays (answered access v node cost t)
-  answer_stays ReadOnly v cost t h = moved nothing_told (Plain v) cost t h
-  answer_stays Private v cost t h = moved nothing_told (Plain v) cost t h
-  answer_stays Public (ResponseV true v) cost t h = moved nothing_told (Good v) cost t h
+  -- whether its conditions hold or not
+  settles : (failing : Option ℕ) (outcome : TxOutcome) (cost : Cost5) (t : State) → IsUntouched node.state t → Stays (Some (settled_by failing node node nothing_told outcome cost t))
+  settles None outcome cost t h = moved nothing_told outcome cost t h
+  settles (Some index) outcome cost t h = stays_itself _ _ _
+
+  settled_stays : (outcome : TxOutcome) (cost : Cost5) (t : State) → IsUntouched node.state t → Stays (Some (settled common node node nothing_told outcome cost t))
+  settled_stays outcome cost t h = settles (holds t.moves common.mode common.conditions) outcome cost t h
+
+  answer_stays : (access : Access) (v : Tree) (cost : Cost5) (t : State) → IsUntouched node.state t → Stays (answered common access v node cost t)
+  answer_stays ReadOnly v cost t h = settled_stays (Plain v) cost t h
+  answer_stays Private v cost t h = settled_stays (Plain v) cost t h
+  answer_stays Public (ResponseV true v) cost t h = settled_stays (Good v) cost t h
   answer_stays Public (ResponseV false v) cost t h = stays_itself _ _ _
   answer_stays Public v cost t h = λ s e. absurd cc
 
-  ended_stays : (access : Access) (l : Limited Tree) → LeavesUnder node.state l → Stays (call_ended access node l)
+  ended_stays : (access : Access) (l : Limited Tree) → LeavesUnder node.state l → Stays (call_ended common access node l)
   ended_stays access (Gave v t purse) h = answer_stays access v purse.spent t h
   ended_stays access (Threw v t purse) h = λ s e. absurd cc
   ended_stays access (AbortedBy why purse) h = stays_itself _ _ _
@@ -84,7 +93,7 @@ module _ (costs : Costs) (node : NodeSeen) (N : IsSoundNode costs node) (common 
 
   run_stays : (c : Contract) (f : Function) → contract_at p node.contracts ≡ Some c → function_in function c.forms ≡ Some f → Stays (run_call costs node common p f args)
   unfolding run_call
-  run_stays c f at is = ended_stays f.access _ (leaves_under costs no_limit node.state _ (call_untouched costs node.contracts p function d c at f is (frame_of node common.sender p) refl args node.state))
+  run_stays c f at is = ended_stays f.access _ (leaves_under costs (purse_of common) node.state _ (call_untouched costs node.contracts p function d c at f is (frame_of node common.sender p) refl args node.state))
 
   fitting_stays : (c : Contract) (f : Function) → contract_at p node.contracts ≡ Some c → function_in function c.forms ≡ Some f → (o : Option ℕ) → Stays (if_fitting costs node common p f args o)
   fitting_stays c f at is None = run_stays c f at is

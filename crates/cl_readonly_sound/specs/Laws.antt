@@ -13,8 +13,8 @@ use Rattle.cl_meaning.specs.Top.{call_from}
 use Rattle.cl_rules.specs.Context.{CostTable, Known}
 use Rattle.cl_rules.specs.Acceptance.{calls_public}
 use Rattle.cl_contract_sound.specs.Nodes.{IsOfText, AreOfTexts, AreContracts}
-use Rattle.cl_tx.specs.declared.entry.Common.{Common}
-use Rattle.cl_tx.specs.declared.entry.Entry.TheVariants.{Call}
+use Rattle.cl_file.specs.declared.entry.Common.{Common}
+use Rattle.cl_file.specs.declared.entry.Entry.TheVariants.{Call}
 use Rattle.cl_tx.specs.Nodes.{NodeSeen, Stepped}
 use Rattle.cl_tx.specs.Step.{Steps}
 use Rattle.cl_node_sound.specs.Sound.{IsSoundNode, HasParts}

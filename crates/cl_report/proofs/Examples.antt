@@ -18,11 +18,14 @@ use Rattle.cl_values.specs.Tree.{BoolV, UintV, AsciiV, ResponseV}
 use Rattle.cl_events.specs.declared.event.Event.{Event}
 use Rattle.cl_events.specs.declared.event.EventKind.TheVariants.{Print, FtMint, FtTransfer, FtBurn, NftMint, NftTransfer, NftBurn, StxTransfer, StxBurn}
 use Rattle.cl_tx.specs.Seen.{SourceBreak}
-use Rattle.cl_tx.specs.declared.entry.Entry.{Entry}
-use Rattle.cl_tx.specs.declared.entry.Entry.TheVariants.{Deploy, Call}
+use Rattle.cl_post.specs.declared.condition.Mode.TheVariants.{Allow}
+use Rattle.cl_file.specs.declared.entry.Common.{Common}
+use Rattle.cl_file.specs.declared.entry.Entry.{Entry}
+use Rattle.cl_file.specs.declared.entry.Entry.TheVariants.{Deploy, Call, Block}
+use Rattle.cl_file.specs.Entries.{no_limit}
 use Rattle.cl_tx.specs.declared.outcome.Outcome.{Outcome}
-use Rattle.cl_tx.specs.declared.outcome.Outcome.TheVariants.{Done, Good, Bad, Plain, Aborted, Refused}
-use Rattle.cl_tx.specs.declared.outcome.Stop.TheVariants.{Overflow, Underflow, DivideByZero, NegativeArgument, Panic, SupplyOverflow, EarlyTop, CostLimit}
+use Rattle.cl_tx.specs.declared.outcome.Outcome.TheVariants.{Moved, Done, Good, Bad, Plain, Aborted, Refused}
+use Rattle.cl_tx.specs.declared.outcome.Stop.TheVariants.{Overflow, Underflow, DivideByZero, NegativeArgument, Panic, SupplyOverflow, EarlyTop, CostLimit, PostCondition}
 use Rattle.cl_tx.specs.declared.outcome.EntryRefusal.TheVariants.{NoContract, NoFunction, NotPublic, ArgumentCount, Argument, NameTaken, ContractRefused}
 use Rattle.cl_tx.specs.declared.outcome.TxResult.{TxResult}
 use Rattle.cl_report.specs.Costs.{cost_text, bound_line}
@@ -33,11 +36,11 @@ use Rattle.cl_report.specs.Lines.{outcome_text, entry_text, entry_line, lines_of
 outcomes : map outcome_text (
     Done ∷ Good (BoolV true) ∷ Bad (UintV 1) ∷ Plain (ResponseV true (UintV 0))
     ∷ Aborted Overflow ∷ Aborted Underflow ∷ Aborted DivideByZero ∷ Aborted NegativeArgument ∷ Aborted Panic ∷ Aborted SupplyOverflow ∷ Aborted EarlyTop
-    ∷ Aborted (CostLimit (record { dimension = WriteLength; attempted = cost5 6 0 1 2 17; limit = 16 }))
+    ∷ Aborted (CostLimit (record { dimension = WriteLength; attempted = cost5 6 0 1 2 17; limit = 16 })) ∷ Aborted (PostCondition 2)
     ∷ []) ≡
     codes "done" ∷ codes "ok true" ∷ codes "err u1" ∷ codes "value (ok u0)"
     ∷ codes "aborted A1 Overflow" ∷ codes "aborted A2 Underflow" ∷ codes "aborted A3 DivideByZero" ∷ codes "aborted A4 NegativeArgument"
-    ∷ codes "aborted A5 Panic" ∷ codes "aborted A6 SupplyOverflow" ∷ codes "aborted A7 EarlyTop" ∷ codes "aborted A8 CostLimit write_length 17 16" ∷ []
+    ∷ codes "aborted A5 Panic" ∷ codes "aborted A6 SupplyOverflow" ∷ codes "aborted A7 EarlyTop" ∷ codes "aborted A8 CostLimit write_length 17 16" ∷ codes "aborted A9 PostCondition 2" ∷ []
 unfolding digits outcome_text stop_text
 outcomes = refl
 
@@ -94,9 +97,12 @@ each_event : map event_line events ≡ lines_of_events
 unfolding digits event_line word_of details amount_text address_text alphabet checksum_of regrouped_digits digits_in digits_within sha256 first_words schedule rounds compress hash_after digest_bytes
 each_event = refl
 
+abbrev common : Common
+common = record { sender = address; limit = no_limit; mode = Allow; conditions = [] }
+
 -- a call of a function of the contract
 abbrev call : List ℕ → Entry
-call function = Call (record { sender = address }) home function []
+call function = Call common home function []
 
 abbrev result : Outcome → List Event → TxResult
 result outcome events = record { outcome = outcome; cost = Some (cost5 1 0 1 2 2); bounds = None; types = []; events = events }
@@ -112,7 +118,7 @@ unfolding digits lines_of entry_line entry_text outcome_text cost_text address_t
 undone = refl
 
 abbrev deployment : Entry
-deployment = Deploy (record { sender = address }) (codes "c") []
+deployment = Deploy common (codes "c") []
 
 with_its_bounds : lines_of 0 deployment (record {
   outcome = Done;
@@ -127,3 +133,8 @@ with_its_bounds = refl
 refused : lines_of 7 deployment (record { outcome = Refused NameTaken; cost = None; bounds = None; types = []; events = [] }) ≡ codes "7 deploy 'SP000000000000000000002Q6VF78.c refused E6 NameTaken\n"
 unfolding digits lines_of entry_line entry_text outcome_text entry_refusal_text address_text alphabet checksum_of regrouped_digits digits_in digits_within sha256 first_words schedule rounds compress hash_after digest_bytes
 refused = refl
+
+-- a block has one line
+moved : lines_of 3 (Block 18446744073709551615) (record { outcome = Moved; cost = None; bounds = None; types = []; events = [] }) ≡ codes "3 block 18446744073709551615\n"
+unfolding digits lines_of entry_line entry_text outcome_text
+moved = refl

@@ -3,10 +3,10 @@ use Rattle.std.specs.Prelude.{ℕ, ◌+◌, List, [], ◌∷◌, ◌++◌, codes
 use Rattle.std.specs.List.{flat_map}
 use Rattle.cl_text.specs.Printed.{principal_text, printed}
 use Rattle.cl_events.specs.declared.event.Event.{Event}
-use Rattle.cl_tx.specs.declared.entry.Entry.{Entry}
-use Rattle.cl_tx.specs.declared.entry.Entry.TheVariants.{Deploy, Call}
+use Rattle.cl_file.specs.declared.entry.Entry.{Entry}
+use Rattle.cl_file.specs.declared.entry.Entry.TheVariants.{Deploy, Call, Block}
 use Rattle.cl_tx.specs.declared.outcome.Outcome.{Outcome}
-use Rattle.cl_tx.specs.declared.outcome.Outcome.TheVariants.{Done, Good, Bad, Plain, Aborted, Refused}
+use Rattle.cl_tx.specs.declared.outcome.Outcome.TheVariants.{Moved, Done, Good, Bad, Plain, Aborted, Refused}
 use Rattle.cl_tx.specs.declared.outcome.TxResult.{TxResult}
 use Rattle.cl_tx.specs.Nodes.{contract_of}
 use Rattle.cl_tx.specs.Step.{if_committed}
@@ -14,8 +14,9 @@ use Rattle.cl_report.specs.Costs.{cost_line, bounds_lines}
 use Rattle.cl_report.specs.Refusals.{stop_text, entry_refusal_text}
 use Rattle.cl_report.specs.Events.{event_line}
 
--- what became of an entry
+-- what became of an entry; of a block there is nothing to say
 unfoldable pub outcome_text : Outcome → List ℕ
+outcome_text Moved = []
 outcome_text Done = codes "done"
 outcome_text (Good v) = codes "ok " ++ printed v
 outcome_text (Bad v) = codes "err " ++ printed v
@@ -23,10 +24,11 @@ outcome_text (Plain v) = codes "value " ++ printed v
 outcome_text (Aborted why) = codes "aborted " ++ stop_text why
 outcome_text (Refused why) = codes "refused " ++ entry_refusal_text why
 
--- what an entry was to do: the contract, and for a call the name of the function as it was given
+-- what an entry was to do: the contract, and for a call the name of the function as it was given; of a block the height
 unfoldable pub entry_text : Entry → List ℕ
 entry_text (Deploy common name source) = codes " deploy " ++ (principal_text (contract_of common.sender name) ++ codes " ")
 entry_text (Call common contract function args) = codes " call " ++ (principal_text contract ++ (codes " " ++ (function ++ codes " ")))
+entry_text (Block height) = codes " block " ++ decimal height
 
 -- the first line of an entry
 unfoldable pub entry_line : ℕ → Entry → Outcome → List ℕ

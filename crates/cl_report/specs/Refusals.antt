@@ -7,7 +7,7 @@ use Rattle.cl_sexpr.specs.declared.rule.Rule.{Rule}
 use Rattle.cl_sexpr.specs.declared.rule.Rule.TheVariants.{BoundTooLarge}
 use Rattle.cl_tx.specs.Seen.{SourceBreak}
 use Rattle.cl_tx.specs.declared.outcome.Stop.{Stop}
-use Rattle.cl_tx.specs.declared.outcome.Stop.TheVariants.{Overflow, Underflow, DivideByZero, NegativeArgument, Panic, SupplyOverflow, EarlyTop, CostLimit}
+use Rattle.cl_tx.specs.declared.outcome.Stop.TheVariants.{Overflow, Underflow, DivideByZero, NegativeArgument, Panic, SupplyOverflow, EarlyTop, CostLimit, PostCondition}
 use Rattle.cl_tx.specs.declared.outcome.EntryRefusal.{EntryRefusal}
 use Rattle.cl_tx.specs.declared.outcome.EntryRefusal.TheVariants.{NoContract, NoFunction, NotPublic, ArgumentCount, Argument, NameTaken, ContractRefused}
 
@@ -40,6 +40,7 @@ stop_text SupplyOverflow = codes "A6 SupplyOverflow"
 stop_text EarlyTop = codes "A7 EarlyTop"
 stop_text (CostLimit over) =
     codes "A8 CostLimit " ++ (dimension_name over.dimension ++ (codes " " ++ (decimal (part over.dimension over.attempted) ++ (codes " " ++ decimal over.limit))))
+stop_text (PostCondition index) = codes "A9 PostCondition " ++ decimal index
 
 -- why an entry isn't run
 unfoldable pub entry_refusal_text : EntryRefusal → List ℕ

@@ -1,5 +1,5 @@
 //! The lines of an entry.
-ghost use Rattle.std.specs.Prelude.{◌≡◌, ◌++◌, IfOk, string_bytes, decimal};
+ghost use Rattle.std.specs.Prelude.{◌≡◌, ◌++◌, IfOk, codes, string_bytes, decimal};
 ghost use Rattle.std.specs.List.{flat_map};
 ghost use Rattle.cl_text.specs.Printed.{printed};
 ghost use Rattle.cl_report.specs.Events.{event_line};
@@ -31,6 +31,7 @@ fn write_outcome(out: &mut Vec<u8>, alloc: Global, outcome: &Outcome) -> Result<
     ensures { IfOk result (λ _. out.new.items ≡ out.old.items ++ outcome_text outcome.now) }
 {
     match outcome {
+        Outcome::Moved => {}
         Outcome::Done => out.extend_from_slice(b"done")?,
         Outcome::Good(value) => write_value(out, alloc, "ok ", value)?,
         Outcome::Bad(value) => write_value(out, alloc, "err ", value)?,
@@ -45,6 +46,14 @@ fn write_outcome(out: &mut Vec<u8>, alloc: Global, outcome: &Outcome) -> Result<
             write_entry_refusal(out, alloc, refusal)?;
         }
     }
+    Ok(())
+}
+
+fn write_height(out: &mut Vec<u8>, alloc: Global, height: u64) -> Result<(), NoMemory>
+    ensures { IfOk result (λ _. out.new.items ≡ out.old.items ++ (codes " block " ++ decimal height)) }
+{
+    let text = format!(in alloc; " block {height}")?;
+    out.extend_from_slice(text.as_bytes())?;
     Ok(())
 }
 
@@ -75,6 +84,7 @@ fn write_entry(out: &mut Vec<u8>, alloc: Global, entry: &Entry) -> Result<(), No
             out.extend_from_slice(function.as_slice())?;
             out.extend_from_slice(b" ")?;
         }
+        Entry::Block { height } => write_height(out, alloc, *height)?,
     }
     Ok(())
 }
@@ -117,12 +127,12 @@ fn write_events(
 {
     match outcome {
         Outcome::Done | Outcome::Good(_) | Outcome::Plain(_) => write_each(out, alloc, events),
-        Outcome::Bad(_) | Outcome::Aborted(_) | Outcome::Refused(_) => Ok(()),
+        Outcome::Moved | Outcome::Bad(_) | Outcome::Aborted(_) | Outcome::Refused(_) => Ok(()),
     }
 }
 
 /// The lines of an entry with its number, counted from 0, and its result: what became of it, what it cost, the bounds of a
-/// contract that was accepted, and the events of what was committed. Each line ends with LF.
+/// contract that was accepted, and the events of what was committed; of a block the height alone. Each line ends with LF.
 #[tactic(auto, unfolding(crate::specs::Lines::lines_of))]
 pub fn lines(
     alloc: Global,

@@ -85,6 +85,7 @@ pub(crate) fn stop_text(alloc: Global, stop: Stop) -> Result<String, AllocError>
         Stop::SupplyOverflow => String::from_str(alloc, "A6 SupplyOverflow"),
         Stop::EarlyTop => String::from_str(alloc, "A7 EarlyTop"),
         Stop::CostLimit(over) => limit_text(alloc, over),
+        Stop::PostCondition { index } => format!(in alloc; "A9 PostCondition {index}"),
     }
 }
 

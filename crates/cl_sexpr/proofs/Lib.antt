@@ -10,3 +10,6 @@ pub mod Laws
 pub mod Sizes
 pub mod Places
 pub mod LiteralsFit
+pub mod Lexing
+pub mod Standing
+pub mod TextsRead

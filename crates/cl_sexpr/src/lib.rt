@@ -14,7 +14,7 @@ mod run;
 mod sexpr;
 
 pub use order::{items_stand_in_order, literals_are_within_limits};
-pub use reader::{MOST_BYTES, one_reading, read};
+pub use reader::{MOST_BYTES, each_text_has_an_answer, one_reading, read};
 pub use rule::{Break, Refusal, Rule};
 pub use run::{are_digits, value_of};
 pub use sexpr::{Node, Sexpr, Span};

@@ -4,7 +4,7 @@ ghost use Rattle.cl_types.specs.Fault.{IfRefused};
 ghost use Rattle.cl_sexpr.specs.declared.rule.Break.{Break as Broken};
 ghost use Rattle.cl_sexpr.specs.Tree.{Forest, forest, forest_size};
 ghost use Rattle.cl_sexpr.specs.Token.{Opens, OpensTuple, Faulty, leaf_in, in_place, wants_key};
-ghost use Rattle.cl_sexpr.specs.Text.{closes_none, opens_none, misplaced, break_at, Reads, Breaks};
+ghost use Rattle.cl_sexpr.specs.Text.{closes_none, opens_none, misplaced, break_at, Reads, Breaks, ReadsOrBreaks};
 ghost use Rattle.cl_sexpr.specs.Lexed.{leaf, token};
 ghost use Rattle.cl_sexpr.specs.Progress.{opens, Takes};
 ghost use Rattle.cl_sexpr.specs.Advances.{Advances};
@@ -217,4 +217,10 @@ pub fn one_reading()
     ensures either { (bytes : List ℕ) (a : Forest) (r : Broken) → Reads bytes a → Breaks bytes r → ⊥ }
     ensures first { (bytes : List ℕ) (r s : Broken) → Breaks bytes r → Breaks bytes s → r ≡ s }
     ensures few { (bytes : List ℕ) (a : Forest) → Reads bytes a → forest_size a ≤ 2 * length bytes }
+{}
+
+/// The law that reading has an answer: each text has items or a first break. With [`one_reading`] it has one of the two, and
+/// one alone.
+pub fn each_text_has_an_answer()
+    ensures { (bytes : List ℕ) → ReadsOrBreaks bytes }
 {}

@@ -11,3 +11,4 @@ pub mod Leaves
 pub mod Strings
 pub mod Rising
 pub mod Back
+pub mod EachParses

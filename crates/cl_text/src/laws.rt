@@ -19,6 +19,11 @@ pub fn one_outcome()
     one_reading();
 }
 
+/// The law that each text has an outcome. With [`one_outcome`] it has one alone.
+pub fn each_text_has_an_outcome()
+    ensures { (text : List ℕ) → (outcome : Outcome) × Parses text outcome }
+{}
+
 /// What [`crate::print_value`] prints [`crate::parse`] reads as the value again, where it is no longer than a source and
 /// no tuple in the value has a key that is `u` followed by digits alone.
 pub fn printed_is_read()

@@ -10,7 +10,7 @@ mod refusal;
 mod type_printer;
 mod word;
 
-pub use laws::{one_outcome, printed_is_read};
+pub use laws::{each_text_has_an_outcome, one_outcome, printed_is_read};
 pub use parser::parse;
 pub use printer::{print_principal, print_value};
 pub use refusal::TextRefusal;

@@ -1,8 +1,4 @@
-mod Each
-mod ReadAs
-mod Sole
-mod OneReading
 mod Principals
 mod StepCases
-mod OneStep
 mod StepLaws
+mod OneStep

@@ -4,12 +4,12 @@ use Rattle.cl_c32.specs.declared.principal.Principal.{Principal}
 use Rattle.cl_events.specs.declared.event.Event.{Event}
 use Rattle.cl_meaning.specs.Limits.{Costs}
 use Rattle.cl_rules.specs.Laws.{AcceptedIsClean, OneDefined, OneOrder, OneFirstOf}
-use Rattle.cl_tx.specs.declared.entry.Common.{Common}
-use Rattle.cl_tx.specs.declared.entry.Entry.{Entry}
-use Rattle.cl_tx.specs.declared.entry.Entry.TheVariants.{Deploy, Call}
+use Rattle.cl_file.specs.declared.entry.Common.{Common}
+use Rattle.cl_file.specs.declared.entry.Entry.{Entry}
+use Rattle.cl_file.specs.declared.entry.Entry.TheVariants.{Deploy, Call, Block}
 use Rattle.cl_tx.specs.declared.outcome.EntryRefusal.TheVariants.{ContractRefused}
 use Rattle.cl_tx.specs.declared.outcome.TxResult.{TxResult}
-use Rattle.cl_tx.specs.Seen.{TxFileSeen}
+use Rattle.cl_file.specs.Files.{FileSeen}
 use Rattle.cl_tx.specs.Nodes.{NodeSeen, Stepped, contract_of, refused}
 use Rattle.cl_tx.specs.Step.{run_deployment, DeploySteps, name_taken, source_refused, evaluated, Steps, AllStep, Runs, Commits, committed, first_node}
 use Rattle.cl_tx.proofs.StepCases.{some_same, none_some}
@@ -34,6 +34,7 @@ module _ (clean : AcceptedIsClean) (one : OneDefined) (order : OneOrder) (first 
   pub step_one : (costs : Costs) (node : NodeSeen) (entry : Entry) (s t : Stepped) → Steps costs node entry s → Steps costs node entry t → s ≡ t
   step_one costs node (Deploy common name source) s t x y = deploy_one costs node common (contract_of common.sender name) source s t x y
   step_one costs node (Call common contract function args) s t x y = some_same s t (sym x ∙ y)
+  step_one costs node (Block height) s t x y = x ∙ sym y
 
   all_one : (costs : Costs) (es : List Entry) (node : NodeSeen) (r q : List TxResult) (m n : NodeSeen) → AllStep costs node es r m → AllStep costs node es q n → (r ≡ q) × (m ≡ n)
   all_one costs [] node r q m n x y = (x.0 ∙ sym y.0, x.1 ∙ sym y.1)
@@ -42,8 +43,8 @@ module _ (clean : AcceptedIsClean) (one : OneDefined) (order : OneOrder) (first 
       let rest = all_one costs es y.0.node x.1 y.1 m n (subst (λ z. AllStep costs z.node es x.1 m) same x.3) y.3 in
       (x.4 ∙ (λ i. (same i).result ∷ rest.0 i) ∙ sym y.4, rest.1)
 
-  pub run_one : (costs : Costs) (file : TxFileSeen) (r q : List TxResult) (m n : NodeSeen) → Runs costs file r m → Runs costs file q n → (r ≡ q) × (m ≡ n)
-  run_one costs file r q m n x y = all_one costs file.entries first_node r q m n x.steps y.steps
+  pub run_one : (costs : Costs) (file : FileSeen) (r q : List TxResult) (m n : NodeSeen) → Runs costs file r m → Runs costs file q n → (r ≡ q) × (m ≡ n)
+  run_one costs file r q m n x y = all_one costs file.entries (first_node file.genesis) r q m n x.steps y.steps
 
-  pub commit_one : (costs : Costs) (file : TxFileSeen) (a b : List Event) → Commits costs file a → Commits costs file b → a ≡ b
+  pub commit_one : (costs : Costs) (file : FileSeen) (a b : List Event) → Commits costs file a → Commits costs file b → a ≡ b
   commit_one costs file a b x y = x.events_are ∙ ap committed (run_one costs file x.results y.results x.after y.after x.runs y.runs).0 ∙ sym y.events_are

@@ -11,12 +11,13 @@ use Rattle.cl_meaning.specs.Deployed.{Contract, Function, contract_at, function_
 use Rattle.cl_meaning.specs.Limits.{Costs, Limited, Gave, Threw, AbortedBy, Passed, Lost}
 use Rattle.cl_rules.specs.Context.{Known, known_at}
 use Rattle.cl_rules.specs.Acceptance.{Accepted, known_of}
-use Rattle.cl_tx.specs.declared.entry.Common.{Common}
-use Rattle.cl_tx.specs.declared.entry.Entry.{Entry}
-use Rattle.cl_tx.specs.declared.entry.Entry.TheVariants.{Deploy, Call}
+use Rattle.cl_file.specs.declared.entry.Common.{Common}
+use Rattle.cl_file.specs.declared.entry.Entry.{Entry}
+use Rattle.cl_file.specs.declared.entry.Entry.TheVariants.{Deploy, Call, Block}
 use Rattle.cl_tx.specs.declared.outcome.Outcome.{Outcome}
-use Rattle.cl_tx.specs.declared.outcome.Outcome.TheVariants.{Done}
-use Rattle.cl_tx.specs.Nodes.{NodeSeen, Stepped, Told, nothing_told, contract_of, stays, moves_on, with_contract, answered, call_ended, deployment_ended}
+use Rattle.cl_tx.specs.declared.outcome.Outcome.TheVariants.{Done, Good, Plain}
+use Rattle.cl_post.specs.Post.{holds as first_failed}
+use Rattle.cl_tx.specs.Nodes.{NodeSeen, Stepped, Told, nothing_told, contract_of, stays, moves_on, with_contract, moved, settled_by, settled, answered, call_ended, deployment_ended}
 use Rattle.cl_tx.specs.Step.{first_misfit, run_call, if_fitting, if_as_many, if_open, if_function, if_deployed, call_step, run_deployment, DeploySteps, name_taken, source_refused, evaluated, Steps}
 use Rattle.cl_tx.specs.Laws.{IsKept}
 use Rattle.cl_tx.proofs.Principals.{principal_kept}
@@ -38,26 +39,36 @@ module _ (P : Stepped → Type 0) where
   nothing : HoldsIf None
   nothing t e = absurd (none_some t None refl e)
 
+  -- what a run without an err and an abort is settled to
+  settled_holds : (failing : Option ℕ) (before after : NodeSeen) (told : Told) (outcome : Outcome) (cost : Cost5) (s : State)
+      → ((stopped : Outcome) → P (stays before told stopped (Some cost))) → P (moves_on after told outcome cost s)
+      → P (settled_by failing before after told outcome cost s)
+  settled_holds None before after told outcome cost s stay go = go
+  settled_holds (Some index) before after told outcome cost s stay go = stay _
+
   module _ (node : NodeSeen) (stay : (outcome : Outcome) (cost : Option Cost5) → P (stays node nothing_told outcome cost))
       (go : (outcome : Outcome) → IsKept outcome → (cost : Cost5) (s : State) → P (moves_on node nothing_told outcome cost s)) where
-    answer_holds : (access : Access) (v : Tree) (cost : Cost5) (s : State) → HoldsIf (answered access v node cost s)
-    answer_holds Public (ResponseV true v) cost s = holds _ (go _ tt cost s)
-    answer_holds Public (ResponseV false v) cost s = holds _ (stay _ _)
-    answer_holds Public v cost s = nothing
-    answer_holds ReadOnly v cost s = holds _ (go _ tt cost s)
-    answer_holds Private v cost s = holds _ (go _ tt cost s)
+    done_holds : (common : Common) (outcome : Outcome) → IsKept outcome → (cost : Cost5) (s : State) → HoldsIf (Some (settled common node node nothing_told outcome cost s))
+    done_holds common outcome kept cost s = holds _ (settled_holds (first_failed s.moves common.mode common.conditions) node node nothing_told outcome cost s (λ stopped. stay _ _) (go outcome kept cost s))
 
-    ended_holds : (access : Access) (l : Limited Tree) → HoldsIf (call_ended access node l)
-    ended_holds access (Gave v s purse) = answer_holds access v purse.spent s
-    ended_holds access (Threw v s purse) = nothing
-    ended_holds access (AbortedBy why purse) = holds _ (stay _ _)
-    ended_holds access (Passed over purse) = holds _ (stay _ _)
-    ended_holds access (Lost purse) = nothing
+    answer_holds : (common : Common) (access : Access) (v : Tree) (cost : Cost5) (s : State) → HoldsIf (answered common access v node cost s)
+    answer_holds common Public (ResponseV true v) cost s = done_holds common (Good v) tt cost s
+    answer_holds common Public (ResponseV false v) cost s = holds _ (stay _ _)
+    answer_holds common Public v cost s = nothing
+    answer_holds common ReadOnly v cost s = done_holds common (Plain v) tt cost s
+    answer_holds common Private v cost s = done_holds common (Plain v) tt cost s
+
+    ended_holds : (common : Common) (access : Access) (l : Limited Tree) → HoldsIf (call_ended common access node l)
+    ended_holds common access (Gave v s purse) = answer_holds common access v purse.spent s
+    ended_holds common access (Threw v s purse) = nothing
+    ended_holds common access (AbortedBy why purse) = holds _ (stay _ _)
+    ended_holds common access (Passed over purse) = holds _ (stay _ _)
+    ended_holds common access (Lost purse) = nothing
 
     module _ (costs : Costs) (common : Common) (contract : Principal) (args : List Tree) where
       run_holds : (f : Function) → HoldsIf (run_call costs node common contract f args)
       unfolding run_call
-      run_holds f = ended_holds f.access _
+      run_holds f = ended_holds common f.access _
 
       fitting_holds : (f : Function) (misfit : Option ℕ) → HoldsIf (if_fitting costs node common contract f args misfit)
       fitting_holds f (Some index) = holds _ (stay _ _)
@@ -85,21 +96,22 @@ module _ (P : Stepped → Type 0) where
       call_holds function = deployed_holds function (contract_at contract node.contracts)
 
   module _ (node : NodeSeen) (stay : (told : Told) (outcome : Outcome) (cost : Option Cost5) → P (stays node told outcome cost)) where
-    deployment_holds : (told : Told) (known : Known) (l : Limited Contract) → ((c : Contract) (s : State) (purse : Purse) → l ≡ Gave c s purse → P (moves_on (with_contract node c known) told Done purse.spent s)) → HoldsIf (deployment_ended node told known l)
-    deployment_holds told known (Gave c s purse) done = holds _ (done c s purse refl)
-    deployment_holds told known (Threw v s purse) done = holds _ (stay _ _ _)
-    deployment_holds told known (AbortedBy why purse) done = holds _ (stay _ _ _)
-    deployment_holds told known (Passed over purse) done = holds _ (stay _ _ _)
-    deployment_holds told known (Lost purse) done = nothing
+    deployment_holds : (common : Common) (told : Told) (known : Known) (l : Limited Contract) → ((c : Contract) (s : State) (purse : Purse) → l ≡ Gave c s purse → P (moves_on (with_contract node c known) told Done purse.spent s)) → HoldsIf (deployment_ended common node told known l)
+    deployment_holds common told known (Gave c s purse) done = holds _ (settled_holds (first_failed s.moves common.mode common.conditions) node (with_contract node c known) told Done purse.spent s (λ stopped. stay _ _ _) (done c s purse refl))
+    deployment_holds common told known (Threw v s purse) done = holds _ (stay _ _ _)
+    deployment_holds common told known (AbortedBy why purse) done = holds _ (stay _ _ _)
+    deployment_holds common told known (Passed over purse) done = holds _ (stay _ _ _)
+    deployment_holds common told known (Lost purse) done = nothing
 
     module _ (costs : Costs) (done : (principal : Principal) (source : List ℕ) (accepted : Accepted node.known principal costs source) → known_at principal node.known ≡ None → (told : Told) (c : Contract) → c.principal ≡ principal → (cost : Cost5) (s : State) → P (moves_on (with_contract node c (known_of principal (length source) accepted.defined)) told Done cost s)) where
-      deploy_holds : (common : Common) (principal : Principal) (source : List ℕ) (s : Stepped) → DeploySteps costs node common principal source s → P s
+      pub deploy_holds : (common : Common) (principal : Principal) (source : List ℕ) (s : Stepped) → DeploySteps costs node common principal source s → P s
       unfolding run_deployment
       deploy_holds common principal source s (name_taken known e p) = subst P (sym p) (stay _ _ _)
       deploy_holds common principal source s (source_refused rule span names e b p) = subst P (sym p) (stay _ _ _)
       deploy_holds common principal source s (evaluated e a p) =
-          deployment_holds _ _ _ (λ c t purse is. done principal source a e _ c (principal_kept _ _ _ _ _ _ c t purse is) purse.spent t) s p
+          deployment_holds common _ _ _ (λ c t purse is. done principal source a e _ c (principal_kept _ _ _ _ _ _ c t purse is) purse.spent t) s p
 
-      pub step_holds : ((outcome : Outcome) → IsKept outcome → (cost : Cost5) (s : State) → P (moves_on node nothing_told outcome cost s)) → (entry : Entry) (s : Stepped) → Steps costs node entry s → P s
-      step_holds go (Deploy common name source) s x = deploy_holds common (contract_of common.sender name) source s x
-      step_holds go (Call common contract function args) s x = call_holds node (λ outcome cost. stay nothing_told outcome cost) go costs common contract args function s x
+      pub step_holds : ((outcome : Outcome) → IsKept outcome → (cost : Cost5) (s : State) → P (moves_on node nothing_told outcome cost s)) → ((height : ℕ) → P (moved node height)) → (entry : Entry) (s : Stepped) → Steps costs node entry s → P s
+      step_holds go block (Deploy common name source) s x = deploy_holds common (contract_of common.sender name) source s x
+      step_holds go block (Call common contract function args) s x = call_holds node (λ outcome cost. stay nothing_told outcome cost) go costs common contract args function s x
+      step_holds go block (Block height) s x = subst P (sym x) (block height)

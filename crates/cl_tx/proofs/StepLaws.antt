@@ -1,5 +1,5 @@
 -- What fails changes nothing, a node stays one, and where bounds are told.
-use Rattle.std.proofs.Common.{◌≡◌, ℕ, List, [], ◌∷◌, ◌++◌, length, map, Some, None, IsSome, true≢false, refl, sym, ap, ◌∙◌, subst}
+use Rattle.std.proofs.Common.{◌≡◌, ℕ, List, [], ◌∷◌, ◌++◌, length, map, Option, Some, None, IsSome, true≢false, refl, sym, ap, ◌∙◌, subst}
 use Rattle.std.proofs.lemmas.List.{map-append}
 use Rattle.cl_c32.specs.declared.principal.Principal.{Principal}
 use Rattle.cl_values.specs.Tree.{Tree}
@@ -8,14 +8,21 @@ use Rattle.cl_meaning.specs.Limits.{Costs, Limited, Gave, Threw, AbortedBy, Pass
 use Rattle.cl_rules.specs.Context.{Known, known_at}
 use Rattle.cl_rules.specs.Acceptance.{Accepted, none_yet, and_one, known_of}
 use Rattle.cl_rules.specs.Laws.{AcceptedIsClean}
-use Rattle.cl_tx.specs.declared.entry.Common.{Common}
-use Rattle.cl_tx.specs.declared.entry.Entry.{Entry}
+use Rattle.cl_file.specs.declared.entry.Common.{Common}
+use Rattle.cl_file.specs.declared.entry.Entry.{Entry}
+use Rattle.cl_file.specs.declared.entry.Entry.TheVariants.{Deploy, Call, Block}
+use Rattle.cl_shapes.specs.declared.cost.Cost5.{Cost5}
+use Rattle.cl_events.specs.State.{State}
+use Rattle.cl_tx.specs.declared.outcome.Outcome.{Outcome}
+use Rattle.cl_tx.specs.declared.outcome.Outcome.TheVariants.{Done}
 use Rattle.cl_tx.specs.declared.outcome.TxResult.{TxResult}
-use Rattle.cl_tx.specs.Seen.{TxFileSeen}
-use Rattle.cl_tx.specs.Nodes.{NodeSeen, Stepped, Told, deployment_ended}
+use Rattle.cl_file.specs.Files.{FileSeen}
+use Rattle.cl_file.specs.Entries.{height_after, height_of}
+use Rattle.cl_post.specs.Post.{holds as first_failed}
+use Rattle.cl_tx.specs.Nodes.{NodeSeen, Stepped, Told, contract_of, with_contract, settled_by, deployment_ended}
 use Rattle.cl_tx.specs.Step.{call_step, run_deployment, DeploySteps, name_taken, source_refused, evaluated, Steps, AllStep, Runs, first_node}
 use Rattle.cl_tx.specs.Laws.{IsKept, IsNode}
-use Rattle.cl_tx.proofs.StepCases.{some_same, none_some, call_holds, step_holds}
+use Rattle.cl_tx.proofs.StepCases.{some_same, none_some, call_holds, deploy_holds, step_holds}
 
 -- ---- what fails
 
@@ -28,7 +35,7 @@ LeavesIfFails node s = (IsKept s.result.outcome → ⊥) → Leaves node s
 pub failed_leave : (costs : Costs) (node : NodeSeen) (entry : Entry) (s : Stepped) → Steps costs node entry s → LeavesIfFails node s
 failed_leave costs node entry s x =
     step_holds (LeavesIfFails node) node (λ told outcome cost fails. (refl, refl)) costs (λ principal source a e told c is cost t fails. absurd (fails tt))
-    (λ outcome kept cost t fails. absurd (fails kept)) entry s x
+    (λ outcome kept cost t fails. absurd (fails kept)) (λ height fails. absurd (fails tt)) entry s x
 
 -- ---- nodes
 
@@ -54,17 +61,18 @@ module _ (costs : Costs) where
         no_moves = refl;
       })
       (λ outcome kept cost t. record { accepted = is.accepted; same = is.same; no_events = refl; no_moves = refl })
+      (λ height. record { accepted = is.accepted; same = is.same; no_events = is.no_events; no_moves = is.no_moves })
       entry s x
 
-  pub first_is : IsNode costs first_node
-  first_is = record { accepted = none_yet refl; same = refl; no_events = refl; no_moves = refl }
+  pub first_is : (holders : List (Principal × ℕ)) → IsNode costs (first_node holders)
+  first_is holders = record { accepted = none_yet refl; same = refl; no_events = refl; no_moves = refl }
 
   all_end : (es : List Entry) (node : NodeSeen) (results : List TxResult) (after : NodeSeen) → IsNode costs node → AllStep costs node es results after → IsNode costs after
   all_end [] node results after is x = subst (λ n. IsNode costs n) (sym x.1) is
   all_end (e ∷ es) node results after is x = all_end es x.0.node x.1 after (node_stays node e x.0 is x.2) x.3
 
-  pub runs_end : (file : TxFileSeen) (results : List TxResult) (after : NodeSeen) → Runs costs file results after → IsNode costs after
-  runs_end file results after x = all_end file.entries first_node results after first_is x.steps
+  pub runs_end : (file : FileSeen) (results : List TxResult) (after : NodeSeen) → Runs costs file results after → IsNode costs after
+  runs_end file results after x = all_end file.entries (first_node file.genesis) results after (first_is file.genesis) x.steps
 
 -- ---- bounds
 
@@ -73,18 +81,22 @@ told_accepted costs node common principal source s (name_taken known e p) h = ab
 told_accepted costs node common principal source s (source_refused rule span names e b p) h = absurd (true≢false (sym (subst (λ z. IsSome z.result.bounds) p h)))
 told_accepted costs node common principal source s (evaluated e a p) h = a
 
-tells : (node : NodeSeen) (told : Told) (known : Known) (l : Limited Contract) (s : Stepped) → deployment_ended node told known l ≡ Some s → s.result.bounds ≡ told.bounds
-tells node told known (Gave c t purse) s e = ap (λ z. z.result.bounds) (sym (some_same _ s e))
-tells node told known (Threw v t purse) s e = ap (λ z. z.result.bounds) (sym (some_same _ s e))
-tells node told known (AbortedBy why purse) s e = ap (λ z. z.result.bounds) (sym (some_same _ s e))
-tells node told known (Passed over purse) s e = ap (λ z. z.result.bounds) (sym (some_same _ s e))
-tells node told known (Lost purse) s e = absurd (none_some s None refl e)
+settled_tells : (failing : Option ℕ) (before after : NodeSeen) (told : Told) (outcome : Outcome) (cost : Cost5) (s : State) → (settled_by failing before after told outcome cost s).result.bounds ≡ told.bounds
+settled_tells None before after told outcome cost s = refl
+settled_tells (Some index) before after told outcome cost s = refl
+
+tells : (common : Common) (node : NodeSeen) (told : Told) (known : Known) (l : Limited Contract) (s : Stepped) → deployment_ended common node told known l ≡ Some s → s.result.bounds ≡ told.bounds
+tells common node told known (Gave c t purse) s e = ap (λ z. z.result.bounds) (sym (some_same _ s e)) ∙ settled_tells (first_failed t.moves common.mode common.conditions) node (with_contract node c known) told Done purse.spent t
+tells common node told known (Threw v t purse) s e = ap (λ z. z.result.bounds) (sym (some_same _ s e))
+tells common node told known (AbortedBy why purse) s e = ap (λ z. z.result.bounds) (sym (some_same _ s e))
+tells common node told known (Passed over purse) s e = ap (λ z. z.result.bounds) (sym (some_same _ s e))
+tells common node told known (Lost purse) s e = absurd (none_some s None refl e)
 
 pub accepted_told : AcceptedIsClean → (costs : Costs) (node : NodeSeen) (common : Common) (principal : Principal) (source : List ℕ) (s : Stepped) → DeploySteps costs node common principal source s → known_at principal node.known ≡ None → Accepted node.known principal costs source → IsSome s.result.bounds
 unfolding run_deployment
 accepted_told clean costs node common principal source s (name_taken known e p) none a = absurd (none_some known _ none e)
 accepted_told clean costs node common principal source s (source_refused rule span names e b p) none a = absurd (clean node.known principal costs source rule span names a b)
-accepted_told clean costs node common principal source s (evaluated e b p) none a = subst (λ o. IsSome o) (sym (tells node _ _ _ s p)) refl
+accepted_told clean costs node common principal source s (evaluated e b p) none a = subst (λ o. IsSome o) (sym (tells common node _ _ _ s p)) refl
 
 abbrev TellsNone : Stepped → Type 0
 TellsNone s = (s.result.bounds ≡ None) × (s.result.types ≡ [])
@@ -92,3 +104,26 @@ TellsNone s = (s.result.bounds ≡ None) × (s.result.types ≡ [])
 pub call_tells_none : (costs : Costs) (node : NodeSeen) (common : Common) (contract : Principal) (function : List ℕ) (args : List Tree) (s : Stepped) → call_step costs node common contract function args ≡ Some s → TellsNone s
 call_tells_none costs node common contract function args s x =
     call_holds TellsNone node (λ outcome cost. (refl, refl)) (λ outcome kept cost t. (refl, refl)) costs common contract args function s x
+
+-- ---- heights
+
+abbrev HasHeight : ℕ → Stepped → Type 0
+HasHeight height s = s.node.height ≡ height
+
+height_next : (costs : Costs) (node : NodeSeen) (entry : Entry) (s : Stepped) → Steps costs node entry s → s.node.height ≡ height_after node.height entry
+height_next costs node (Deploy common name source) s x =
+    deploy_holds (HasHeight node.height) node (λ told outcome cost. refl) costs (λ principal text a e told c is cost t. refl) common (contract_of common.sender name) source s x
+height_next costs node (Call common contract function args) s x =
+    call_holds (HasHeight node.height) node (λ outcome cost. refl) (λ outcome kept cost t. refl) costs common contract args function s x
+height_next costs node (Block height) s x = ap (λ (z : Stepped). z.node.height) x
+
+heights_end : (costs : Costs) (es : List Entry) (node : NodeSeen) (results : List TxResult) (after : NodeSeen) → AllStep costs node es results after → after.height ≡ height_of node.height es
+heights_end costs [] node results after x = ap (λ (n : NodeSeen). n.height) x.1
+heights_end costs (e ∷ es) node results after x =
+    heights_end costs es x.0.node x.1 after x.3 ∙ ap (λ (h : ℕ). height_of h es) (height_next costs node e x.0 x.2)
+
+pub height_is_last : (costs : Costs) (file : FileSeen) (results : List TxResult) (after : NodeSeen) → Runs costs file results after → after.height ≡ height_of 0 file.entries
+height_is_last costs file results after x = heights_end costs file.entries (first_node file.genesis) results after x.steps
+
+pub block_tells_none : (costs : Costs) (node : NodeSeen) (height : ℕ) (s : Stepped) → Steps costs node (Block height) s → TellsNone s
+block_tells_none costs node height s x = subst TellsNone (sym x) (refl, refl)

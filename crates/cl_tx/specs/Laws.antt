@@ -1,4 +1,4 @@
--- The laws of files and of steps.
+-- The laws of steps.
 use Rattle.std.specs.Prelude.{◌≡◌, ℕ, List, [], map, None, IsSome}
 use Rattle.cl_c32.specs.declared.principal.Principal.{Principal}
 use Rattle.cl_values.specs.Tree.{Tree}
@@ -7,21 +7,16 @@ use Rattle.cl_meaning.specs.Deployed.{Contract}
 use Rattle.cl_meaning.specs.Limits.{Costs}
 use Rattle.cl_rules.specs.Context.{Known, known_at}
 use Rattle.cl_rules.specs.Acceptance.{Accepted, AreDeployed}
-use Rattle.cl_tx.specs.declared.entry.Common.{Common}
-use Rattle.cl_tx.specs.declared.entry.Entry.{Entry}
-use Rattle.cl_tx.specs.declared.entry.Entry.TheVariants.{Deploy, Call}
+use Rattle.cl_file.specs.declared.entry.Common.{Common}
+use Rattle.cl_file.specs.declared.entry.Entry.{Entry}
+use Rattle.cl_file.specs.declared.entry.Entry.TheVariants.{Deploy, Call, Block}
 use Rattle.cl_tx.specs.declared.outcome.Outcome.{Outcome}
-use Rattle.cl_tx.specs.declared.outcome.Outcome.TheVariants.{Done, Good, Bad, Plain, Aborted, Refused}
+use Rattle.cl_tx.specs.declared.outcome.Outcome.TheVariants.{Moved, Done, Good, Bad, Plain, Aborted, Refused}
 use Rattle.cl_tx.specs.declared.outcome.TxResult.{TxResult}
-use Rattle.cl_tx.specs.Seen.{TxFileSeen}
-use Rattle.cl_tx.specs.Readings.{Read}
-use Rattle.cl_tx.specs.Files.{FileReads}
+use Rattle.cl_file.specs.Files.{FileSeen}
+use Rattle.cl_file.specs.Entries.{height_of}
 use Rattle.cl_tx.specs.Nodes.{NodeSeen, Stepped, contract_of}
 use Rattle.cl_tx.specs.Step.{Steps, Runs, Commits, first_node}
-
--- one thing comes of the bytes of a file
-abbrev pub OneFile : Type 0
-OneFile = (bytes : List ℕ) (a b : Read TxFileSeen) → FileReads bytes a → FileReads bytes b → a ≡ b
 
 -- one thing comes of an entry
 abbrev pub OneStep : Type 0
@@ -29,14 +24,15 @@ OneStep = (costs : Costs) (node : NodeSeen) (entry : Entry) (s t : Stepped) → 
 
 -- the results of a file's entries are one, and so is the node after them
 abbrev pub OneRun : Type 0
-OneRun = (costs : Costs) (file : TxFileSeen) (r q : List TxResult) (m n : NodeSeen) → Runs costs file r m → Runs costs file q n → (r ≡ q) × (m ≡ n)
+OneRun = (costs : Costs) (file : FileSeen) (r q : List TxResult) (m n : NodeSeen) → Runs costs file r m → Runs costs file q n → (r ≡ q) × (m ≡ n)
 
 -- the events that a file commits are one list
 abbrev pub OneCommit : Type 0
-OneCommit = (costs : Costs) (file : TxFileSeen) (a b : List Event) → Commits costs file a → Commits costs file b → a ≡ b
+OneCommit = (costs : Costs) (file : FileSeen) (a b : List Event) → Commits costs file a → Commits costs file b → a ≡ b
 
 -- what an entry changed is kept
 abbrev pub IsKept : Outcome → Type 0
+IsKept Moved = Unit {0}
 IsKept Done = Unit {0}
 IsKept (Good v) = Unit {0}
 IsKept (Bad v) = ⊥
@@ -57,7 +53,7 @@ pub record IsNode (costs : Costs) (node : NodeSeen) : Type 0 where
   pub no_moves : node.state.moves ≡ []
 
 abbrev pub FirstIsNode : Type 0
-FirstIsNode = (costs : Costs) → IsNode costs first_node
+FirstIsNode = (costs : Costs) (holders : List (Principal × ℕ)) → IsNode costs (first_node holders)
 
 -- an entry makes a node of a node
 abbrev pub NodesStay : Type 0
@@ -65,7 +61,7 @@ NodesStay = (costs : Costs) (node : NodeSeen) (entry : Entry) (s : Stepped) → 
 
 -- after the entries of a file there is a node
 abbrev pub RunsEndInNodes : Type 0
-RunsEndInNodes = (costs : Costs) (file : TxFileSeen) (results : List TxResult) (after : NodeSeen) → Runs costs file results after → IsNode costs after
+RunsEndInNodes = (costs : Costs) (file : FileSeen) (results : List TxResult) (after : NodeSeen) → Runs costs file results after → IsNode costs after
 
 -- where a result has bounds, a deployment's source was accepted
 abbrev pub ToldIsAccepted : Type 0
@@ -78,3 +74,11 @@ AcceptedIsTold = (costs : Costs) (node : NodeSeen) (common : Common) (name sourc
 -- a call has none
 abbrev pub CallTellsNone : Type 0
 CallTellsNone = (costs : Costs) (node : NodeSeen) (common : Common) (contract : Principal) (function : List ℕ) (args : List Tree) (s : Stepped) → Steps costs node (Call common contract function args) s → (s.result.bounds ≡ None) × (s.result.types ≡ [])
+
+-- a block tells no bounds
+abbrev pub BlockTellsNone : Type 0
+BlockTellsNone = (costs : Costs) (node : NodeSeen) (height : ℕ) (s : Stepped) → Steps costs node (Block height) s → (s.result.bounds ≡ None) × (s.result.types ≡ [])
+
+-- after the entries of a file the height is that of its last block, and 0 where it has none
+abbrev pub HeightIsLast : Type 0
+HeightIsLast = (costs : Costs) (file : FileSeen) (results : List TxResult) (after : NodeSeen) → Runs costs file results after → after.height ≡ height_of 0 file.entries

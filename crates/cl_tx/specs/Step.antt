@@ -20,15 +20,15 @@ use Rattle.cl_meaning.specs.Top.{call_from}
 use Rattle.cl_rules.specs.Context.{Bound, Known, Signature, known_at, signature_in}
 use Rattle.cl_rules.specs.FormRules.{Defined}
 use Rattle.cl_rules.specs.Acceptance.{Accepted, FirstBreakOf, bound_of, known_of}
-use Rattle.cl_tx.specs.declared.entry.Common.{Common}
-use Rattle.cl_tx.specs.declared.entry.Entry.{Entry}
-use Rattle.cl_tx.specs.declared.entry.Entry.TheVariants.{Deploy, Call}
+use Rattle.cl_file.specs.declared.entry.Common.{Common}
+use Rattle.cl_file.specs.declared.entry.Entry.{Entry}
+use Rattle.cl_file.specs.declared.entry.Entry.TheVariants.{Deploy, Call, Block}
 use Rattle.cl_tx.specs.declared.outcome.EntryRefusal.TheVariants.{NoContract, NoFunction, NotPublic, ArgumentCount, Argument, NameTaken, ContractRefused}
 use Rattle.cl_tx.specs.declared.outcome.Outcome.{Outcome}
 use Rattle.cl_tx.specs.declared.outcome.Outcome.TheVariants.{Done, Good, Plain}
 use Rattle.cl_tx.specs.declared.outcome.TxResult.{TxResult}
-use Rattle.cl_tx.specs.Seen.{TxFileSeen}
-use Rattle.cl_tx.specs.Nodes.{NodeSeen, Stepped, Told, frame_of, contract_of, no_limit, refused, call_ended, deployment_ended}
+use Rattle.cl_file.specs.Files.{FileSeen}
+use Rattle.cl_tx.specs.Nodes.{NodeSeen, Stepped, Told, frame_of, contract_of, purse_of, refused, moved, call_ended, deployment_ended}
 
 -- ---- a call
 
@@ -39,7 +39,7 @@ first_misfit n ps vs = None
 
 -- the function is applied to arguments of its parameters' types
 unfoldable pub run_call : Costs → NodeSeen → Common → Principal → Function → List Tree → Option Stepped
-run_call costs node common contract f args = call_ended f.access node (limited costs no_limit (call_from node.contracts (frame_of node common.sender contract) f args node.state))
+run_call costs node common contract f args = call_ended common f.access node (limited costs (purse_of common) (call_from node.contracts (frame_of node common.sender contract) f args node.state))
 
 abbrev pub if_fitting : Costs → NodeSeen → Common → Principal → Function → List Tree → Option ℕ → Option Stepped
 if_fitting costs node common contract f args (Some index) = Some (refused node (Argument index))
@@ -91,7 +91,7 @@ contract_with principal source forms = record { principal = principal; forms = f
 
 -- the deployment of an accepted source of these forms, which define this
 unfoldable pub run_deployment : Costs → NodeSeen → Common → Principal → List ℕ → List Form → Defined → Option Stepped
-run_deployment costs node common principal source forms defined = deployment_ended node (told_of costs defined forms) (known_of principal (length source) defined) (limited costs no_limit (deployment node.contracts (frame_of node common.sender principal) (contract_with principal source forms) node.state))
+run_deployment costs node common principal source forms defined = deployment_ended common node (told_of costs defined forms) (known_of principal (length source) defined) (limited costs (purse_of common) (deployment node.contracts (frame_of node common.sender principal) (contract_with principal source forms) node.state))
 
 -- what a deployment comes to
 pub data DeploySteps (costs : Costs) (node : NodeSeen) (common : Common) (principal : Principal) (source : List ℕ) (s : Stepped) : Type 0 where
@@ -104,24 +104,25 @@ pub data DeploySteps (costs : Costs) (node : NodeSeen) (common : Common) (princi
 
 -- ---- entries
 
--- What an entry makes of a node. The evaluations go to a depth of 256. What is charged above the limit, what aborts, and a public
--- function's err leave the node as it was.
+-- What an entry makes of a node. The evaluations go to a depth of 256. What is charged above the entry's limit, what aborts, what
+-- an entry's conditions don't let pass, and a public function's err leave the node as it was.
 abbrev pub Steps : Costs → NodeSeen → Entry → Stepped → Type 0
 Steps costs node (Deploy common name source) s = DeploySteps costs node common (contract_of common.sender name) source s
 Steps costs node (Call common contract function args) s = call_step costs node common contract function args ≡ Some s
+Steps costs node (Block height) s = s ≡ moved node height
 
 -- the entries one after another, with their results
 abbrev pub AllStep : Costs → NodeSeen → List Entry → List TxResult → NodeSeen → Type 0
 AllStep costs node [] results after = (results ≡ []) × (after ≡ node)
 AllStep costs node (e ∷ es) results after = (s : Stepped) × (more : List TxResult) × Steps costs node e s × AllStep costs s.node es more after × (results ≡ s.result ∷ more)
 
--- before all entries
-abbrev pub first_node : NodeSeen
-first_node = record { state = genesis []; contracts = []; known = []; height = 0 }
+-- before all entries, with these holders of STX
+abbrev pub first_node : List (Principal × ℕ) → NodeSeen
+first_node holders = record { state = genesis holders; contracts = []; known = []; height = 0 }
 
 -- the results of a file's entries, and the node after them
-pub record Runs (costs : Costs) (file : TxFileSeen) (results : List TxResult) (after : NodeSeen) : Type 0 where
-  pub steps : AllStep costs first_node file.entries results after
+pub record Runs (costs : Costs) (file : FileSeen) (results : List TxResult) (after : NodeSeen) : Type 0 where
+  pub steps : AllStep costs (first_node file.genesis) file.entries results after
 
 -- ---- what was committed
 
@@ -137,7 +138,7 @@ committed [] = []
 committed (r ∷ rs) = if_committed r.outcome r.events ++ committed rs
 
 -- the events that a file commits
-pub record Commits (costs : Costs) (file : TxFileSeen) (events : List Event) : Type 0 where
+pub record Commits (costs : Costs) (file : FileSeen) (events : List Event) : Type 0 where
   pub results : List TxResult
   pub after : NodeSeen
   pub runs : Runs costs file results after

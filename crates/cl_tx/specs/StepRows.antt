@@ -3,17 +3,26 @@ use Rattle.std.specs.Prelude.{ℕ, List, [], ◌∷◌, codes, Option, Some, Non
 use Rattle.cl_types.specs.declared.sized.Access.TheVariants.{Private}
 use Rattle.cl_c32.specs.declared.principal.Principal.{Principal}
 use Rattle.cl_shapes.specs.declared.cost.Cost5.{Cost5}
-use Rattle.cl_values.specs.Tree.{Tree}
-use Rattle.cl_events.specs.State.{State}
+use Rattle.cl_values.specs.Tree.{Tree, UintV, PrincipalV}
+use Rattle.cl_events.specs.State.{State, genesis}
 use Rattle.cl_events.specs.declared.event.Event.{Event}
 use Rattle.cl_meaning.specs.Deployed.{Deployed}
-use Rattle.cl_meaning.specs.Samples.{P0, of_P0, unit, uint, function, contract}
+use Rattle.cl_meaning.specs.Samples.{P0, P1, of_P0, unit, uint, function, contract}
+use Rattle.cl_meaning.specs.PayRow.{pay_forms}
 use Rattle.cl_meaning.specs.Opened.{opened as meaning_opened}
 use Rattle.cl_rules.specs.FormRules.{Defined}
 use Rattle.cl_rules.specs.Judging.{Judged, Holds}
 use Rattle.cl_rules.specs.PlainProgram.{Program, program_of, text_judged}
 use Rattle.cl_rules.specs.Samples.{opened as rules_opened}
-use Rattle.cl_tx.specs.declared.entry.Common.{Common}
+use Rattle.cl_file.specs.declared.entry.Common.{Common}
+use Rattle.cl_file.specs.Entries.{no_limit}
+use Rattle.cl_post.specs.declared.condition.Mode.{Mode}
+use Rattle.cl_post.specs.declared.condition.Mode.TheVariants.{Allow}
+use Rattle.cl_post.specs.declared.condition.Code5.{Code5}
+use Rattle.cl_post.specs.declared.condition.Test.TheVariants.{Amount}
+use Rattle.cl_post.specs.declared.condition.Condition.{Condition}
+use Rattle.cl_post.specs.Post.{holds, holds_one, sent, is_of}
+use Rattle.cl_events.specs.declared.event.Asset.TheVariants.{Stx}
 use Rattle.cl_tx.specs.declared.outcome.Outcome.{Outcome}
 use Rattle.cl_tx.specs.declared.outcome.EntryRefusal.{EntryRefusal}
 use Rattle.cl_tx.specs.declared.outcome.TxResult.{TxResult}
@@ -22,11 +31,11 @@ use Rattle.cl_tx.specs.Step.{run_call, call_step, run_deployment, first_node}
 
 -- all that an example opens
 unfoldable pub opened : Unit {0}
-unfolding meaning_opened rules_opened run_call call_step run_deployment
+unfolding meaning_opened rules_opened run_call call_step run_deployment holds holds_one sent is_of
 opened = tt
 
 abbrev pub by : Principal → Common
-by p = record { sender = p.address }
+by p = record { sender = p.address; limit = no_limit; mode = Allow; conditions = [] }
 
 -- ---- calls
 
@@ -49,10 +58,35 @@ not_run W s why = Some (refused (node_with W s) why)
 abbrev pub hidden : Deployed
 hidden = contract (codes "p") 23 (function Private (codes "h") [] (uint 1) ∷ []) ∷ []
 
+-- ---- calls on terms
+
+-- a limit, a mode and conditions of a sender
+abbrev pub terms : Principal → List ℕ → Mode → List Condition → Common
+terms p limit mode conditions = record { sender = p.address; limit = limit; mode = mode; conditions = conditions }
+
+-- a condition on the STX that a principal sends
+abbrev pub on_stx : Principal → Code5 → ℕ → Condition
+on_stx p code amount = record { principal = p; asset = Stx; test = Amount code amount }
+
+-- a call of a contract of P0 on these terms
+abbrev pub called_on : Common → Deployed → State → List ℕ → List ℕ → List Tree → Option Stepped
+called_on common W s name f args = call_step unit (node_with W s) common (of_P0 name) f args
+
+-- (define-public (pay (a uint) (to principal)) (stx-transfer? a tx-sender to)), and P1 has 1000
+abbrev pub payer : Deployed
+payer = contract (codes "main") 76 pay_forms ∷ []
+
+abbrev pub rich : State
+rich = genesis ((P1, 1000) ∷ [])
+
+-- P1 pays 300 to P0 in a mode and on conditions
+abbrev pub pays : Mode → List Condition → Option Stepped
+pays mode conditions = called_on (terms P1 no_limit mode conditions) payer rich (codes "main") (codes "pay") (UintV 300 ∷ PrincipalV P0 ∷ [])
+
 -- ---- deployments, by P0 on the first node
 
 abbrev pub run_by : Principal → List ℕ → Option Program → Judged Defined → Option Stepped
-run_by principal text (Some p) (Holds defined) = run_deployment unit first_node (by P0) principal text p.forms defined
+run_by principal text (Some p) (Holds defined) = run_deployment unit (first_node []) (by P0) principal text p.forms defined
 run_by principal text p judged = None
 
 abbrev pub deployed : List ℕ → List ℕ → Option Stepped

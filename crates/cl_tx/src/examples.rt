@@ -4,17 +4,21 @@ ghost use Rattle.std.specs.Prelude.{◌≡◌, ◌-◌, ◌^◌, [], ◌∷◌, 
 ghost use Rattle.cl_types.specs.Types.{NoType, IntType, UintType, ResponseType};
 ghost use Rattle.cl_shapes.specs.Costs.{cost5};
 ghost use Rattle.cl_values.specs.Tree.{IntV, UintV, BoolV, PrincipalV};
-ghost use Rattle.cl_events.specs.declared.event.EventKind.TheVariants.{FtMint};
-ghost use Rattle.cl_events.specs.State.{empty_state};
-ghost use Rattle.cl_meaning.specs.Samples.{P0, P1};
+ghost use Rattle.cl_events.specs.declared.event.EventKind.TheVariants.{FtMint, StxTransfer};
+ghost use Rattle.cl_events.specs.State.{empty_state, at_rest};
+ghost use Rattle.cl_meaning.specs.Samples.{P0, P1, of_P0};
 ghost use Rattle.cl_meaning.specs.Add1Row.{add1_contract};
 ghost use Rattle.cl_meaning.specs.AcrossRow.{both, v_and_w};
 ghost use Rattle.cl_meaning.specs.LimitRow.{n_contract, n_is};
+ghost use Rattle.cl_meaning.specs.PayRow.{paid};
 ghost use Rattle.cl_meaning.specs.TokenRow.{token, no_coins, after_mint, told};
 ghost use Rattle.cl_tx.specs.declared.outcome.Outcome.TheVariants.{Done, Good, Bad, Plain, Aborted};
-ghost use Rattle.cl_tx.specs.declared.outcome.Stop.TheVariants.{Overflow, SupplyOverflow, EarlyTop};
+ghost use Rattle.cl_tx.specs.declared.outcome.Stop.TheVariants.{Overflow, SupplyOverflow, EarlyTop, CostLimit, PostCondition};
 ghost use Rattle.cl_tx.specs.declared.outcome.EntryRefusal.TheVariants.{NoContract, NoFunction, NotPublic, ArgumentCount, Argument};
-ghost use Rattle.cl_tx.specs.StepRows.{called, ran, not_run, hidden, deployed, result_in};
+ghost use Rattle.cl_shapes.specs.declared.cost.Dimension.TheVariants.{WriteLength};
+ghost use Rattle.cl_post.specs.declared.condition.Mode.TheVariants.{Allow, Deny};
+ghost use Rattle.cl_post.specs.declared.condition.Code5.TheVariants.{Eq, Lt, Le};
+ghost use Rattle.cl_tx.specs.StepRows.{called, ran, not_run, hidden, terms, on_stx, called_on, payer, rich, pays, deployed, result_in};
 
 /// Calls of the contract of `(define-read-only (add1 (x int)) (+ x 1))`.
 pub fn calls_of_a_function()
@@ -44,6 +48,24 @@ pub fn calls_of_public_functions()
         ≡ ran (token ∷ []) after_mint (Good (BoolV true)) (cost5 11 0 0 1 39) (told (FtMint (codes "coin") 500 P1) ∷ []) }
     ensures aborted { called (token ∷ []) after_mint P0 (codes "token") (codes "mint") (UintV 1000000000001 ∷ PrincipalV P1 ∷ [])
         ≡ ran (token ∷ []) after_mint (Aborted SupplyOverflow) (cost5 11 0 0 1 39) [] }
+{}
+
+/// Calls under a limit that is just enough and one that is one byte too small; and payments that conditions let pass or not.
+pub fn calls_on_terms()
+    ensures enough { called_on (terms P0 (8 ∷ 2 ∷ 34 ∷ 1 ∷ 17 ∷ []) Allow []) (n_contract ∷ []) (n_is 0) (codes "n") (codes "inc") []
+        ≡ ran (n_contract ∷ []) (n_is 1) (Good (UintV 1)) (cost5 8 2 34 1 17) [] }
+    ensures too_little { called_on (terms P0 (8 ∷ 2 ∷ 34 ∷ 1 ∷ 16 ∷ []) Allow []) (n_contract ∷ []) (n_is 0) (codes "n") (codes "inc") []
+        ≡ ran (n_contract ∷ []) (n_is 0) (Aborted (CostLimit (record { dimension = WriteLength; attempted = cost5 6 1 17 1 17; limit = 16 }))) (cost5 6 1 17 1 17) [] }
+    ensures allowed { pays Allow []
+        ≡ ran payer (at_rest paid) (Good (BoolV true)) (cost5 7 0 0 1 61) (record { contract = of_P0 (codes "main"); kind = StxTransfer 300 P1 P0 } ∷ []) }
+    ensures denied { pays Deny []
+        ≡ ran payer rich (Aborted (PostCondition 0)) (cost5 7 0 0 1 61) [] }
+    ensures named { pays Deny (on_stx P1 Le 300 ∷ [])
+        ≡ ran payer (at_rest paid) (Good (BoolV true)) (cost5 7 0 0 1 61) (record { contract = of_P0 (codes "main"); kind = StxTransfer 300 P1 P0 } ∷ []) }
+    ensures other { pays Deny (on_stx P0 Eq 0 ∷ [])
+        ≡ ran payer rich (Aborted (PostCondition 1)) (cost5 7 0 0 1 61) [] }
+    ensures failing { pays Allow (on_stx P1 Eq 300 ∷ on_stx P1 Lt 300 ∷ [])
+        ≡ ran payer rich (Aborted (PostCondition 1)) (cost5 7 0 0 1 61) [] }
 {}
 
 /// Deployments: their costs, and the bounds and return types in the order of the text. The last one aborts, and has them too.

@@ -1,12 +1,5 @@
-//! The laws of files and of steps. Each function here is a law, and does nothing.
-ghost use Rattle.cl_tx.specs.Laws.{OneFile, OneStep, OneRun, OneCommit, FailedChangeNothing, FirstIsNode, NodesStay, RunsEndInNodes, ToldIsAccepted, AcceptedIsTold, CallTellsNone};
-
-/// One thing comes of the bytes of a transaction file: one file, or that they are none.
-pub fn files_have_one_reading()
-    ensures { OneFile }
-{
-    cl_text::one_outcome();
-}
+//! The laws of steps. Each function here is a law, and does nothing.
+ghost use Rattle.cl_tx.specs.Laws.{OneStep, OneRun, OneCommit, FailedChangeNothing, FirstIsNode, NodesStay, RunsEndInNodes, ToldIsAccepted, AcceptedIsTold, CallTellsNone, BlockTellsNone, HeightIsLast};
 
 /// An entry makes one thing of a node: one node after it, with one result. So a file has one list of
 /// results, and commits one list of events.
@@ -37,6 +30,12 @@ pub fn bounds_are_told_where_accepted()
     ensures told { ToldIsAccepted }
     ensures accepted { AcceptedIsTold }
     ensures call { CallTellsNone }
+    ensures block { BlockTellsNone }
 {
     cl_rules::texts_have_one_answer();
 }
+
+/// After the entries of a file the node stands at the height of the file's last block, and at 0 where it has none.
+pub fn heights_are_those_of_the_file()
+    ensures { HeightIsLast }
+{}

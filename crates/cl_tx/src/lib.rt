@@ -1,23 +1,14 @@
-//! The transaction file, the results of its entries, and the step of a node.
+//! The results of the entries of a transaction file, and the step of a node.
 #![tactic(auto)]
 
-mod entry;
 mod examples;
-mod file;
 mod laws;
-mod member;
-mod object;
 mod outcome;
-mod refusal;
-mod row;
 
-pub use entry::{Common, Entry, TxFile};
-pub use examples::{calls_of_a_function, calls_of_public_functions, deployments};
-pub use file::read;
+pub use cl_file::{Common, Conditions, Entry, Row, TxFile, TxRefusal, read};
+pub use examples::{calls_of_a_function, calls_of_public_functions, calls_on_terms, deployments};
 pub use laws::{
-    bounds_are_told_where_accepted, failed_entries_change_nothing, files_have_one_reading,
+    bounds_are_told_where_accepted, failed_entries_change_nothing, heights_are_those_of_the_file,
     nodes_stay_nodes, steps_have_one_result,
 };
 pub use outcome::{Bounds, EntryRefusal, Outcome, SourceRefusal, Stop, TxResult};
-pub use refusal::TxRefusal;
-pub use row::Row;

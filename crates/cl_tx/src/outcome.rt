@@ -1,8 +1,8 @@
 //! What becomes of an entry.
 ghost use Rattle.std.specs.Prelude.{◌≡◌};
 
-use crate::Row;
 use cl_events::Event;
+use cl_file::Row;
 use cl_sexpr::Refusal;
 use cl_shapes::{Cost5, Over};
 use cl_types::{Name, SizedTy};
@@ -28,6 +28,9 @@ pub enum Stop {
     EarlyTop,
     /// A8: the charges are above the limit.
     CostLimit(Over),
+    /// A9: the first post-condition that fails, by its place; in deny mode, where each holds and an asset moved that none names,
+    /// their number.
+    PostCondition { index: u32 },
 }
 
 /// Why the source of a deployment is refused. Contracts see it as plain data.
@@ -92,6 +95,8 @@ pub enum EntryRefusal {
 /// What becomes of an entry.
 #[derive(Drop)]
 pub enum Outcome {
+    /// A block begins.
+    Moved,
     /// The contract is deployed.
     Done,
     /// A public function answered ok with this.
@@ -119,7 +124,7 @@ pub struct Bounds {
 #[derive(Drop)]
 pub struct TxResult {
     pub outcome: Outcome,
-    /// What the entry is charged; up to the first sum that is above the limit. None where it is refused.
+    /// What the entry is charged; up to the first sum that is above the limit. None where it is refused, and of a block.
     pub cost: Option<Cost5>,
     /// The bounds, where a deployment's source is accepted, also if it then aborts.
     pub bounds: Option<Bounds>,

@@ -9,5 +9,8 @@ keep-requires-clause-new c = ap (λ p. contract_under p c.args.deployed.now.cont
 
 pub returns-clause-judged : goal.returns-clause-judged
 returns-clause-judged c =
-    is_accepted (function_of c.args.costs.now) c.args.deployed.now.contracts.entries c.args.source.now c.args.checked c.requires.checked c.what_callers_know.ensures.defined c.args.bounds c.requires.bounded
+    is_accepted (function_of c.args.costs.now) c.args.deployed.now.contracts.entries c.args.source.now c.args.checked c.requires.checked c.what_callers_know.ensures.defined c.args.priced.bounds c.requires.bounded
     c.in_ok-text.text.items c.in_ok-text.ensures c.keep.new.deployed.contracts.entries c.in_ok-keep.ensures.kept
+
+pub returns-clause-known : goal.returns-clause-known
+returns-clause-known c = c.in_ok-keep.ensures.known (function_of c.args.costs.now) c.requires.known c.requires.kept

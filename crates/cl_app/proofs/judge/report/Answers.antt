@@ -2,7 +2,8 @@ use Rattle.std.proofs.Common.{List, [], ℕ, drop, ◌+◌, subst, sym, ap}
 use Rattle.std.proofs.lemmas.List.{drop_all}
 use Rattle.cl_costs.specs.Tables.{function_of}
 use Rattle.cl_app.specs.Checked.{IsReport}
-use Rattle.cl_app.specs.Checking.{AcceptedSoFar}
+use Rattle.cl_bound.specs.Known.{AreBounds}
+use Rattle.cl_app.specs.Checking.{AcceptedSoFar, Contracts}
 use Rattle.cl_app.specs.Reply.{bytes_of}
 use Rattle.cl_app.proofs.Judged.{accepted_all, accepted_first, accepted_next, next_is_new, one_more_piece, refused_next, source_in_front}
 use Rattle.cl_app.proofs.judge.report.Goals as goal
@@ -11,6 +12,7 @@ pub loop-source-init : goal.loop-source-init
 loop-source-init c = record {
   accepted = rw c.new-pieces.ensures.items (accepted_first (function_of c.args.costs.now) c.args.sources.now c.new-deployed.result.contracts.entries c.requires.apart c.new-deployed.ensures.none);
   indexed = c.new-deployed.ensures.indexed;
+  known = subst (λ (es : Contracts). AreBounds (function_of c.args.costs.now) es c.new-known.result) (sym c.new-deployed.ensures.none) (c.new-known.ensures (function_of c.args.costs.now));
 }
 
 pub judge-requires-clause-new : goal.judge-requires-clause-new
@@ -29,6 +31,7 @@ loop-source-preserved c =
           (accepted_next (function_of c.args.costs.now) c.args.sources.now (drop i c.args.sources.now) (drop (i + 1) c.args.sources.now) c.source-item.result (bytes_of c.loop-source.pieces.items) c.in-Accepted.text.items c.loop-source.deployed.contracts.entries c.judge.new.deployed.contracts.entries
           c.loop-source.invariant.accepted (source_in_front c.args.sources.now i c.source-item.result c.loop-source-test.true c.source-item.is) one));
       indexed = c.in_ok-judged.ensures.indexed;
+      known = c.in_ok-judged.ensures.known;
     }
 
 pub returns-in-Refused-clause-answer : goal.returns-in-Refused-clause-answer

@@ -1,5 +1,5 @@
 use Rattle.std.proofs.Common.{◌≡◌, take, filter_map}
-use Rattle.cl_app.specs.Checking.{type_returned}
+use Rattle.cl_engine.specs.Deploying.{type_returned}
 use Rattle.cl_app.proofs.judge.types_of.Given as goal
 
 abbrev pub invariant-loop-definition : goal.invariant-loop-definition

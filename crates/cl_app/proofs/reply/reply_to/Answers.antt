@@ -1,17 +1,27 @@
-use Rattle.cl_app.specs.Words.{texts, taken}
+use Rattle.std.proofs.Common.{◌≡◌, ◌≢◌, refl, ap, subst}
+use Rattle.std.specs.Prelude.{◌↔◌, IfErr, IfOk, None, Option}
+use Rattle.cl_ports.proofs.Grown.{part_none}
 use Rattle.cl_app.specs.Reply.{answer_of}
-use Rattle.cl_app.proofs.WordSources.{check_has_sources}
-use Rattle.cl_app.proofs.Spellings.{wire_answers}
+use Rattle.cl_app.specs.Top.{AsksPart, IsAnswer, IsOwnStatus}
+use Rattle.cl_app.specs.Words.{Command, command_on}
+use Rattle.cl_app.specs.declared.pieces.Stop.TheVariants.{ReadFailed}
 use Rattle.cl_app.proofs.reply.reply_to.Goals as goal
 
-pub returns-in_ok-wire_reply-in-Some-Wire-clause-answer : goal.returns-in_ok-wire_reply-in-Some-Wire-clause-answer
-returns-in_ok-wire_reply-in-Some-Wire-clause-answer g c =
-    wire_answers (taken (texts c.args.words.now)) (g.F.Files.held c.args.files.now) c.in-Some-Wire.word.now c.as_bytes-in-Some-Wire.result.now (answer_of c.in_ok-wire_reply-in-Some-Wire.field-0)
-    (rw c.in-Some-Wire.field-0-is at c.in-Some-Wire.ensures) c.as_bytes-in-Some-Wire.ensures.value c.in_ok-wire_reply-in-Some-Wire.ensures.answer
+pub returns-clause-answer : goal.returns-clause-answer
+returns-clause-answer g c =
+    subst (λ (command : Option Command). IfOk c.line_reply.result (λ reply. IsAnswer command (g.F.Files.held c.args.files.now) (answer_of reply))) (ap command_on c.in_ok-line.ensures) c.line_reply.ensures.answer
 
-pub check_words-requires : goal.check_words-requires
-check_words-requires g c = record {
-  sources =
-      check_has_sources (texts c.args.words.now) c.in-Some-Check.words.costs.now c.in-Some-Check.words.address (texts c.in-Some-Check.words.paths.now)
-      (rw c.in-Some-Check.field-0-is at c.in-Some-Check.ensures);
-}
+pub returns-clause-status : goal.returns-clause-status
+returns-clause-status g c =
+    subst (λ (command : Option Command). IfOk c.line_reply.result (λ reply. IsOwnStatus reply.status × ((reply.status ≡ 2) ↔ (command ≡ None)))) (ap command_on c.in_ok-line.ensures) c.line_reply.ensures.status
+
+pub returns-clause-reads : goal.returns-clause-reads
+returns-clause-reads g c =
+    subst (λ (command : Option Command). IfErr c.line_reply.result (λ stop. stop ≡ ReadFailed → command ≢ None)) (ap command_on c.in_ok-line.ensures) c.line_reply.ensures.reads
+
+pub returns-clause-asked : goal.returns-clause-asked
+returns-clause-asked g c =
+    subst (λ (command : Option Command). AsksPart command (g.F.Files.held c.args.files.now) (g.F.Files.asked c.args.files.now) (g.F.Files.asked c.line_reply.new.files)) (ap command_on c.in_ok-line.ensures) c.line_reply.ensures.asked
+
+pub returns-in_err-line-clause-asked : goal.returns-in_err-line-clause-asked
+returns-in_err-line-clause-asked g c = record { told = λ files names h named. part_none (g.F.Files.asked c.args.files.now) (g.F.Files.asked c.args.files.now) names refl }

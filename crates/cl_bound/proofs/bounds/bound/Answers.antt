@@ -1,10 +1,11 @@
-use Rattle.std.proofs.Common.{◌≡◌, List, Some, filter_map, sym, ap, subst, ◌∙◌}
+use Rattle.std.proofs.Common.{◌≡◌, List, Some, filter_map, refl, sym, ap, subst, ◌∙◌}
 use Rattle.cl_shapes.specs.declared.function.CostFn.{CostFn}
 use Rattle.cl_costs.specs.Tables.{function_of}
 use Rattle.cl_rules.specs.Acceptance.{Bounded}
 use Rattle.cl_contracts.specs.Seen.{forms_of}
 use Rattle.cl_tx.specs.Step.{bound_line}
 use Rattle.cl_bound.specs.Sums.{told}
+use Rattle.cl_bound.specs.Seen.{ShowFunctions}
 use Rattle.cl_bound.proofs.Bounding.{all_bounded, first_above_all}
 use Rattle.cl_bound.proofs.bounds.bound.Goals as goal
 
@@ -12,27 +13,36 @@ pub returns-in-Some-clause-broken : goal.returns-in-Some-clause-broken
 returns-in-Some-clause-broken c = (
   c.in-Some.dimension,
   c.of.ensures.rule,
-  λ known D knows stands.
-      let done = c.in_ok-deployment.ensures.defined known c.args.checked.now.principal D (c.in_ok-prices.ensures.shown known c.args.checked.now.source_length knows) stands in
+  λ deployed known D are knows stands.
+      let done = c.in_ok-deployment.ensures.defined known c.args.checked.now.principal D (c.new-prices.ensures.shown known c.args.checked.now.source_length (are known knows)) stands in
       first_above_all c.what_callers_know.ensures.typed known c.args.checked.now D stands c.the_first_bound_is_found.ensures.first c.deployment.new.prices.costs c.args.costs.now c.in-Some.dimension c.in-Some.span c.of.result.span
-      (c.in_ok-deployment.ensures.costs ∙ c.in_ok-prices.ensures.costs) c.of.ensures.span
+      (c.in_ok-deployment.ensures.costs ∙ c.new-prices.ensures.costs) c.of.ensures.span
       (c.in-Some.ensures D done.0 (done.1 ∙ ap (λ (t : List CostFn). told (D.deploy (function_of t))) (sym c.in_ok-deployment.ensures.costs))),
 )
 
-pub returns-clause-bounded : goal.returns-clause-bounded
-returns-clause-bounded c known D knows stands =
-    let done = c.in_ok-deployment.ensures.defined known c.args.checked.now.principal D (c.in_ok-prices.ensures.shown known c.args.checked.now.source_length knows) stands in
+pub returns-in_ok-functions-in-None-clause-bounded : goal.returns-in_ok-functions-in-None-clause-bounded
+returns-in_ok-functions-in-None-clause-bounded c deployed known D are knows stands =
+    let done = c.in_ok-deployment.ensures.defined known c.args.checked.now.principal D (c.new-prices.ensures.shown known c.args.checked.now.source_length (are known knows)) stands in
     all_bounded c.what_callers_know.ensures.typed known c.args.checked.now D stands c.the_first_bound_is_found.ensures.none c.deployment.new.prices.costs c.args.costs.now
-    (c.in_ok-deployment.ensures.costs ∙ c.in_ok-prices.ensures.costs)
+    (c.in_ok-deployment.ensures.costs ∙ c.new-prices.ensures.costs)
     (c.in-None.ensures D done.0 (done.1 ∙ ap (λ (t : List CostFn). told (D.deploy (function_of t))) (sym c.in_ok-deployment.ensures.costs)))
 
-pub returns-clause-told : goal.returns-clause-told
-returns-clause-told c known D knows stands =
-    let done = c.in_ok-deployment.ensures.defined known c.args.checked.now.principal D (c.in_ok-prices.ensures.shown known c.args.checked.now.source_length knows) stands in
-    let same : c.deployment.new.prices.costs ≡ c.args.costs.now = c.in_ok-deployment.ensures.costs ∙ c.in_ok-prices.ensures.costs in
+pub returns-in_ok-functions-in-None-clause-told : goal.returns-in_ok-functions-in-None-clause-told
+returns-in_ok-functions-in-None-clause-told c deployed known D are knows stands =
+    let done = c.in_ok-deployment.ensures.defined known c.args.checked.now.principal D (c.new-prices.ensures.shown known c.args.checked.now.source_length (are known knows)) stands in
+    let same : c.deployment.new.prices.costs ≡ c.args.costs.now = c.in_ok-deployment.ensures.costs ∙ c.new-prices.ensures.costs in
     let bounded : Bounded D (forms_of c.args.checked.now) (function_of c.args.costs.now) =
     all_bounded c.what_callers_know.ensures.typed known c.args.checked.now D stands c.the_first_bound_is_found.ensures.none c.deployment.new.prices.costs c.args.costs.now same
     (c.in-None.ensures D done.0 (done.1 ∙ ap (λ (t : List CostFn). told (D.deploy (function_of t))) (sym c.in_ok-deployment.ensures.costs))) in
-    let deploy = c.saturated.ensures (D.deploy (function_of c.args.costs.now)) (done.1 ∙ ap (λ (t : List CostFn). told (D.deploy (function_of t))) c.in_ok-prices.ensures.costs) bounded.deployment in
+    let deploy = c.saturated.ensures (D.deploy (function_of c.args.costs.now)) (done.1 ∙ ap (λ (t : List CostFn). told (D.deploy (function_of t))) c.new-prices.ensures.costs) bounded.deployment in
     let lines = c.new.ensures ∙ c.in_ok-functions-in-None.ensures D done.0 (subst (λ (t : List CostFn). Bounded D (forms_of c.args.checked.now) (function_of t)) (sym same) bounded) ∙ ap (λ (t : List CostFn). filter_map (bound_line (function_of t) D) (forms_of c.args.checked.now)) same in
     λ i. Some (record { deploy = sym deploy i; functions = sym lines i })
+
+pub returns-in_ok-functions-in-None-clause-kept : goal.returns-in_ok-functions-in-None-clause-kept
+returns-in_ok-functions-in-None-clause-kept c deployed are = record {
+  principal = refl;
+  length = refl;
+  functions = λ known D knows stands.
+      let done = c.in_ok-deployment.ensures.defined known c.args.checked.now.principal D (c.new-prices.ensures.shown known c.args.checked.now.source_length (are known knows)) stands in
+      subst (λ (t : List CostFn). ShowFunctions (function_of t) D.context.functions c.deployment.new.prices.functions.entries) (c.in_ok-deployment.ensures.costs ∙ c.new-prices.ensures.costs) done.0.functions;
+}

@@ -15,7 +15,6 @@ loop-place-preserved c =
     elim c.match-definition_at.branch [
       | in-Some+in_ok-charge w ↦ record {
         costs = ap (λ (p : Prices). p.costs) w.prices-is ∙ w.take_in.ensures.costs ∙ c.loop-place.invariant.costs;
-        deployed = ap (λ (p : Prices). p.deployed) w.prices-is ∙ w.take_in.ensures.deployed ∙ c.loop-place.invariant.deployed;
         walked = walked_more c.args.prices.now c.loop-place.prices c.match-definition_at.prices c.args.checked.now c.loop-place.place-index place w.in-Some.definition.now c.loop-place.sum w.in_ok-charge.charge c.match-definition_at.sum lt at (sym w.in-Some.ensures) c.loop-place.invariant.costs w.in_ok-charge.ensures.charged
             (subst (λ (m : Prices). ShowsAfter c.loop-place.prices m w.in-Some.definition.now) (sym w.prices-is) w.in_ok-charge.ensures.shown)
             (λ a b s t. w.sum-is ∙ w.add-sum.ensures a b s t) c.loop-place.invariant.walked;
@@ -25,7 +24,6 @@ loop-place-preserved c =
           (subst (λ (s : Sum). AsWalked c.args.prices.now c.args.checked.now c.loop-place.place-index c.loop-place.prices s) (sym w.sum-is)
           (record {
             costs = c.loop-place.invariant.costs;
-            deployed = c.loop-place.invariant.deployed;
             walked = walked_past c.args.prices.now c.loop-place.prices c.args.checked.now c.loop-place.place-index place c.loop-place.sum lt at (sym w.in_default.ensures) c.loop-place.invariant.walked;
           }))
     ]

@@ -5,6 +5,5 @@ use Rattle.cl_bound.proofs.contract.deployment.Given as goal
 abbrev pub invariant-loop-place : goal.invariant-loop-place
 invariant-loop-place l = record {
   costs : l.prices.costs ≡ l.fn.prices.costs;
-  deployed : l.prices.deployed ≡ l.fn.prices.deployed;
   walked : Walked l.fn.prices l.checked (at_places l.checked (drop l.place-index l.checked.order.items)) l.prices l.sum;
 }

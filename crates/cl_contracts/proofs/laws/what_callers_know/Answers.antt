@@ -1,5 +1,6 @@
 use Rattle.cl_contracts.proofs.StandingTyped.{standing_is_typed}
 use Rattle.cl_contracts.proofs.KnownLaws.{known_is, kept_is}
+use Rattle.cl_contracts.proofs.Constants.{constants_kept}
 use Rattle.cl_contracts.proofs.laws.what_callers_know.Goals as goal
 
 pub returns-clause-typed : goal.returns-clause-typed
@@ -10,3 +11,6 @@ returns-clause-known c = known_is
 
 pub returns-clause-defined : goal.returns-clause-defined
 returns-clause-defined c = kept_is
+
+pub returns-clause-constants : goal.returns-clause-constants
+returns-clause-constants c = constants_kept

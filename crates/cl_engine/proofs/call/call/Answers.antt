@@ -5,6 +5,7 @@ use Rattle.cl_contracts.specs.Seen.{contract_seen, deployed_seen, function_seen}
 use Rattle.cl_eval.specs.Homes.{frame_seen}
 use Rattle.cl_tx.specs.declared.outcome.TxResult.{TxResult}
 use Rattle.cl_tx.specs.Nodes.{NodeSeen}
+use Rattle.cl_node_sound.proofs.Calling.{fitting_are}
 use Rattle.cl_engine.specs.Seen.{node_with, seen}
 use Rattle.cl_engine.proofs.Ends.{ok_also}
 use Rattle.cl_engine.proofs.CallSteps.{no_contract, no_function, in_function, ended_so, comes_so}
@@ -57,6 +58,16 @@ apply-requires-clause-few c =
     let there : contract_at c.args.contract.now W ≡ Some contract = sym (c.in-Some.ensures.seen c.requires.indexed) in
     let few = (c.functions_are_named.ensures (function_of c.args.costs.now) W c.requires.sound.known c.requires.sound.is_sound.sound.contracts c.args.contract.now c.requires.parts.1 contract there c.args.function.now (function_seen c.in-Some-function_named.called.now) (sym c.in-Some-function_named.ensures)).1 in
     subst (λ (n : ℕ). n < 2 ^ 32) (sym c.in_default-refusal_of.ensures.called.as_many) few
+
+pub apply-requires-clause-kept : goal.apply-requires-clause-kept
+apply-requires-clause-kept c =
+    let sound = c.requires.sound.is_sound.sound in
+    record { costs = function_of c.args.costs.now; known = c.requires.sound.known; node = record { contracts = sound.contracts; kept = sound.kept } }
+
+pub apply-requires-clause-fitting : goal.apply-requires-clause-fitting
+apply-requires-clause-fitting c =
+    let may = c.in_default-refusal_of.ensures.called in
+    fitting_are 0 c.in-Some-function_named.called.now.params.items c.args.args.now may.as_many c.requires.parts.2 may.fitting
 
 pub apply-requires-clause-comes : goal.apply-requires-clause-comes
 apply-requires-clause-comes c =

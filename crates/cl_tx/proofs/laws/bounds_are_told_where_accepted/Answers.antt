@@ -1,5 +1,5 @@
 use Rattle.cl_tx.specs.Nodes.{contract_of}
-use Rattle.cl_tx.proofs.StepLaws.{told_accepted, accepted_told, call_tells_none}
+use Rattle.cl_tx.proofs.StepLaws.{told_accepted, accepted_told, call_tells_none, block_tells_none}
 use Rattle.cl_tx.proofs.laws.bounds_are_told_where_accepted.Goals as goal
 
 pub returns-clause-told : goal.returns-clause-told
@@ -10,3 +10,6 @@ returns-clause-accepted c = λ costs node common name source s. accepted_told c.
 
 pub returns-clause-call : goal.returns-clause-call
 returns-clause-call c = call_tells_none
+
+pub returns-clause-block : goal.returns-clause-block
+returns-clause-block c = block_tells_none

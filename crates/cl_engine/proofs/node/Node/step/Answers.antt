@@ -2,12 +2,12 @@ use Rattle.std.specs.Prelude.{IfOk}
 use Rattle.std.proofs.Common.{◌≡◌, sym, subst, ◌∙◌}
 use Rattle.cl_contracts.specs.Seen.{deployed_seen}
 use Rattle.cl_node_sound.specs.Sound.{HasParts}
-use Rattle.cl_tx.specs.declared.entry.Entry.{Entry}
-use Rattle.cl_tx.specs.declared.entry.Entry.TheVariants.{Deploy, Call}
+use Rattle.cl_file.specs.declared.entry.Entry.{Entry}
+use Rattle.cl_file.specs.declared.entry.Entry.TheVariants.{Deploy, Call, Block}
 use Rattle.cl_tx.specs.Laws.{IsKept}
 use Rattle.cl_engine.specs.Seen.{Seen, seen}
 use Rattle.cl_engine.specs.Steps.{Makes}
-use Rattle.cl_engine.proofs.Nodes.{call_steps, call_refused, sound_still, makes_still, undone_still}
+use Rattle.cl_engine.proofs.Nodes.{makes, sound_after, block_makes, call_steps, call_refused, sound_still, makes_still, undone_still}
 use Rattle.cl_engine.proofs.node.Node.step.Goals as goal
 
 pub deploy-requires-clause-parts : goal.deploy-requires-clause-parts
@@ -21,6 +21,7 @@ pub invariant_of-self : goal.invariant_of-self
 invariant_of-self c = record {
   base = c.deploy.ensures.base;
   indexed = c.deploy.ensures.indexed;
+  known = c.deploy.ensures.known;
   sound = sound_still c.self.inside.costs c.self.inside.deployed.contracts.entries c.deploy.new.deployed.contracts.entries c.self.inside.world.stack.top c.deploy.new.world.stack.top c.self.inside.height (Deploy c.in-Deploy.common c.in-Deploy.name c.as_slice.result.now) c.deploy.result
       c.nodes_stay_sound.ensures.stay (subst HasParts c.in-Deploy.is c.has_parts.ensures) c.self.invariant.sound c.deploy.ensures.steps c.deploy.ensures.refused;
 }
@@ -32,6 +33,7 @@ invariant_of-self-in-Call c =
     record {
       base = c.call.ensures.base;
       indexed = c.self.invariant.indexed;
+      known = c.self.invariant.known;
       sound = sound_still c.self.inside.costs es es c.self.inside.world.stack.top c.call.new.world.stack.top c.self.inside.height (Call c.in-Call.common c.in-Call.contract c.as_slice-in-Call.result.now c.as_slice-in-Call-2.result.now) c.call.result
           c.nodes_stay_sound.ensures.stay (subst HasParts entry c.has_parts.ensures) c.self.invariant.sound
           (call_steps c.self.inside.costs es c.self.inside.world.stack.top c.call.new.world.stack.top c.self.inside.height c.in-Call.common c.in-Call.contract c.as_slice-in-Call.result.now c.as_slice-in-Call-2.result.now c.call.result c.call.ensures.steps)
@@ -71,3 +73,25 @@ returns-in-Call-clause-undone c =
     subst (λ (n : Seen). IfOk c.call.result (λ r. (IsKept r.outcome → ⊥) → after ≡ n)) c.self.view_is
     (undone_still c.self.inside.costs es es c.self.inside.world.stack.top c.call.new.world.stack.top c.self.inside.height (Call c.in-Call.common c.in-Call.contract c.as_slice-in-Call.result.now c.as_slice-in-Call-2.result.now) c.call.result c.failed_entries_change_nothing.ensures c.self.invariant.sound
     (call_steps c.self.inside.costs es c.self.inside.world.stack.top c.call.new.world.stack.top c.self.inside.height c.in-Call.common c.in-Call.contract c.as_slice-in-Call.result.now c.as_slice-in-Call-2.result.now c.call.result c.call.ensures.steps))
+
+pub invariant_of-self-in-Block : goal.invariant_of-self-in-Block
+invariant_of-self-in-Block c =
+    let es = c.self.inside.deployed.contracts.entries in
+    let s = c.self.inside.world.stack.top in
+    record {
+      base = c.self.invariant.base;
+      indexed = c.self.invariant.indexed;
+      known = c.self.invariant.known;
+      sound = sound_after c.self.inside.costs es es s s c.self.inside.height c.in-Block.height (Block c.in-Block.height) c.moved.result
+          c.nodes_stay_sound.ensures.stay (subst HasParts c.in-Block.is c.has_parts.ensures) c.self.invariant.sound (block_makes c.self.inside.costs es s c.self.inside.height c.in-Block.height c.moved.result c.moved.ensures);
+    }
+
+pub returns-in-Block-clause-steps : goal.returns-in-Block-clause-steps
+returns-in-Block-clause-steps c =
+    let es = c.self.inside.deployed.contracts.entries in
+    let s = c.self.inside.world.stack.top in
+    let before : Seen = seen s (deployed_seen c.self.inside.deployed) c.self.inside.height c.self.inside.costs in
+    let after : Seen = seen s (deployed_seen c.self.inside.deployed) c.in-Block.height c.self.inside.costs in
+    subst (λ (n : Seen). Makes n c.args.entry.now c.moved.result after) c.self.view_is
+    (subst (λ (e : Entry). Makes before e c.moved.result after) (sym c.in-Block.is)
+    (makes c.self.inside.costs es es s s c.self.inside.height c.in-Block.height (Block c.in-Block.height) c.moved.result c.self.invariant.sound (block_makes c.self.inside.costs es s c.self.inside.height c.in-Block.height c.moved.result c.moved.ensures)))

@@ -1,0 +1,7 @@
+use Rattle.std.proofs.Common.{refl}
+use Rattle.cl_bound.proofs.Knowing.{begins}
+use Rattle.cl_bound.proofs.prices.Prices.new.Goals as goal
+
+pub returns-clause-shown : goal.returns-clause-shown
+returns-clause-shown c known size shows =
+    begins (record { costs = c.args.costs.now; deployed = c.args.deployed; principal = c.args.principal.now; functions = c.new.result }) c.args.principal.now known size refl c.new.ensures.empty shows

@@ -1,0 +1,11 @@
+mod Sole
+mod Parts
+mod Chain
+mod Handed
+mod Literals
+mod Forms
+mod Filled
+mod Heights
+mod Holdings
+mod Tests
+mod Readings

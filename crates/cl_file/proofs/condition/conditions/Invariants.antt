@@ -1,0 +1,10 @@
+use Rattle.std.proofs.Common.{◌≡◌, [], drop}
+use Rattle.serde_json.specs.View.{items_view}
+use Rattle.cl_file.specs.Paths.{each_from}
+use Rattle.cl_file.specs.Objects.{Texts}
+use Rattle.cl_file.specs.Conditions.{condition_at}
+use Rattle.cl_file.proofs.condition.conditions.Given as goal
+
+abbrev pub invariant-loop-i : goal.invariant-loop-i
+invariant-loop-i l =
+    (v : Texts) → each_from (condition_at v.of) l.path l.read.items l.i (items_view (drop l.i l.list)) ≡ each_from (condition_at v.of) l.path [] 0 (items_view l.list)

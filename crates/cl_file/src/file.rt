@@ -1,0 +1,117 @@
+//! The transaction file.
+ghost use Rattle.std.specs.Prelude.{◌≡◌, [], IfOk, Ok, Err};
+ghost use Rattle.serde_json.specs.View.{view, items_view};
+ghost use Rattle.cl_types.specs.Fault.{IfRefused};
+ghost use Rattle.cl_file.specs.Objects.{Values, Texts, needed};
+ghost use Rattle.cl_file.specs.Files.{items, is_object, is_version_1, members_of, file_by, file_in, file_of, FileReads};
+
+use crate::entries::entries;
+use crate::holders::{fits, holders};
+use crate::names::{Object, names_of};
+use crate::object::only;
+use crate::path::{Read, bad_member, field};
+use crate::{TxFile, TxRefusal};
+use cl_json::parse;
+use cl_types::Fault;
+use serde_json::Value;
+use std::alloc::Global;
+
+/// The most entries of a file.
+pub(crate) const MOST_ENTRIES: usize = 100_000;
+
+fn array<'v>(alloc: Global, object: &'v Value, path: &str, name: &str) -> Read<&'v [Value]>
+    ensures found { (values : Values) → IfOk result
+        (λ list. needed items values path.now name.now (view object.now) ≡ Ok (items_view list.now)) }
+    ensures broken { (values : Values) → IfRefused result
+        (λ r. needed items values path.now name.now (view object.now) ≡ Err r) }
+{
+    let Some(value) = object.get(name) else {
+        return Err(field(alloc, path, name));
+    };
+    match value.as_array() {
+        Some(list) => Ok(list.as_slice()),
+        None => Err(bad_member(alloc, path, name)),
+    }
+}
+
+fn is_version_1(value: &Value) -> bool
+    ensures { result ≡ is_version_1 (view value.now) }
+{
+    match value.get("version") {
+        Some(version) => match version.as_u64() {
+            Some(n) => n == 1,
+            None => false,
+        },
+        None => false,
+    }
+}
+
+fn is_object(value: &Value) -> bool
+    ensures { result ≡ is_object (view value.now) }
+{
+    value.as_object().is_some()
+}
+
+fn file_by(alloc: Global, genesis: &[Value], list: &[Value]) -> Read<TxFile>
+    ensures found { (v : Texts) → IfOk result
+        (λ f. file_by v.of (items_view genesis.now) (items_view list.now) ≡ Ok f) }
+    ensures broken { (v : Texts) → IfRefused result
+        (λ r. file_by v.of (items_view genesis.now) (items_view list.now) ≡ Err r) }
+{
+    let held = holders(alloc, genesis, "/genesis")?;
+    if !fits(&held) {
+        return Err(Fault::Refused(TxRefusal::GenesisTooBig));
+    }
+    if list.len() > MOST_ENTRIES {
+        return Err(Fault::Refused(TxRefusal::TooMany));
+    }
+    let read = entries(alloc, list, "/entries")?;
+    Ok(TxFile::new(held, read))
+}
+
+fn members_of(alloc: Global, value: &Value) -> Read<TxFile>
+    ensures found { (v : Texts) → IfOk result (λ f. members_of v.of (view value.now) ≡ Ok f) }
+    ensures broken { (v : Texts) → IfRefused result
+        (λ r. members_of v.of (view value.now) ≡ Err r) }
+{
+    only(alloc, value, "", names_of(Object::File))?;
+    let genesis = array(alloc, value, "", "genesis")?;
+    let list = array(alloc, value, "", "entries")?;
+    file_by(alloc, genesis, list)
+}
+
+#[tactic(auto, unfolding(crate::specs::Files::file_in))]
+fn file_in(alloc: Global, value: &Value) -> Read<TxFile>
+    ensures found { (v : Texts) → IfOk result (λ f. file_in v.of (view value.now) ≡ Ok f) }
+    ensures broken { (v : Texts) → IfRefused result
+        (λ r. file_in v.of (view value.now) ≡ Err r) }
+{
+    if !is_object(value) {
+        return Err(Fault::Refused(TxRefusal::NotJson));
+    }
+    if !is_version_1(value) {
+        return Err(Fault::Refused(TxRefusal::Version));
+    }
+    members_of(alloc, value)
+}
+
+#[tactic(auto, unfolding(crate::specs::Files::file_of))]
+fn read_text(alloc: Global, bytes: &[u8]) -> Read<TxFile>
+    ensures found { (v : Texts) → IfOk result (λ f. file_of v.of bytes.now ≡ Ok f) }
+    ensures broken { (v : Texts) → IfRefused result (λ r. file_of v.of bytes.now ≡ Err r) }
+{
+    match parse(alloc, bytes) {
+        Ok(value) => file_in(alloc, &value),
+        Err(Fault::Refused(_)) => Err(Fault::Refused(TxRefusal::NotJson)),
+        Err(Fault::NoMemory) => Err(Fault::NoMemory),
+    }
+}
+
+/// Reads a transaction file of version 1: the file, or its first fault. Tests come in this order: the text is JSON and an object;
+/// the version is 1; the top members; the holders in their order; their sum; the number of entries; the entries in their order.
+pub fn read(alloc: Global, bytes: &[u8]) -> Result<TxFile, Fault<TxRefusal>>
+    ensures found { IfOk result (λ f. FileReads bytes.now (Ok f)) }
+    ensures broken { IfRefused result (λ r. FileReads bytes.now (Err r)) }
+{
+    read_text(alloc, bytes)
+}
