@@ -1,8 +1,8 @@
 #!/usr/bin/env bash
 # Checks sources of rising size under the unit table: a function with a long body, many small functions that call the one
-# before, many constants, nests nearly as deep as brackets may be, and contracts that call the one before. Prints instructions
-# for each unit, from the difference of two sizes, by callgrind; without valgrind, nanoseconds for each. Where the numbers of a
-# row are flat the work is linear. Run by hand; python3 measures.
+# before, the same in chains as long as heights allow, many constants, nests nearly as deep as brackets may be, and contracts
+# that call the one before. Prints instructions for each unit, from the difference of two sizes, by callgrind; without valgrind,
+# nanoseconds for each. Where the numbers of a row are flat the work is linear. Run by hand; python3 measures.
 set -eu
 cd "$(dirname "$0")"
 ../clarity call ../examples/inc.clar add1 41 >/dev/null
@@ -22,6 +22,11 @@ def body(count):
 
 def functions(count):
     return ["(define-private (g0 (x uint)) x)\n" + "".join(STEP.format(i, i - 1 if i % 50 else 0) for i in range(1, count))]
+
+
+def chains(count):
+    call = lambda i: f"(g{i - 1} x)" if i % 128 else "x"
+    return ["".join(f"(define-private (g{i} (x uint)) {call(i)})\n" for i in range(count))]
 
 
 def constants(count):
@@ -51,7 +56,7 @@ def cost(sources):
 
 
 print(f"{'unit':20} {'sizes':>18} {'for each unit':>24}")
-ROWS = [("product in a body", body, 4000), ("function", functions, 1000), ("constant", constants, 2500),
+ROWS = [("product in a body", body, 4000), ("function", functions, 1000), ("function in a chain", chains, 1024), ("constant", constants, 2500),
         ("function of 60 sums", nests, 100), ("contract", contracts, 50)]
 for name, sources, first in ROWS:
     sizes = [first, 2 * first, 4 * first]

@@ -1,42 +1,104 @@
 #!/usr/bin/env bash
-# Runs transaction files of 1,000 to 64,000 calls of one contract: of a public function that writes a variable, of one whose err
-# undoes the write, and of a read-only one. Flat microseconds a call say that a run is linear in its calls. Run by hand; python3
-# measures.
+# Runs transaction files: calls that write a variable, calls whose err undoes the write, calls that read, transfers of a token
+# between 1,000 holders, and calls of a contract that calls another; each in a node of 1, 100 and 1,000 contracts. Prints the
+# instructions of one call more, from the difference of two numbers of calls, by callgrind (without valgrind, nanoseconds), and
+# the peak of memory at 4,000 and at 64,000 calls beside the size of the file. Where a row is flat, a call costs the same however
+# many contracts a node has. Run by hand; python3 measures.
 set -eu
 cd "$(dirname "$0")"
 ../clarity call ../examples/inc.clar add1 41 >/dev/null
 PYTHONDONTWRITEBYTECODE=1 python3 - <<'PYTHON'
+import hashlib
 import json
 import os
 import tempfile
 
-from measure import run
+from measure import instructions, run
 
+UNIT = "../examples/unit.json"
 SENDER = "SP000000000000000000002Q6VF78"
-SOURCE = (
+ALPHABET = "0123456789ABCDEFGHJKMNPQRSTVWXYZ"
+VARIABLE = (
     "(define-data-var n int 0)"
     "(define-public (put (x int)) (begin (var-set n x) (ok (+ x 1))))"
     "(define-public (no (x int)) (begin (var-set n x) (err x)))"
     "(define-read-only (sum (x int)) (+ x (var-get n)))"
 )
+AWAY = "(define-public (put (x int)) (contract-call? .c put x))"
+TOKEN = (
+    "(define-fungible-token coin)(ft-mint? coin u1000000 tx-sender)"
+    "(define-public (send (a uint) (from principal) (to principal)) (ft-transfer? coin a from to))"
+)
 
 
-def file_of(function, count):
-    deploy = {"deploy": {"sender": SENDER, "name": "c", "source": SOURCE}}
-    call = {"sender": SENDER, "contract": SENDER + ".c", "function": function}
-    calls = [{"call": {**call, "args": [str(i)]}} for i in range(count)]
-    return json.dumps({"version": 1, "genesis": [], "entries": [deploy, *calls]})
+def address(number):
+    """The text of the address whose hash is this number: version 22, C32 with a checksum of four bytes."""
+    data = number.to_bytes(20, "big")
+    check = hashlib.sha256(hashlib.sha256(bytes([22]) + data).digest()).digest()[:4]
+    value, text = int.from_bytes(data + check, "big"), ""
+    while value:
+        value, digit = divmod(value, 32)
+        text = ALPHABET[digit] + text
+    held = (data + check).lstrip(b"\0")
+    return "SP" + "0" * (24 - len(held)) + text
 
 
-print(f"{'function':9} {'calls':>7} {'seconds':>9} {'MiB':>7} {'us/call':>8}")
+HOLDERS = [SENDER] + [address(i) for i in range(1, 1000)]
+
+
+def deploy(name, source):
+    return {"deploy": {"sender": SENDER, "name": name, "source": source}}
+
+
+def call(contract, function, *args):
+    return {"call": {"sender": SENDER, "contract": f"{SENDER}.{contract}", "function": function, "args": list(args)}}
+
+
+def transfer(i):
+    # First one to each holder, then around in a ring.
+    start = "0" if i < 1000 else str(i % 1000)
+    return call("t", "send", "u1", "'" + HOLDERS[int(start)], "'" + HOLDERS[(i + 1) % 1000])
+
+
+ROWS = [
+    ("writes a variable", lambda i: call("c", "put", str(i)), " ok "),
+    ("err undoes the write", lambda i: call("c", "no", str(i)), " err "),
+    ("reads a variable", lambda i: call("c", "sum", str(i)), " value "),
+    ("transfers a token", transfer, " ok "),
+    ("calls another contract", lambda i: call("a", "put", str(i)), " ok "),
+]
+
+
+def file_of(of, contracts, calls):
+    others = [deploy(f"c{i}", "(define-read-only (f) 1)") for i in range(contracts)]
+    entries = [deploy("c", VARIABLE), deploy("t", TOKEN), *others, deploy("a", AWAY), *[of(i) for i in range(calls)]]
+    return json.dumps({"version": 1, "genesis": [], "entries": entries})
+
+
+def written(path, text):
+    with open(path, "w") as file:
+        return file.write(text)
+
+
+def cost(path):
+    counted = instructions(["run", UNIT, path], 0, "0 deploy")
+    return counted if counted is not None else min(run(["run", UNIT, path], 0, "0 deploy")[0] for _ in range(5)) * 1e9
+
+
 with tempfile.TemporaryDirectory() as folder:
     path = os.path.join(folder, "calls.json")
-    for function, answer in [("put", " ok "), ("no", " err "), ("sum", " value ")]:
-        for count in [1000 * 2**power for power in range(7)]:
-            with open(path, "w") as file:
-                file.write(file_of(function, count))
-            runs = [run(["run", path], 0, f"\n{count} call '{SENDER}.c {function}{answer}") for _ in range(5)]
-            seconds = min(one[0] for one in runs)
-            memory = max(one[1] for one in runs)
-            print(f"{function:9} {count:7} {seconds:9.4f} {memory:7.1f} {seconds / count * 1e6:8.2f}", flush=True)
+    print(f"{'call that':24} {'1 contract':>12} {'100':>10} {'1,000':>10}   MiB of 4,000 and 64,000 calls (of their files)")
+    for name, of, answer in ROWS:
+        each = []
+        for contracts in (1, 100, 1000):
+            costs = []
+            for calls in (2000, 4000):
+                written(path, file_of(of, contracts, calls))
+                costs.append(cost(path))
+            each.append((costs[1] - costs[0]) / 2000)
+        peaks = []
+        for calls in (4000, 64000):
+            size = written(path, file_of(of, 1, calls))
+            peaks.append(f"{run(['run', UNIT, path], 0, answer)[1]:.0f} ({size / 2**20:.0f})")
+        print(f"{name:24} {each[0]:12.0f} {each[1]:10.0f} {each[2]:10.0f}   {', '.join(peaks)}", flush=True)
 PYTHON
