@@ -1,4 +1,4 @@
-//! The world of a node with holders of STX, which no transaction file gives yet.
+//! The world of a node with holders of STX of whom one is there twice, which no transaction file gives.
 ghost use Rattle.std.specs.Prelude.{◌≡◌, true};
 ghost use Rattle.cl_events.specs.State.{State};
 ghost use Rattle.cl_state.specs.Deeds.{is_there};
