@@ -1,20 +1,22 @@
 -- What a limit leaves of sound answers.
-use Rattle.std.proofs.Common.{◌≡◌, List, [], ◌∷◌, ◌++◌, refl, sym, ap, subst, ◌∙◌, append_assoc}
+use Rattle.std.proofs.Common.{◌≡◌, ℕ, List, [], ◌∷◌, ◌++◌, Option, Some, None, refl, sym, ap, subst, ◌∙◌, append_assoc}
 use Rattle.cl_shapes.specs.declared.cost.Cost5.{Cost5}
-use Rattle.cl_shapes.specs.Costs.{plus, zero_cost, IsAtMost}
+use Rattle.cl_shapes.specs.declared.cost.Dimension.{Dimension}
+use Rattle.cl_shapes.specs.declared.name.CostName.{CostName}
+use Rattle.cl_shapes.specs.Costs.{plus, zero_cost, first_above, IsAtMost}
 use Rattle.cl_shapes.specs.Limits.{Purse}
 use Rattle.cl_values.specs.Tree.{Tree as Val}
 use Rattle.cl_events.specs.State.{State}
-use Rattle.cl_meaning.specs.Answers.{Outcome, Given, Thrown, Aborted, Wrong, Deeper, Answer, Note, Charged}
+use Rattle.cl_meaning.specs.Answers.{Outcome, Given, Thrown, Aborted, Wrong, Deeper, Answer, Note, Charged, Ended}
 use Rattle.cl_meaning.specs.Deployed.{Contract}
-use Rattle.cl_meaning.specs.Limits.{charges_of, cost_sum, cost, Paid, Within, Past, pay, Limited, Gave, Threw, AbortedBy, Passed, Lost, limit_on, limited}
+use Rattle.cl_meaning.specs.Limits.{charges_of, cost_of, cost_sum, cost, Paid, Within, Past, paid_by, pay, Limited, Gave, Threw, AbortedBy, Passed, Lost, limit_on, limited}
 use Rattle.cl_meaning.specs.Prefixes.{spent_after}
-use Rattle.cl_meaning.proofs.Prefixes.{IsPaid, paid_is}
+use Rattle.cl_meaning.proofs.Prefixes.{IsPaid, paid_is, plus_assoc, spending, spend_by, spend_found}
 use Rattle.cl_meaning.proofs.Stops.{enough_within, limited_within, spent_after-append}
 use Rattle.cl_rules.specs.Context.{CostTable}
 use Rattle.cl_expression_sound.specs.Sound.{World, IsKept, IsFine, IsSound, NoThrow}
 use Rattle.cl_expression_sound.proofs.Costs.{same_cost, at_most, more_of_both, and_more, none_at_most, turned, and_nothing}
-use Rattle.cl_contract_sound.specs.Laws.{IsFineUnder}
+use Rattle.cl_contract_sound.specs.Laws.{IsFineUnder, spent_in}
 use Rattle.cl_contract_sound.specs.Deployments.{IsFineEnd, IsFineEndUnder}
 
 fine_on : (K : World) (Expected : Val → Type 0) (paid : Paid) (o : Outcome Val) (s : State) → IsFine Expected NoThrow o → IsKept K s → IsFineUnder Expected (IsKept K) (limit_on paid o s)
@@ -91,3 +93,42 @@ charged_low costs limit a =
     subst (λ c. IsAtMost c sum) (paid_on r a.outcome a.state)
     (at_most (paid r) (plus zero_cost sum) sum (paid_low costs p a.log r (paid_is costs p a.log (none_at_most limit)))
     (at_most (plus zero_cost sum) (plus sum zero_cost) sum (turned zero_cost sum) (and_nothing sum)))
+
+-- ---- what is spent under a limit
+
+abbrev left : Paid → Cost5
+left (Within p) = p.spent
+left (Past over p) = p.spent
+
+left_on : {A : Type 0} (r : Paid) (o : Outcome A) (s : State) → left r ≡ spent_in (limit_on r o s)
+left_on (Past over p) o s = refl
+left_on (Within p) (Given a) s = refl
+left_on (Within p) (Thrown v) s = refl
+left_on (Within p) (Aborted why) s = refl
+left_on (Within p) Wrong s = refl
+left_on (Within p) Deeper s = refl
+
+-- a charge is spent, or nothing more is
+left_by : (costs : CostTable) (p : Purse) (name : CostName) (n : ℕ) (log : List Note) → ((q : Purse) → IsAtMost (left (pay costs (Within q) log)) (spent_after costs q log)) → (o : Option Dimension) →
+    IsAtMost (left (pay costs (paid_by p (spend_by p (cost_of costs name n) o)) log)) (spent_after costs p (Charged name n ∷ log))
+unfolding pay
+left_by costs p name n log later None =
+    subst (IsAtMost (left (pay costs (Within (spending p (cost_of costs name n))) log))) (plus_assoc p.spent (cost_of costs name n) (cost_sum costs (charges_of log))) (later (spending p (cost_of costs name n)))
+left_by costs p name n log later (Some d) = and_more p.spent p.spent (cost_sum costs (charges_of (Charged name n ∷ log))) (same_cost p.spent)
+
+-- what is spent of a log is no more than the whole
+left_low : (costs : CostTable) (p : Purse) (log : List Note) → IsAtMost (left (pay costs (Within p) log)) (spent_after costs p log)
+unfolding pay
+left_low costs p [] = and_more p.spent p.spent zero_cost (same_cost p.spent)
+left_low costs p (Charged name n ∷ log) =
+    subst (λ r. IsAtMost (left (pay costs (paid_by p r) log)) (spent_after costs p (Charged name n ∷ log))) (sym (spend_found p (cost_of costs name n) (first_above p.limit (plus p.spent (cost_of costs name n))) refl))
+    (left_by costs p name n log (λ q. left_low costs q log) (first_above p.limit (plus p.spent (cost_of costs name n))))
+left_low costs p (Ended span v ∷ log) = left_low costs p log
+
+-- what is spent under a limit is at most what was spent before and a bound of the cost
+pub spent_low : {A : Type 0} (costs : CostTable) (bound : Cost5) (a : Answer A) → IsAtMost (cost costs a) bound → (p : Purse) → IsAtMost (spent_in (limited costs p a)) (plus p.spent bound)
+unfolding limited cost
+spent_low costs bound a within p =
+    subst (λ c. IsAtMost c (plus p.spent bound)) (left_on (pay costs (Within p) a.log) a.outcome a.state)
+    (at_most (left (pay costs (Within p) a.log)) (spent_after costs p a.log) (plus p.spent bound) (left_low costs p a.log)
+    (more_of_both p.spent p.spent (cost_sum costs (charges_of a.log)) bound (same_cost p.spent) within))

@@ -23,6 +23,7 @@ use Rattle.cl_forms.specs.Fits.{KindFits}
 use Rattle.cl_expression_sound.specs.Sound.{AreBound}
 use Rattle.cl_expression_sound.specs.Stages.{IsDefining, AreDistinct, AreKnown}
 use Rattle.cl_contract_sound.specs.Nodes.{IsNode}
+use Rattle.cl_contract_sound.specs.Laws.{spent_in}
 
 -- each form is what its name stands for, and its literals fit
 abbrev pub AreItsForms : Contract → List Form → Type 0
@@ -103,3 +104,9 @@ BoundsSufficeForDeployments =
     (costs table : CostTable) (W : Deployed) (ks : List Known) (bound : Cost5) (a : Answer Contract) → IsSoundDeployment table (λ d t. IsNode costs (d ∷ W) ks t) bound a →
     (p : Purse) → IsAtMost (plus p.spent bound) p.limit →
     limited table p a ≡ limit_on (Within (record { limit = p.limit; spent = plus p.spent (cost table a) })) a.outcome a.state
+
+-- what is spent in the end is at most the bound and what was spent before
+abbrev pub DeploymentsSpendWithin : Type 0
+DeploymentsSpendWithin =
+    (costs table : CostTable) (W : Deployed) (ks : List Known) (bound : Cost5) (a : Answer Contract) → IsSoundDeployment table (λ d t. IsNode costs (d ∷ W) ks t) bound a →
+    (p : Purse) → IsAtMost (spent_in (limited table p a)) (plus p.spent bound)

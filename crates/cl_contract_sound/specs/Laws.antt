@@ -106,3 +106,17 @@ BoundsSuffice =
     (costs : CostTable) (W : Deployed) (t : PlainType) (bound : Cost5) (a : Answer Val) → IsSound (deployed_world costs W Whole) (λ v. IsOf v t) NoThrow bound a →
     (p : Purse) → IsAtMost (plus p.spent bound) p.limit →
     limited costs p a ≡ limit_on (Within (record { limit = p.limit; spent = plus p.spent (cost costs a) })) a.outcome a.state
+
+-- what is spent in the end
+abbrev pub spent_in : {A : Type 0} → Limited A → Cost5
+spent_in (Gave a s p) = p.spent
+spent_in (Threw v s p) = p.spent
+spent_in (AbortedBy why p) = p.spent
+spent_in (Passed over p) = p.spent
+spent_in (Lost p) = p.spent
+
+-- it is at most the bound and what was spent before
+abbrev pub CallsSpendWithin : Type 0
+CallsSpendWithin =
+    (costs : CostTable) (W : Deployed) (t : PlainType) (bound : Cost5) (a : Answer Val) → IsSound (deployed_world costs W Whole) (λ v. IsOf v t) NoThrow bound a →
+    (p : Purse) → IsAtMost (spent_in (limited costs p a)) (plus p.spent bound)

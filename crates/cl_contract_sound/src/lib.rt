@@ -1,8 +1,8 @@
 //! Calls and deployments of accepted contracts are sound. Each function here is a law, and does nothing.
 #![tactic(auto)]
 
-ghost use Rattle.cl_contract_sound.specs.Deployments.{DeploymentsAreSound, TextsAreSound, GenesisIsNode, LimitsLeaveDeployments, BoundsSufficeForDeployments};
-ghost use Rattle.cl_contract_sound.specs.Laws.{FunctionsAreSound, FunctionsAreSigned, FunctionsAreNamed, ExpressionsAreSound, LimitsLeaveSound, BoundsSuffice};
+ghost use Rattle.cl_contract_sound.specs.Deployments.{DeploymentsAreSound, TextsAreSound, GenesisIsNode, LimitsLeaveDeployments, BoundsSufficeForDeployments, DeploymentsSpendWithin};
+ghost use Rattle.cl_contract_sound.specs.Laws.{FunctionsAreSound, FunctionsAreSigned, FunctionsAreNamed, ExpressionsAreSound, LimitsLeaveSound, BoundsSuffice, CallsSpendWithin};
 
 /// A function of a deployed contract, called with values of its parameters' types in a state that is kept, gives a value of
 /// its return type or aborts: it is never wrong, throws nothing, and a depth of 256 is enough. The state after it is kept, and
@@ -41,4 +41,10 @@ pub fn limits_leave_sound_answers()
     ensures enough { BoundsSuffice }
     ensures deployments { LimitsLeaveDeployments }
     ensures enough_for_deployments { BoundsSufficeForDeployments }
+{}
+
+/// Whatever the limit, what a sound call or deployment has spent in the end is at most its bound and what was spent before.
+pub fn charges_stay_within_bounds()
+    ensures calls { CallsSpendWithin }
+    ensures deployments { DeploymentsSpendWithin }
 {}

@@ -4,4 +4,5 @@ pub mod Evaluated
 pub mod Knowing
 pub mod Deployments
 pub mod Nodes
+pub mod Within
 pub mod Valid

@@ -4,5 +4,6 @@ pub mod Known
 pub mod Steps
 pub mod Laws
 pub mod Sound
+pub mod Within
 pub mod Calling
 pub mod Deploying

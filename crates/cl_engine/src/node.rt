@@ -1,6 +1,8 @@
 //! The node.
 ghost use Rattle.std.specs.Prelude.{◌≡◌, ◌<◌, ◌≤◌, ◌^◌, [], IfOk, OnErr};
+ghost use Rattle.std.specs.List.{All};
 ghost use Rattle.cl_c32.specs.declared.principal.Principal.{Principal as Who};
+ghost use Rattle.cl_values.specs.Valid.{IsPrincipal};
 ghost use Rattle.cl_tokens.specs.Ledger.{balance};
 ghost use Rattle.cl_events.specs.State.{genesis, holder};
 ghost use Rattle.cl_file.specs.Entries.{height_after};
@@ -10,7 +12,9 @@ ghost use Rattle.cl_state.specs.Stack.{base_alone};
 ghost use Rattle.cl_meaning.specs.Kept.{Kept, Whole};
 ghost use Rattle.cl_contracts.specs.Seen.{AreIndexed, deployed_seen};
 ghost use Rattle.cl_tx.specs.Laws.{IsKept};
+ghost use Rattle.cl_node_sound.specs.Sound.{HasParts};
 ghost use Rattle.cl_engine.specs.Steps.{Makes};
+ghost use Rattle.cl_engine.specs.Within.{IsChargedWithin, GivesTyped};
 
 use crate::call::call;
 use crate::deploy::deploy;
@@ -20,7 +24,7 @@ use cl_bound::KnownBounds;
 use cl_c32::Principal;
 use cl_contracts::Deployed;
 use cl_costs::CostTable;
-use cl_node_sound::nodes_stay_sound;
+use cl_node_sound::{answers_have_their_types, costs_stay_within_bounds, nodes_stay_sound};
 use cl_state::World;
 use cl_tx::{Entry, TxResult, failed_entries_change_nothing};
 use cl_types::NoMemory;
@@ -74,6 +78,7 @@ impl Node {
         requires total { total holders.items < 2 ^ 128 }
         ensures first { IfOk result (λ n. n ≡ record { state = genesis holders.items; contracts = []; height = 0; costs = costs.now }) }
         ensures supply { IfOk result (λ n. n.state.stx.supply ≡ total holders.items) }
+        ensures principals { All (λ h. IsPrincipal h.0) holders.items }
         ensures balances { IfOk result (λ n. (who : Who) → balance (holder who) n.state.stx.balances ≡ sum_for who holders.items) }
     {
         nodes_stay_sound();
@@ -123,8 +128,17 @@ impl Node {
         ensures height { IfOk result (λ _. self.new.height ≡ height_after self.old.height entry.now) }
         ensures refused { OnErr result (self.new ≡ self.old) }
         ensures costs { self.new.costs ≡ self.old.costs }
+
+        // What the types keep of an entry.
+        ensures parts { HasParts entry.now }
+
+        // No entry is charged above its bound, and each answer is of its function's type.
+        ensures charged { IfOk result (λ r. IsChargedWithin self.old entry.now r) }
+        ensures typed { IfOk result (λ r. GivesTyped self.old entry.now r) }
     {
         nodes_stay_sound();
+        costs_stay_within_bounds();
+        answers_have_their_types();
         failed_entries_change_nothing();
         has_parts(entry);
         match entry {

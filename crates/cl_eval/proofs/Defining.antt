@@ -39,7 +39,12 @@ use Rattle.cl_meaning.specs.Limits.{Costs, cost_of, Limited, Gave, Lost, limited
 use Rattle.cl_meaning.specs.Meaning.{means}
 use Rattle.cl_meaning.specs.Scope.{Frame}
 use Rattle.cl_meaning.specs.Top.{top}
-use Rattle.cl_meaning.proofs.LimitLaws.{limited-stop, then_gave, charge_within}
+use Rattle.cl_meaning.proofs.LimitLaws.{limited-stop, charge_within}
+use Rattle.cl_eval.specs.Watching.{Seen, watched}
+use Rattle.cl_eval.specs.Watching as walks
+use Rattle.cl_eval.proofs.WatchLaws as watching
+use Rattle.cl_eval.proofs.WatchSteps as steps
+use Rattle.cl_eval.proofs.Unseen.{IsUnseen, stopped, paid}
 use Rattle.cl_eval.specs.declared.stop.Stop.{Stop}
 use Rattle.cl_eval.specs.declared.home.Home.{Home}
 use Rattle.cl_eval.specs.declared.context.Context.{Context}
@@ -48,7 +53,7 @@ use Rattle.cl_eval.specs.Named.{Named}
 use Rattle.cl_eval.specs.Homes.{frame_seen, home_seen, IsHome}
 use Rattle.cl_eval.specs.Seen.{scope, scope_of, Fits}
 use Rattle.cl_eval.specs.Runs.{Stops, Ends, Pays}
-use Rattle.cl_eval.specs.Deploys.{HasNoTokens, IsDeploying, contract_with, contract_so_far, contract_in, costs_of, top_of, defined_by, all_by, all_charged, cap_of, Makes}
+use Rattle.cl_eval.specs.Deploys.{HasNoTokens, IsDeploying, contract_with, contract_so_far, contract_in, costs_of, top_of, defined_by, all_by, all_charged, cap_of, Makes, Builds}
 use Rattle.cl_eval.proofs.Steps.{Handed, stops_then, stops_eq, charge_stops, ends_so}
 
 -- ---- the context at the top
@@ -137,6 +142,11 @@ pub charged_gives : {A : Type 0} (costs : Costs) (p q : Purse) (name : CostName)
 charged_gives costs p q name n a b s t paid same there =
     charge_within costs p q name n (give a s) paid ∙ limited-stop costs q (Given a) s ∙ ap (λ x. Gave x s q) same ∙ ap (λ u. Gave b u q) there
 
+-- the same, where somebody looks on
+pub charged_gives_seen : {A : Type 0} (costs : Costs) (p q : Purse) (k : Seen) (name : CostName) (n : ℕ) (a b : A) (s t : State) → spend p (cost_of costs name n) ≡ Ok q → a ≡ b → s ≡ t → watched costs p k (charged name n (give a s)) ≡ walks.Gave b t q k
+charged_gives_seen costs p q k name n a b s t paid same there =
+    watching.charge_within costs p q k name n (give a s) paid ∙ watching.watched-stop costs q k (Given a) s ∙ ap (λ x. walks.Gave x s q k) same ∙ ap (λ u. walks.Gave b u q k) there
+
 -- ---- one form after another
 
 none_more : (W : Deployed) (F : Frame) (c : Contract) (s : State) → all_defined W F [] c s ≡ give c s
@@ -156,19 +166,45 @@ next_form d n ns f constants s h =
     ∙ one_more (deployed_seen d.deployed.now) (frame_seen d.frame.now) f (forms_at (forms_of d.checked.now) ns) (contract_so_far d constants) s
 
 -- a turn of the loop over the places
-pub define_turn : (d : Deploying) (p q : Purse) (n : ℕ) (ns : List ℕ) (f : Form) (cs ds : List (List ℕ × Val)) (s t : State) → slice_get (forms_of d.checked.now) n ≡ Some f → limited (costs_of d) p (defined_by d f cs s) ≡ Gave (contract_so_far d ds) t q → limited (costs_of d) p (all_by d (n ∷ ns) cs s) ≡ limited (costs_of d) q (all_by d ns ds t)
-define_turn d p q n ns f cs ds s t h e =
-    ap (limited (costs_of d) p) (next_form d n ns f cs s h)
-    ∙ then_gave (costs_of d) p q (defined_by d f cs s) (all_defined (deployed_seen d.deployed.now) (frame_seen d.frame.now) (forms_at (forms_of d.checked.now) ns)) (contract_so_far d ds) t e
+pub define_turn : (d : Deploying) (p q : Purse) (j k : Seen) (n : ℕ) (ns : List ℕ) (f : Form) (cs ds : List (List ℕ × Val)) (s t : State) → slice_get (forms_of d.checked.now) n ≡ Some f → watched (costs_of d) p j (defined_by d f cs s) ≡ walks.Gave (contract_so_far d ds) t q k → watched (costs_of d) p j (all_by d (n ∷ ns) cs s) ≡ watched (costs_of d) q k (all_by d ns ds t)
+define_turn d p q j k n ns f cs ds s t h e =
+    ap (watched (costs_of d) p j) (next_form d n ns f cs s h)
+    ∙ watching.then_gave (costs_of d) p q j k (defined_by d f cs s) (all_defined (deployed_seen d.deployed.now) (frame_seen d.frame.now) (forms_at (forms_of d.checked.now) ns)) (contract_so_far d ds) t e
 
-pub define_stops : (d : Deploying) (p q : Purse) (n : ℕ) (ns : List ℕ) (f : Form) (cs : List (List ℕ × Val)) (s : State) (e : Stop) (t : State) → slice_get (forms_of d.checked.now) n ≡ Some f → Stops (limited (costs_of d) p (defined_by d f cs s)) e q t → Stops (limited (costs_of d) p (all_by d (n ∷ ns) cs s)) e q t
-define_stops d p q n ns f cs s e t h k =
-    stops_eq _ _ e q t (ap (limited (costs_of d) p) (next_form d n ns f cs s h))
-    (stops_then (costs_of d) p q (defined_by d f cs s) (all_defined (deployed_seen d.deployed.now) (frame_seen d.frame.now) (forms_at (forms_of d.checked.now) ns)) e t k)
+pub define_stops : (d : Deploying) (p q : Purse) (j k : Seen) (n : ℕ) (ns : List ℕ) (f : Form) (cs : List (List ℕ × Val)) (s : State) (e : Stop) (t : State) → slice_get (forms_of d.checked.now) n ≡ Some f → walks.Stops (watched (costs_of d) p j (defined_by d f cs s)) e q k t → walks.Stops (watched (costs_of d) p j (all_by d (n ∷ ns) cs s)) e q k t
+define_stops d p q j k n ns f cs s e t h stops =
+    steps.stops_eq _ _ e q k t (ap (watched (costs_of d) p j) (next_form d n ns f cs s h))
+    (steps.stops_then (costs_of d) p q j k (defined_by d f cs s) (all_defined (deployed_seen d.deployed.now) (frame_seen d.frame.now) (forms_at (forms_of d.checked.now) ns)) e t stops)
 
-pub define_end : (d : Deploying) (p : Purse) (cs : List (List ℕ × Val)) (s : State) → limited (costs_of d) p (all_by d [] cs s) ≡ Gave (contract_so_far d cs) s p
-define_end d p cs s =
-    ap (limited (costs_of d) p) (none_more (deployed_seen d.deployed.now) (frame_seen d.frame.now) (contract_so_far d cs) s) ∙ limited-stop (costs_of d) p (Given (contract_so_far d cs)) s
+pub define_end : (d : Deploying) (p : Purse) (k : Seen) (cs : List (List ℕ × Val)) (s : State) → watched (costs_of d) p k (all_by d [] cs s) ≡ walks.Gave (contract_so_far d cs) s p k
+define_end d p k cs s =
+    ap (watched (costs_of d) p k) (none_more (deployed_seen d.deployed.now) (frame_seen d.frame.now) (contract_so_far d cs) s) ∙ watching.watched-stop (costs_of d) p k (Given (contract_so_far d cs)) s
+
+-- ---- definitions of which nothing is seen
+
+-- a run of which nothing is seen
+pub builds : (d : Deploying) (p q : Purse) (k : Seen) (a : Answer Contract) (cs : List (List ℕ × Val)) (r : Result (Unit {0}) Stop) (s : State) → IsUnseen a → Makes d p a cs r q s → Builds d p k a cs r q k s
+builds d p q k a cs r s h makes = steps.unseen_ends (costs_of d) p q k a (contract_in d cs r) s (h (costs_of d) p) makes
+
+placed : (n : ℕ) (c : Contract) (s : State) → IsUnseen (charged Define n (give c s))
+placed n c s = paid Define n (give c s) (stopped (Given c) s)
+
+pub cap_unseen : (c : Contract) (x : List ℕ) (v : Val) (s : State) → IsUnseen (with_cap c x v s)
+cap_unseen c x (UintV n) s = placed _ _ _
+cap_unseen c x v s = stopped Wrong s
+
+module _ (W : Deployed) (F : Frame) (x : List ℕ) (c : Contract) (s : State) where
+  pub map_unseen : (key value : PlainType) → IsUnseen (defined W F x (MapForm key value) c s)
+  map_unseen key value = subst (λ a. IsUnseen a) (sym (map_at W F x c s key value)) (placed 0 c s)
+
+  pub uncapped_unseen : IsUnseen (defined W F x (FungibleForm None) c s)
+  uncapped_unseen = subst (λ a. IsUnseen a) (sym (uncapped_at W F x c s)) (placed 0 c _)
+
+  pub nonfungible_unseen : (type : PlainType) → IsUnseen (defined W F x (NonFungibleForm type) c s)
+  nonfungible_unseen type = subst (λ a. IsUnseen a) (sym (nonfungible_at W F x c s type)) (placed 0 c _)
+
+  pub function_unseen : (access : Access) (params : List (List ℕ × PlainType)) (body : Tree) → IsUnseen (defined W F x (FunctionForm access params body) c s)
+  function_unseen access params body = subst (λ a. IsUnseen a) (sym (function_at W F x c s access params body)) (placed 0 c s)
 
 -- ---- the whole
 
@@ -201,11 +237,11 @@ absent_there m p contract x y at named none =
 
 -- ---- by the definition's variant
 
-pub by_form : (d : Deploying) (p q : Purse) (k l : Definition) (cs ds : List (List ℕ × Val)) (r : Result (Unit {0}) Stop) (s t : State) → k ≡ l → Makes d p (defined_by d (form_defined l) cs s) ds r q t → Makes d p (defined_by d (form_defined k) cs s) ds r q t
-by_form d p q k l cs ds r s t is h = subst (λ (x : Definition). Makes d p (defined_by d (form_defined x) cs s) ds r q t) (sym is) h
+pub by_form : (d : Deploying) (p q : Purse) (i j : Seen) (k l : Definition) (cs ds : List (List ℕ × Val)) (r : Result (Unit {0}) Stop) (s t : State) → k ≡ l → Builds d p i (defined_by d (form_defined l) cs s) ds r q j t → Builds d p i (defined_by d (form_defined k) cs s) ds r q j t
+by_form d p q i j k l cs ds r s t is h = subst (λ (x : Definition). Builds d p i (defined_by d (form_defined x) cs s) ds r q j t) (sym is) h
 
-pub supply_form : (d : Deploying) (p q : Purse) (x : List ℕ) (at : Span) (k l : Option Typed) (cs ds : List (List ℕ × Val)) (r : Result (Unit {0}) Stop) (s t : State) → k ≡ l → Makes d p (defined_by d (record { name = Some x; kind = FungibleForm (expression_if l); span = at }) cs s) ds r q t → Makes d p (defined_by d (record { name = Some x; kind = FungibleForm (expression_if k); span = at }) cs s) ds r q t
-supply_form d p q x at k l cs ds r s t is h = subst (λ (o : Option Typed). Makes d p (defined_by d (record { name = Some x; kind = FungibleForm (expression_if o); span = at }) cs s) ds r q t) (sym is) h
+pub supply_form : (d : Deploying) (p q : Purse) (i j : Seen) (x : List ℕ) (at : Span) (k l : Option Typed) (cs ds : List (List ℕ × Val)) (r : Result (Unit {0}) Stop) (s t : State) → k ≡ l → Builds d p i (defined_by d (record { name = Some x; kind = FungibleForm (expression_if l); span = at }) cs s) ds r q j t → Builds d p i (defined_by d (record { name = Some x; kind = FungibleForm (expression_if k); span = at }) cs s) ds r q j t
+supply_form d p q i j x at k l cs ds r s t is h = subst (λ (o : Option Typed). Builds d p i (defined_by d (record { name = Some x; kind = FungibleForm (expression_if o); span = at }) cs s) ds r q j t) (sym is) h
 
 pub map_ends : (d : Deploying) (p q : Purse) (k : MapDefined) (cs : List (List ℕ × Val)) (r : Result (Unit {0}) Stop) (s : State) → Pays (costs_of d) p Define 0 r q → Makes d p (defined_by d (form_defined (MapOf k)) cs s) cs r q s
 map_ends d p q k cs r s h = ends_so _ _ _ q s (ap (limited (costs_of d) p) (map_at _ _ _ _ _ k.key k.value)) (charge_ends d cs (costs_of d) p q Define 0 s r h)

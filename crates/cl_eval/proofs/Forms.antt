@@ -12,7 +12,7 @@ use Rattle.cl_values.specs.Tree.{Tree as Val, BoolV}
 use Rattle.cl_values.specs.Natives.{native_value}
 use Rattle.cl_events.specs.State.{State}
 use Rattle.cl_code.specs.Typed.{Typed, expression_of}
-use Rattle.cl_meaning.specs.Answers.{Answer, Deeper, stop, give, wrong, charged, and_then, with_known, outcome_of}
+use Rattle.cl_meaning.specs.Answers.{Answer, Deeper, stop, give, wrong, charged, and_then, with_known, outcome_of, ending}
 use Rattle.cl_meaning.specs.Deployed.{Function, function_of}
 use Rattle.cl_meaning.specs.Scope.{Scope, home, OwnFunction, ByName, Callee, Take, Enter, parts, sizes, in_frame, as_contract}
 use Rattle.cl_meaning.specs.Control.{if_form, begin_form, last_of, choice, and_on, or_on, and_form, or_form, throwing, throw, wanted_part, err_part, asserts_form, unwrap_form, unwrap_err_form, tried, try_form, as_contract_form}
@@ -20,10 +20,12 @@ use Rattle.cl_meaning.specs.Values.{strict_form, on_values, number_of}
 use Rattle.cl_forms.specs.declared.head.TokenNative.TheVariants as natives
 use Rattle.cl_meaning.specs.Tokens.{print_form, stx_balance_form, token_form}
 use Rattle.cl_meaning.specs.Calls.{call_form, application, function_form, body_in, bound_to, native_form}
-use Rattle.cl_meaning.specs.Limits.{Costs, Lost, limited}
+use Rattle.cl_meaning.specs.Limits.{Costs, limited}
 use Rattle.cl_meaning.specs.Meaning.{node, means, applied}
 use Rattle.cl_meaning.proofs.Equations.{means_zero, means_step, applied_zero, applied_step}
-use Rattle.cl_meaning.proofs.LimitLaws.{limited-stop, limited-ending}
+use Rattle.cl_meaning.proofs.LimitLaws.{limited-ending}
+use Rattle.cl_eval.specs.Watching.{Seen, Lost, watched}
+use Rattle.cl_eval.proofs.WatchLaws.{watched-stop}
 use Rattle.std.specs.Prelude.{option_and_then}
 use Rattle.cl_sexpr.specs.Tree.{LeafAt, Unsigned}
 use Rattle.cl_code.specs.declared.op.Word.{Word}
@@ -102,15 +104,14 @@ print_at take S xs s l a ha = ap (λ ys. print_form take S (map expression_of ys
 
 -- ---- one level down
 
-pub means_none : (costs : Costs) (p : Purse) (depth : ℕ) (S : Scope) (e : Tree) (s : State) → depth ≡ 0 → limited costs p (means depth S e s) ≡ Lost p
-means_none costs p depth S e s h = ap (λ n. limited costs p (means n S e s)) h ∙ ap (limited costs p) (means_zero S e s) ∙ limited-stop costs p Deeper s
+pub means_none : (costs : Costs) (p : Purse) (sp : Seen) (depth : ℕ) (S : Scope) (e : Tree) (s : State) → depth ≡ 0 → watched costs p sp (means depth S e s) ≡ Lost p sp
+means_none costs p sp depth S e s h = ap (λ n. watched costs p sp (means n S e s)) h ∙ ap (watched costs p sp) (means_zero S e s) ∙ watched-stop costs p sp Deeper s
 
-pub means_down : (costs : Costs) (p : Purse) (depth : ℕ) (S : Scope) (e : Tree) (s : State) → 0 < depth → limited costs p (means depth S e s) ≡ limited costs p (node (means (depth - 1)) (applied (depth - 1)) S e s)
-means_down costs p zero S e s h = absurd (omega arith)
-means_down costs p (suc depth) S e s h =
+pub means_down : (costs : Costs) (p : Purse) (sp : Seen) (depth : ℕ) (S : Scope) (e : Tree) (s : State) → 0 < depth → watched costs p sp (means depth S e s) ≡ watched costs p sp (ending (span_of e) (node (means (depth - 1)) (applied (depth - 1)) S e s))
+means_down costs p sp zero S e s h = absurd (omega arith)
+means_down costs p sp (suc depth) S e s h =
     let k : depth ≡ suc depth - 1 = omega arith in
-    ap (limited costs p) (means_step depth S e s) ∙ limited-ending costs p (span_of e) (node (means depth) (applied depth) S e s)
-    ∙ ap (λ n. limited costs p (node (means n) (applied n) S e s)) k
+    ap (watched costs p sp) (means_step depth S e s) ∙ ap (λ n. watched costs p sp (ending (span_of e) (node (means n) (applied n) S e s))) k
 
 -- ---- natives on values, and calls
 
@@ -126,9 +127,9 @@ pub call_at : (x : List ℕ) (take : Take) (enter : Enter) (S : Scope) (es : Lis
 unfolding call_form
 call_at x take enter S es s = refl
 
-pub applied_none : (costs : Costs) (p : Purse) (depth : ℕ) (S : Scope) (f : Callee) (vs : List Val) (s : State) → depth ≡ 0 → limited costs p (applied depth S f vs s) ≡ Lost p
-applied_none costs p depth S f vs s h =
-    ap (λ n. limited costs p (applied n S f vs s)) h ∙ ap (limited costs p) (applied_zero S f vs s) ∙ limited-stop costs p Deeper s
+pub applied_none : (costs : Costs) (p : Purse) (sp : Seen) (depth : ℕ) (S : Scope) (f : Callee) (vs : List Val) (s : State) → depth ≡ 0 → watched costs p sp (applied depth S f vs s) ≡ Lost p sp
+applied_none costs p sp depth S f vs s h =
+    ap (λ n. watched costs p sp (applied n S f vs s)) h ∙ ap (watched costs p sp) (applied_zero S f vs s) ∙ watched-stop costs p sp Deeper s
 
 pub applied_down : (depth : ℕ) (S : Scope) (f : Function) (vs : List Val) (n : ℕ) (s : State) → 0 < depth → n ≡ length vs → applied depth S (OwnFunction f) vs s ≡ charged CallCost n (bound_to (body_in (means (depth - 1)) S f) [] f.params vs s)
 unfolding application function_form

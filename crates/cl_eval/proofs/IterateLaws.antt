@@ -22,12 +22,13 @@ use Rattle.cl_code.specs.OpNames.{iteration_head}
 use Rattle.cl_code.specs.Expression.{applied_name}
 use Rattle.cl_code.specs.Typed.{Typed, expression_of}
 use Rattle.cl_shapes.specs.declared.name.CostName.{CostName}
-use Rattle.cl_meaning.specs.Answers.{Answer, Wrong, give, charged, and_then, with_known}
+use Rattle.cl_meaning.specs.Answers.{Answer, Deeper, Wrong, give, charged, and_then, with_known}
 use Rattle.cl_meaning.specs.Deployed.{Function, function_of}
 use Rattle.cl_meaning.specs.Scope.{Scope, home, Callee, OwnFunction, ByName, Take, Enter, parts, sizes}
 use Rattle.cl_meaning.specs.Sequences.{own, by_row, callee_of, map_form, mapped, filter_form, filtered, fold_form, fold_of}
 use Rattle.cl_meaning.specs.Meaning.{head_form, applied}
 use Rattle.cl_meaning.specs.Calls.{native_form, truths, truth_value}
+use Rattle.cl_meaning.proofs.Equations.{applied_zero}
 use Rattle.cl_meaning.proofs.LimitLaws.{limited-stop}
 use Rattle.cl_meaning.specs.Values.{on_values}
 use Rattle.cl_meaning.specs.Limits.{Costs, Lost, limited}
@@ -114,6 +115,9 @@ all_natively cost vs s = refl
 some_natively : (cost : CostName) (vs : List Val) (s : State) → native_form heads.Or cost vs s ≡ joined false vs s
 unfolding native_form
 some_natively cost vs s = refl
+
+pub by_none : (costs : Costs) (p : Purse) (depth : ℕ) (S : Scope) (f : Callee) (vs : List Val) (s : State) → depth ≡ 0 → limited costs p (applied depth S f vs s) ≡ Lost p
+by_none costs p depth S f vs s h = ap (λ n. limited costs p (applied n S f vs s)) h ∙ ap (limited costs p) (applied_zero S f vs s) ∙ limited-stop costs p Deeper s
 
 pub by_values : (costs : Costs) (p : Purse) (depth : ℕ) (S : Scope) (b : ByNameOfCode) (n : Native) (at : Span) (vs : List Val) (s : State) → 0 < depth → b ≡ code.OnValues n at → limited costs p (applied depth S (by_name b) vs s) ≡ limited costs p (on_values n (row_of (heads.OnValues n)).cost vs s)
 by_values costs p depth S b n at vs s h k =

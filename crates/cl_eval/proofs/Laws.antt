@@ -1,7 +1,7 @@
 -- Literals, names, variables and maps: what each is, as equations.
 use Rattle.std.proofs.Common.{◌≡◌, ◌≢◌, ℕ, ◌+◌, Bool, true, false, List, [], ◌∷◌, ◌++◌, length, Option, Some, None, Result, Ok, Err, refl, sym, ap, ◌∙◌, subst, codes, ◌≤◌, arith}
 use Rattle.std.proofs.lemmas.Bool.Decides.{nat_tests}
-use Rattle.std.specs.Prelude.{if◌then◌else◌, is_some, nat_le, option_map}
+use Rattle.std.specs.Prelude.{if◌then◌else◌, not, is_some, nat_le, option_map}
 use Rattle.std.specs.Str.{bytes_eq}
 use Rattle.std.proofs.lemmas.Slice.Eq.{bytes_eq-Decides}
 use Rattle.cl_shapes.specs.Limits.{Purse}
@@ -20,6 +20,7 @@ use Rattle.cl_meaning.proofs.LimitLaws.{limited-stop}
 use Rattle.cl_values.specs.declared.native.Native.{Native}
 use Rattle.cl_values.specs.Natives.{native_value}
 use Rattle.cl_meaning.specs.Values.{on_values, number_of}
+use Rattle.cl_state.specs.Stack.{Stack, with_top}
 use Rattle.cl_eval.specs.declared.stop.Stop.{Stop}
 use Rattle.cl_eval.specs.Runs.{Computes}
 use Rattle.cl_eval.proofs.Steps.{gives}
@@ -144,11 +145,17 @@ pair_is S m act vs key v s there h = a_map S m _ s there ∙ ap (λ us. key_and_
 pub no_pair : (S : Scope) (m : List ℕ) (act : Val → Val → State → Answer Val) (vs : List Val) (s : State) → has_map m (home S) ≡ true → length vs ≢ 2 → with_map S m (key_and_value act vs) s ≡ wrong s
 no_pair S m act vs s there h = a_map S m _ s there ∙ not_pair act vs s h
 
-pub inserted_some : (S : Scope) (m : List ℕ) (key v old : Val) (o : Option Val) (s : State) → o ≡ Some old → insert_entry S m key v o s ≡ give (BoolV false) s
-inserted_some S m key v old o s h = ap (λ p. insert_entry S m key v p s) h
+pub inserted_is : (S : Scope) (m : List ℕ) (key v : Val) (o : Option Val) (b : Bool) (s t : State) → not b ≡ is_some o → (b ≡ true → t ≡ with_entries (put (spot S.frame.contract m key) v s.entries) s) → (b ≡ false → t ≡ s)
+    → insert_entry S m key v o s ≡ give (BoolV b) t
+inserted_is S m key v None true s t found done same = ap (give (BoolV true)) (sym (done refl))
+inserted_is S m key v None false s t found done same = absurd cc
+inserted_is S m key v (Some old) true s t found done same = absurd cc
+inserted_is S m key v (Some old) false s t found done same = ap (give (BoolV false)) (sym (same refl))
 
-pub inserted_none : (S : Scope) (m : List ℕ) (key v : Val) (o : Option Val) (s : State) → o ≡ None → insert_entry S m key v o s ≡ set_entry S m key v s
-inserted_none S m key v o s h = ap (λ p. insert_entry S m key v p s) h
+-- whether it was written or not
+pub same_below : (b : Bool) (old new : Stack) (s : State) → (b ≡ true → new ≡ with_top old s) → (b ≡ false → new ≡ old) → new.below ≡ old.below
+same_below true old new s done same = ap (λ (w : Stack). w.below) (done refl)
+same_below false old new s done same = ap (λ (w : Stack). w.below) (same refl)
 
 pub print_ends : (costs : Costs) (q : Purse) (F : Principal) (v told : Val) (s t : State) → told ≡ v → t ≡ with_event F (Print told) s → limited costs q (give v (with_event F (Print v) s)) ≡ Gave v t q
 print_ends costs q F v told s t h k = gives costs q v v (with_event F (Print v) s) t refl (k ∙ ap (λ x. with_event F (Print x) s) h)

@@ -24,3 +24,7 @@ pub mod Rows
 pub mod Iterating
 pub mod IterateLaws
 pub mod Sieving
+pub mod WatchLaws
+pub mod WatchSteps
+pub mod Unseen
+pub mod Telling

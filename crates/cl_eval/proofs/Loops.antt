@@ -10,7 +10,8 @@ use Rattle.cl_meaning.specs.Scope.{Scope, Frame, Take, in_frame}
 use Rattle.cl_meaning.specs.Meaning.{means}
 use Rattle.cl_sexpr.specs.Tree.{Tree}
 use Rattle.cl_meaning.specs.Control.{choice, and_on, or_on}
-use Rattle.cl_meaning.specs.Limits.{Costs, limited}
+use Rattle.cl_meaning.specs.Limits.{Costs}
+use Rattle.cl_eval.specs.Watching.{Seen, watched}
 use Rattle.std.specs.Prelude.{true, false}
 use Rattle.cl_eval.proofs.Parts.{next_part}
 use Rattle.std.specs.Prelude.{Option}
@@ -22,24 +23,24 @@ use Rattle.cl_eval.specs.declared.frame.Frame.{Frame as FrameOfCode}
 use Rattle.cl_eval.specs.declared.home.Home.{Home}
 use Rattle.cl_eval.specs.Homes.{IsHome, with_opening}
 
-pub and_next : (costs : Costs) (p : Purse) (take : Take) (S : Scope) (xs : List Typed) (i : ℕ) (x : Typed) (s : State) → i < length xs → x ≡ get_or xs i x → limited costs p (and_on take S (map expression_of (drop i xs)) s) ≡ limited costs p (and_then (take S (expression_of x) s) (λ v t. choice v (and_on take S (map expression_of (drop (i + 1) xs))) (give (BoolV false)) t))
+pub and_next : (costs : Costs) (p : Purse) (sp : Seen) (take : Take) (S : Scope) (xs : List Typed) (i : ℕ) (x : Typed) (s : State) → i < length xs → x ≡ get_or xs i x → watched costs p sp (and_on take S (map expression_of (drop i xs)) s) ≡ watched costs p sp (and_then (take S (expression_of x) s) (λ v t. choice v (and_on take S (map expression_of (drop (i + 1) xs))) (give (BoolV false)) t))
 unfolding and_on
-and_next costs p take S xs i x s h k = ap (λ l. limited costs p (and_on take S (map expression_of l) s)) (next_part xs i x h k)
+and_next costs p sp take S xs i x s h k = ap (λ l. watched costs p sp (and_on take S (map expression_of l) s)) (next_part xs i x h k)
 
-pub and_end : (costs : Costs) (p : Purse) (take : Take) (S : Scope) (xs : List Typed) (i : ℕ) (s : State) → length xs ≤ i → limited costs p (and_on take S (map expression_of (drop i xs)) s) ≡ limited costs p (give (BoolV true) s)
+pub and_end : (costs : Costs) (p : Purse) (sp : Seen) (take : Take) (S : Scope) (xs : List Typed) (i : ℕ) (s : State) → length xs ≤ i → watched costs p sp (and_on take S (map expression_of (drop i xs)) s) ≡ watched costs p sp (give (BoolV true) s)
 unfolding and_on
-and_end costs p take S xs i s h = ap (λ l. limited costs p (and_on take S (map expression_of l) s)) (drop_all i xs h)
+and_end costs p sp take S xs i s h = ap (λ l. watched costs p sp (and_on take S (map expression_of l) s)) (drop_all i xs h)
 
-pub or_next : (costs : Costs) (p : Purse) (take : Take) (S : Scope) (xs : List Typed) (i : ℕ) (x : Typed) (s : State) → i < length xs → x ≡ get_or xs i x → limited costs p (or_on take S (map expression_of (drop i xs)) s) ≡ limited costs p (and_then (take S (expression_of x) s) (λ v t. choice v (give (BoolV true)) (or_on take S (map expression_of (drop (i + 1) xs))) t))
+pub or_next : (costs : Costs) (p : Purse) (sp : Seen) (take : Take) (S : Scope) (xs : List Typed) (i : ℕ) (x : Typed) (s : State) → i < length xs → x ≡ get_or xs i x → watched costs p sp (or_on take S (map expression_of (drop i xs)) s) ≡ watched costs p sp (and_then (take S (expression_of x) s) (λ v t. choice v (give (BoolV true)) (or_on take S (map expression_of (drop (i + 1) xs))) t))
 unfolding or_on
-or_next costs p take S xs i x s h k = ap (λ l. limited costs p (or_on take S (map expression_of l) s)) (next_part xs i x h k)
+or_next costs p sp take S xs i x s h k = ap (λ l. watched costs p sp (or_on take S (map expression_of l) s)) (next_part xs i x h k)
 
-pub or_end : (costs : Costs) (p : Purse) (take : Take) (S : Scope) (xs : List Typed) (i : ℕ) (s : State) → length xs ≤ i → limited costs p (or_on take S (map expression_of (drop i xs)) s) ≡ limited costs p (give (BoolV false) s)
+pub or_end : (costs : Costs) (p : Purse) (sp : Seen) (take : Take) (S : Scope) (xs : List Typed) (i : ℕ) (s : State) → length xs ≤ i → watched costs p sp (or_on take S (map expression_of (drop i xs)) s) ≡ watched costs p sp (give (BoolV false) s)
 unfolding or_on
-or_end costs p take S xs i s h = ap (λ l. limited costs p (or_on take S (map expression_of l) s)) (drop_all i xs h)
+or_end costs p sp take S xs i s h = ap (λ l. watched costs p sp (or_on take S (map expression_of l) s)) (drop_all i xs h)
 
-pub in_another : (costs : Costs) (q : Purse) (depth : ℕ) (S : Scope) (F G : Frame) (e : Tree) (s : State) → G ≡ F → limited costs q (means depth (in_frame F S) e s) ≡ limited costs q (means depth (in_frame G S) e s)
-in_another costs q depth S F G e s h = ap (λ (H : Frame). limited costs q (means depth (in_frame H S) e s)) (sym h)
+pub in_another : (costs : Costs) (q : Purse) (sq : Seen) (depth : ℕ) (S : Scope) (F G : Frame) (e : Tree) (s : State) → G ≡ F → watched costs q sq (means depth (in_frame F S) e s) ≡ watched costs q sq (means depth (in_frame G S) e s)
+in_another costs q sq depth S F G e s h = ap (λ (H : Frame). watched costs q sq (means depth (in_frame H S) e s)) (sym h)
 
 pub same_home : (deployed : Deployed) (opening : Option Home) (home : Home) (F G : FrameOfCode) → G.contract ≡ F.contract → IsHome deployed opening home F → IsHome deployed opening home G
 same_home deployed opening home F G h fits = record {

@@ -5,6 +5,8 @@ use Rattle.cl_types.specs.declared.fault.Fault.{Fault}
 use Rattle.cl_types.specs.Fault.{IsRefusal}
 use Rattle.cl_arith.specs.declared.ArithRefusal.{ArithRefusal}
 use Rattle.cl_arith.specs.declared.ArithRefusal.TheVariants.{Overflow, Underflow, DivideByZero, NegativeArgument}
+use Rattle.cl_shapes.specs.declared.cost.Cost5.{Cost5}
+use Rattle.cl_shapes.specs.Costs.{plus, IsAtMost}
 use Rattle.cl_shapes.specs.Limits.{Purse}
 use Rattle.cl_values.specs.Tree.{Tree as Val}
 use Rattle.cl_values.specs.Typed.{IsOf, AreOf}
@@ -24,8 +26,9 @@ use Rattle.cl_contracts.specs.declared.checked.Checked.{Checked}
 use Rattle.cl_contracts.specs.Seen.{forms_of}
 use Rattle.cl_expression_sound.specs.Sound.{types_of_params}
 use Rattle.cl_contract_sound.specs.Nodes.{AreContracts, IsNode}
-use Rattle.cl_contract_sound.specs.Deployments.{IsFineEndUnder, LimitsLeaveDeployments, TextsAreSound, of_text}
-use Rattle.cl_contract_sound.specs.Laws.{FunctionsAreSigned, FunctionsAreSound, IsFineUnder, IsSigned, LimitsLeaveSound}
+use Rattle.cl_contract_sound.specs.Deployments.{DeploymentsSpendWithin, IsFineEndUnder, LimitsLeaveDeployments, TextsAreSound, of_text}
+use Rattle.cl_contract_sound.specs.Laws.{CallsSpendWithin, FunctionsAreSigned, FunctionsAreSound, IsFineUnder, IsSigned, LimitsLeaveSound, spent_in}
+use Rattle.cl_expression_sound.proofs.Costs.{and_more, same_cost}
 use Rattle.cl_eval.specs.declared.abort.Abort.{Abort}
 use Rattle.cl_eval.specs.declared.abort.Abort.TheVariants.{EarlyTop}
 use Rattle.cl_eval.specs.declared.stop.Stop.{Stop}
@@ -33,7 +36,7 @@ use Rattle.cl_eval.specs.declared.stop.Stop.TheVariants as stops
 use Rattle.cl_eval.specs.Aborts.{IsNotStuck, StopsCall, abort_of, fault_of}
 use Rattle.cl_eval.specs.Deploys.{contract_with}
 use Rattle.cl_eval.specs.Runs.{Stops}
-use Rattle.cl_eval.specs.Sound.{IsAcceptedAfter, IsFittingCall, IsKeptWorld, IsReturnOf}
+use Rattle.cl_eval.specs.Sound.{DeploySpendsWithin, IsAcceptedAfter, IsFittingCall, IsKeptWorld, IsReturnOf, SpendsWithin}
 
 -- principals and the height of a frame are within the limits
 pub record IsValidFrame (F : Frame) : Type 0 where
@@ -62,6 +65,20 @@ module _ (sound : FunctionsAreSound) (limits : LimitsLeaveSound) (W : Deployed) 
       let answer = f.sound F refl valid.sender valid.caller valid.height vs fitting s kept in
       subst (λ (o : Option Function). IsFineUnder (λ v. IsOf v g.returns) (Kept W Whole) (limited table p (with_known o (λ h. call_from W F h vs) s))) (sym f.there)
       (limits table W g.returns (g.bound table) (call_from W F f.function vs s) answer table p)
+
+  -- what is spent of it
+  pub call_spends : CallsSpendWithin → IsKeptWorld W s → (after : Purse) → ((most : Cost5) → IsAtMost (spent_in left) most → IsAtMost p.spent most → IsAtMost after.spent most) → SpendsWithin table W F.contract x p after
+  call_spends spend world after low = λ costs known contracts k at g told.
+      let f = sound costs W known contracts table F.contract k at x g told in
+      let same : f.function ≡ call.function = one_function f.function call.function (sym f.there ∙ call.there) in
+      let params : call.function.params ≡ g.params = ap (λ (h : Function). h.params) (sym same) ∙ f.params in
+      let fitting : AreOf vs (types_of_params g) = subst (λ (ps : List (List ℕ × PlainType)). AreOf vs (map (λ (param : List ℕ × PlainType). param.1) ps)) params call.fitting in
+      let answer = f.sound F refl valid.sender valid.caller valid.height vs fitting s world.node.kept in
+      let most : Cost5 = plus p.spent (g.bound table) in
+      low most
+      (subst (λ (o : Option Function). IsAtMost (spent_in (limited table p (with_known o (λ h. call_from W F h vs) s))) most) (sym f.there)
+      (spend table W g.returns (g.bound table) (call_from W F f.function vs s) answer p))
+      (and_more p.spent p.spent (g.bound table) (same_cost p.spent))
 
   found_in : (o : Option Contract) → function_of x o ≡ Some call.function → (c : Contract) × (o ≡ Some c) × (function_in x c.forms ≡ Some call.function)
   found_in None e = absurd cc
@@ -110,6 +127,17 @@ module _ (sound : TextsAreSound) (limits : LimitsLeaveDeployments) (W : Deployed
       (limits a.costs table W (a.known ++ known_of c.principal (length a.text) a.accepted.defined ∷ []) (a.accepted.defined.deploy table) (deployment W F (of_text c.principal a.text a.accepted.forms) s)
       (sound a.costs W a.known s a.node c.principal (subst IsPrincipal (sym home) valid.contract) a.new a.text a.accepted table F (sym home) valid.sender valid.caller valid.height)
       table p)
+
+  -- what is spent of it
+  pub deployment_spends : DeploymentsSpendWithin → (after : Purse) → ((most : Cost5) → IsAtMost (spent_in left_deployed) most → IsAtMost p.spent most → IsAtMost after.spent most) → IsAtMost after.spent (plus p.spent (a.accepted.defined.deploy table))
+  deployment_spends spend after low =
+      let most : Cost5 = plus p.spent (a.accepted.defined.deploy table) in
+      low most
+      (subst (λ (d : Contract). IsAtMost (spent_in (limited table p (deployment W F d s))) most) (sym same_contract)
+      (spend a.costs table W (a.known ++ known_of c.principal (length a.text) a.accepted.defined ∷ []) (a.accepted.defined.deploy table) (deployment W F (of_text c.principal a.text a.accepted.forms) s)
+      (sound a.costs W a.known s a.node c.principal (subst IsPrincipal (sym home) valid.contract) a.new a.text a.accepted table F (sym home) valid.sender valid.caller valid.height)
+      p))
+      (and_more p.spent p.spent (a.accepted.defined.deploy table) (same_cost p.spent))
 
   -- the state that it leaves is kept with the contract
   pub deployment_keeps : (d : Contract) (after : State) (q : Purse) → left_deployed ≡ Gave d after q → IsKeptWorld (d ∷ W) after

@@ -4,7 +4,7 @@ use Rattle.std.specs.Prelude.{not, is_some}
 use Rattle.cl_types.specs.Types.{PlainType}
 use Rattle.cl_shapes.specs.declared.name.CostName.TheVariants.{Literal}
 use Rattle.cl_sexpr.specs.declared.sexpr.Span.{Span}
-use Rattle.cl_sexpr.specs.Tree.{Tree, LeafAt, ListAt, Unsigned, forest, Named, Signed, Bytes, Ascii, Unicode, Standing, Local}
+use Rattle.cl_sexpr.specs.Tree.{Tree, LeafAt, ListAt, Unsigned, forest, Named, Signed, Bytes, Ascii, Unicode, Standing, Local, span_of}
 use Rattle.cl_values.specs.Tree.{Tree as Val, IntV, UintV, BuffV, AsciiV, Utf8V, PrincipalV}
 use Rattle.cl_values.specs.Valid.{made}
 use Rattle.cl_forms.specs.declared.head.Head.TheVariants as heads
@@ -131,3 +131,31 @@ pair_counts op head pairs seen ps qs h k e m =
     ap (λ (l : List Typed). length l) m
     ∙ exactly (length ps) (length pairs.items) (sym (ap (λ (o : Op). has_parts o (length ps)) k) ∙ h)
     ∙ ap (λ (l : List Binding). length l) (sym e)
+
+-- an expression stands where its node says
+stands_at : (op : Op) (es : List Tree) (at : Span) → at ≡ span_of (expression op es at)
+stands_at (Int z) es at = refl
+stands_at (Uint n) es at = refl
+stands_at (Buff bytes) es at = refl
+stands_at (AsciiOp bytes) es at = refl
+stands_at (Utf8 characters) es at = refl
+stands_at (StandingOp p) es at = refl
+stands_at (LocalOp c) es at = refl
+stands_at (Keyword k) es at = refl
+stands_at (Bound x) es at = refl
+stands_at (Constant x) es at = refl
+stands_at (OnValues n head) es at = refl
+stands_at (OnParts n head) es at = refl
+stands_at (OnName n head w) es at = refl
+stands_at (Iterate i head a) es at = refl
+stands_at (AsMaxLen head most literal) es at = refl
+stands_at (Tuple keys) es at = refl
+stands_at (TupleOf head pairs) es at = refl
+stands_at (Let head brackets bindings) es at = refl
+stands_at (MatchOptional head x) es at = refl
+stands_at (MatchResponse head x y) es at = refl
+stands_at (Call f) es at = refl
+stands_at (ContractCall head t f callee) es at = refl
+
+pub place_of : (code : Typed) (op : Op) (ps : List Typed) (ty : PlainType) (at : Span) → TypedAs (expression op (map expression_of ps) at) ty (typeds ps) ≡ code → at ≡ span_of (expression_of code)
+place_of code op ps ty at h = stands_at op (map expression_of ps) at ∙ ap (λ (c : Typed). span_of (expression_of c)) h

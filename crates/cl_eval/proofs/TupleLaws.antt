@@ -18,8 +18,9 @@ use Rattle.cl_code.specs.Typed.{Typed, expression_of}
 use Rattle.cl_meaning.specs.Answers.{and_then, with_known, Wrong}
 use Rattle.cl_meaning.specs.Scope.{Scope, Take, parts}
 use Rattle.cl_meaning.specs.Values.{tuple_form}
-use Rattle.cl_meaning.specs.Limits.{Costs, Lost, limited}
-use Rattle.cl_meaning.proofs.LimitLaws.{limited-stop}
+use Rattle.cl_meaning.specs.Limits.{Costs}
+use Rattle.cl_eval.specs.Watching.{Seen, Lost, watched}
+use Rattle.cl_eval.proofs.WatchLaws.{watched-stop}
 use Rattle.cl_eval.specs.Tails.{tuple_made}
 use Rattle.cl_eval.proofs.Parts.{next_part}
 
@@ -95,15 +96,15 @@ bound_are [] es = refl
 bound_are (b ∷ bs) [] = refl
 bound_are (b ∷ bs) (e ∷ es) = ap (and_binding (Some (b.word.name, e))) (bound_are bs es)
 
-pub bound_keys : (costs : Costs) (p : Purse) (take : Take) (S : Scope) (bs : List Binding) (keys seen : List (List ℕ)) (es : List Tree) (s : State) → keys ≡ bound_names bs → seen ≡ keys → limited costs p (with_known (bindings_of (bound_items bs es)) (tuple_form take S) s) ≡ limited costs p (tuple_form take S (zip seen es) s)
-bound_keys costs p take S bs keys seen es s h k =
-    ap (λ o. limited costs p (with_known o (tuple_form take S) s)) (bound_are bs es)
-    ∙ ap (λ l. limited costs p (tuple_form take S (zip l es) s)) (sym h ∙ sym k)
+pub bound_keys : (costs : Costs) (p : Purse) (sp : Seen) (take : Take) (S : Scope) (bs : List Binding) (keys seen : List (List ℕ)) (es : List Tree) (s : State) → keys ≡ bound_names bs → seen ≡ keys → watched costs p sp (with_known (bindings_of (bound_items bs es)) (tuple_form take S) s) ≡ watched costs p sp (tuple_form take S (zip seen es) s)
+bound_keys costs p sp take S bs keys seen es s h k =
+    ap (λ o. watched costs p sp (with_known o (tuple_form take S) s)) (bound_are bs es)
+    ∙ ap (λ l. watched costs p sp (tuple_form take S (zip l es) s)) (sym h ∙ sym k)
 
 -- the keys as the code hands them on
-pub keys_are : (costs : Costs) (p : Purse) (take : Take) (S : Scope) (keys seen : List (List ℕ)) (es : List Tree) (s : State) → seen ≡ keys → limited costs p (tuple_form take S (pairs_of (keyed keys es)) s) ≡ limited costs p (tuple_form take S (zip seen es) s)
-keys_are costs p take S keys seen es s h =
-    ap (λ l. limited costs p (tuple_form take S l s)) (keyed_are keys es) ∙ ap (λ l. limited costs p (tuple_form take S (zip l es) s)) (sym h)
+pub keys_are : (costs : Costs) (p : Purse) (sp : Seen) (take : Take) (S : Scope) (keys seen : List (List ℕ)) (es : List Tree) (s : State) → seen ≡ keys → watched costs p sp (tuple_form take S (pairs_of (keyed keys es)) s) ≡ watched costs p sp (tuple_form take S (zip seen es) s)
+keys_are costs p sp take S keys seen es s h =
+    ap (λ l. watched costs p sp (tuple_form take S l s)) (keyed_are keys es) ∙ ap (λ l. watched costs p sp (tuple_form take S (zip l es) s)) (sym h)
 
 no_parts : (take : Take) (S : Scope) (ks : List (List ℕ)) (xs : List Typed) (s : State) → length xs ≡ 0 → tuple_form take S (zip ks (map expression_of xs)) s ≡ Rattle.cl_meaning.specs.Answers.wrong s
 unfolding tuple_form
@@ -111,8 +112,8 @@ no_parts take S [] [] s h = refl
 no_parts take S (k ∷ ks) [] s h = refl
 no_parts take S ks (x ∷ xs) s h = absurd (omega arith)
 
-pub no_tuple : (costs : Costs) (p : Purse) (take : Take) (S : Scope) (ks : List (List ℕ)) (xs : List Typed) (s : State) → length xs ≡ 0 → limited costs p (tuple_form take S (zip ks (map expression_of xs)) s) ≡ Lost p
-no_tuple costs p take S ks xs s h = ap (limited costs p) (no_parts take S ks xs s h) ∙ limited-stop costs p Wrong s
+pub no_tuple : (costs : Costs) (p : Purse) (sp : Seen) (take : Take) (S : Scope) (ks : List (List ℕ)) (xs : List Typed) (s : State) → length xs ≡ 0 → watched costs p sp (tuple_form take S (zip ks (map expression_of xs)) s) ≡ Lost p sp
+no_tuple costs p sp take S ks xs s h = ap (watched costs p sp) (no_parts take S ks xs s h) ∙ watched-stop costs p sp Wrong s
 
 firsts : (ks : List (List ℕ)) (xs : List Typed) → length xs ≡ length ks → map (λ (q : List ℕ × Tree). q.0) (zip ks (map expression_of xs)) ≡ ks
 firsts [] xs h = refl
@@ -141,8 +142,8 @@ tuple_at take S ks xs s h k =
     ∙ ap (λ l. and_then (parts take S l s) (tuple_made (map (λ (q : List ℕ × Tree). q.0) (zip ks (map expression_of xs))))) (seconds ks xs k)
     ∙ ap (λ l. and_then (parts take S (map expression_of xs) s) (tuple_made l)) (firsts ks xs k)
 
-pub pairs_are : (costs : Costs) (p : Purse) (take : Take) (S : Scope) (bs seen : List Binding) (es : List Tree) (s : State) → seen ≡ bs → limited costs p (with_known (bindings_of (bound_items bs es)) (tuple_form take S) s) ≡ limited costs p (with_known (bindings_of (bound_items seen es)) (tuple_form take S) s)
-pairs_are costs p take S bs seen es s h = ap (λ l. limited costs p (with_known (bindings_of (bound_items l es)) (tuple_form take S) s)) (sym h)
+pub pairs_are : (costs : Costs) (p : Purse) (sp : Seen) (take : Take) (S : Scope) (bs seen : List Binding) (es : List Tree) (s : State) → seen ≡ bs → watched costs p sp (with_known (bindings_of (bound_items bs es)) (tuple_form take S) s) ≡ watched costs p sp (with_known (bindings_of (bound_items seen es)) (tuple_form take S) s)
+pairs_are costs p sp take S bs seen es s h = ap (λ l. watched costs p sp (with_known (bindings_of (bound_items l es)) (tuple_form take S) s)) (sym h)
 
 -- ---- names in brackets
 

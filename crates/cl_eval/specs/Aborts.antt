@@ -52,6 +52,11 @@ fault_of (stop.CostLimit over) = Some (Refused (CostLimit over))
 fault_of stop.Stuck = None
 fault_of stop.NoMemory = Some OutOfMemory
 
+-- what is spent then: after want of memory what was spent before
+abbrev pub purse_after : Stop → Purse → Purse → Purse
+purse_after stop.NoMemory before now = before
+purse_after e before now = now
+
 abbrev pub IsNotStuck : Stop → Type 0
 IsNotStuck stop.Stuck = ⊥
 IsNotStuck e = Unit {0}

@@ -37,6 +37,12 @@ by_name (OnValues native at) = ByName (row_of (heads.OnValues native)) at
 by_name (And at) = ByName (row_of heads.And) at
 by_name (Or at) = ByName (row_of heads.Or) at
 
+-- the place of its name
+abbrev pub place_by_name : ByNameOfCode → Span
+place_by_name (OnValues native at) = at
+place_by_name (And at) = at
+place_by_name (Or at) = at
+
 abbrev pub callee_seen : Called → Callee
 callee_seen (Function f) = OwnFunction (function_seen f.now)
 callee_seen (Native n) = by_name n

@@ -28,6 +28,8 @@ use Rattle.cl_eval.specs.declared.deploying.Deploying.{Deploying}
 use Rattle.cl_eval.specs.Aborts.{AbortsBy}
 use Rattle.cl_eval.specs.Homes.{frame_seen}
 use Rattle.cl_eval.specs.Runs.{Ends}
+use Rattle.cl_eval.specs.Watching.{Seen, watched}
+use Rattle.cl_eval.specs.Watching as walks
 
 -- a contract with the values that its constants have so far
 abbrev pub contract_with : Checked → List (List ℕ × Val) → Contract
@@ -101,6 +103,10 @@ contract_in d constants (Err stop) = Err stop
 -- what a definition shows of its meaning under the limit: the contract that is given has the constants that are there then
 abbrev pub Makes : Deploying → Purse → Answer Contract → List (List ℕ × Val) → Result (Unit {0}) Stop → Purse → State → Type 0
 Makes d p a constants r q s = Ends (limited (costs_of d) p a) (contract_in d constants r) q s
+
+-- the same, with what was seen before and then
+abbrev pub Builds : Deploying → Purse → Seen → Answer Contract → List (List ℕ × Val) → Result (Unit {0}) Stop → Purse → Seen → State → Type 0
+Builds d p j a constants r q k s = walks.Ends (watched (costs_of d) p j a) (contract_in d constants r) q k s
 
 -- the supply cap that a value is
 abbrev pub cap_of : Val → Option ℕ

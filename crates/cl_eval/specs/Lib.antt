@@ -12,3 +12,4 @@ pub mod Applying
 pub mod Rows
 pub mod Kept
 pub mod Sound
+pub mod Watching

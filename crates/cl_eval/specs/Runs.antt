@@ -1,19 +1,15 @@
 -- What runs show of the meaning under its limit.
 use Rattle.std.specs.Prelude.{◌≡◌, ℕ, Bool, true, false, List, [], ◌∷◌, Option, Some, None, Result, Ok, Err}
 use Rattle.std.proofs.Common.{Vec, Global}
-use Rattle.cl_types.specs.Types.{PlainType}
 use Rattle.cl_types.specs.declared.sized.Access.{Access}
 use Rattle.cl_types.specs.declared.sized.Access.TheVariants.{Public}
 use Rattle.cl_shapes.specs.Limits.{Purse, spend}
 use Rattle.cl_shapes.specs.declared.name.CostName.{CostName}
-use Rattle.cl_sexpr.specs.Tree.{Tree}
 use Rattle.cl_values.specs.Tree.{Tree as Val, BoolV, SomeV, NoneV, ResponseV}
 use Rattle.cl_events.specs.State.{State}
 use Rattle.cl_state.specs.Stack.{Stack, rest_of}
 use Rattle.cl_meaning.specs.Answers.{Outcome, Given, Aborted, Wrong, ByArithmetic, ByPanic, BySupply, Answer}
-use Rattle.cl_meaning.specs.Scope.{Bound, Scope, with_bound, Take}
-use Rattle.cl_meaning.specs.Control.{let_in}
-use Rattle.cl_meaning.specs.Calls.{closing, bound_to}
+use Rattle.cl_meaning.specs.Calls.{closing}
 use Rattle.cl_meaning.specs.Limits.{Costs, cost_of, Limited, Gave, Threw, AbortedBy, Passed, Lost, limited}
 use Rattle.cl_eval.specs.declared.stop.Stop.{Stop}
 use Rattle.cl_eval.specs.declared.stop.Stop.TheVariants.{Thrown, Arithmetic, Panic, Supply, CostLimit, Stuck, NoMemory}
@@ -65,18 +61,6 @@ Computes o (Err Panic) = o ≡ Aborted ByPanic
 Computes o (Err Stuck) = o ≡ Wrong
 Computes o (Err NoMemory) = Unit {0}
 Computes o (Err stop) = ⊥
-
--- whatever follows, on whatever state: parameters are bound to values and it goes on with them, or it stops there
-abbrev pub Binds : Costs → Purse → List (List ℕ × PlainType) → List Val → Result (Vec (List ℕ × Val) Global) Stop → Purse → Type 0
-Binds costs p params values (Ok bound) q =
-    (body : Bound → State → Answer Val) (s : State) → limited costs p (bound_to body [] params values s) ≡ limited costs q (body bound.items s)
-Binds costs p params values (Err stop) q =
-    (body : Bound → State → Answer Val) (s : State) → Stops (limited costs p (bound_to body [] params values s)) stop q s
-
--- names are bound, and what is left of let goes on with them; or it stops there
-abbrev pub BindsAll : Costs → Take → List Tree → (Bound → Scope) → Limited Val → Result (Vec (List ℕ × Val) Global) Stop → Purse → State → Type 0
-BindsAll costs take body S l (Ok own) q s = l ≡ limited costs q (let_in take body (S own.items) [] s)
-BindsAll costs take body S l (Err stop) q s = Stops l stop q s
 
 abbrev pub is_public : Access → Bool
 is_public Public = true

@@ -2,6 +2,8 @@
 use Rattle.std.specs.Prelude.{◌≡◌, ℕ, List, length, map, Some, None}
 use Rattle.cl_types.specs.Types.{PlainType}
 use Rattle.cl_c32.specs.declared.principal.Principal.{Principal}
+use Rattle.cl_shapes.specs.Costs.{plus, IsAtMost}
+use Rattle.cl_shapes.specs.Limits.{Purse}
 use Rattle.cl_values.specs.Tree.{Tree as Val}
 use Rattle.cl_values.specs.Typed.{IsOf, AreOf}
 use Rattle.cl_events.specs.State.{State}
@@ -32,6 +34,13 @@ IsReturnOf W p x v =
     (costs : CostTable) (known : List Known) → AreContracts costs W known →
     (k : Known) → known_at p known ≡ Some k → (g : Signature) → signature_in x k.functions ≡ Some g → IsOf v g.returns
 
+-- what is spent of a purse, after want of memory too, is at most what was spent before and the bound of the function that callers
+-- see
+abbrev pub SpendsWithin : CostTable → Deployed → Principal → List ℕ → Purse → Purse → Type 0
+SpendsWithin table W p x before after =
+    (costs : CostTable) (known : List Known) → AreContracts costs W known →
+    (k : Known) → known_at p known ≡ Some k → (g : Signature) → signature_in x k.functions ≡ Some g → IsAtMost after.spent (plus before.spent (g.bound table))
+
 -- ---- deployments
 
 -- A contract stands for a text that is accepted after the deployed contracts, none of which has its principal; and a state is kept
@@ -46,3 +55,7 @@ pub record IsAcceptedAfter (W : Deployed) (s : State) (c : Checked) : Type 0 whe
   pub forms : forms_of c ≡ accepted.forms
   pub order : c.order.items ≡ accepted.order
   pub size : c.source_length ≡ length text
+
+-- what is spent of a purse is at most what was spent before and the bound of the deployment
+abbrev pub DeploySpendsWithin : CostTable → Deployed → State → Checked → Purse → Purse → Type 0
+DeploySpendsWithin table W s c before after = (a : IsAcceptedAfter W s c) → IsAtMost after.spent (plus before.spent (a.accepted.defined.deploy table))

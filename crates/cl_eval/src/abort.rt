@@ -1,10 +1,10 @@
 //! How a call aborts.
 ghost use Rattle.std.specs.Prelude.{◌≡◌, Some};
-ghost use Rattle.cl_eval.specs.Aborts.{IsNotStuck, abort_of, fault_of};
+ghost use Rattle.cl_eval.specs.Aborts.{IsNotStuck, abort_of, fault_of, purse_after};
 
 use crate::stop::Stop;
 use cl_arith::ArithRefusal;
-use cl_shapes::Over;
+use cl_shapes::{Meter, Over};
 use cl_types::Fault;
 
 /// How a call aborts.
@@ -39,10 +39,11 @@ fn arithmetic_abort(refusal: ArithRefusal) -> Abort
     }
 }
 
-/// The abort, or want of memory, by which an evaluation stops.
-pub(crate) fn fault(stop: Stop) -> Fault<Abort>
+/// The abort, or want of memory, by which an evaluation stops. After want of memory the meter is as it was before.
+pub(crate) fn fault(stop: Stop, before: Meter, meter: &mut Meter) -> Fault<Abort>
     requires { IsNotStuck stop }
-    ensures { fault_of stop ≡ Some result }
+    ensures fault { fault_of stop ≡ Some result }
+    ensures meter { meter.new ≡ purse_after stop before meter.old }
 {
     match stop {
         Stop::Arithmetic(refusal) => Fault::Refused(arithmetic_abort(refusal)),
@@ -51,6 +52,9 @@ pub(crate) fn fault(stop: Stop) -> Fault<Abort>
         Stop::Thrown(_) => Fault::Refused(Abort::EarlyTop),
         Stop::CostLimit(over) => Fault::Refused(Abort::CostLimit(over)),
         Stop::Stuck => unreachable!(),
-        Stop::NoMemory => Fault::NoMemory,
+        Stop::NoMemory => {
+            *meter = before;
+            Fault::NoMemory
+        }
     }
 }

@@ -1,5 +1,5 @@
 //! Calls of other contracts.
-ghost use Rattle.std.specs.Prelude.{◌≡◌, ◌<◌, ◌∷◌, [], List, ℕ, length, map, option_map, option_and_then, IfSome};
+ghost use Rattle.std.specs.Prelude.{◌≡◌, ◌<◌, ◌≤◌, ◌∷◌, [], List, ℕ, length, map, option_map, option_and_then, IfSome};
 ghost use Rattle.cl_values.specs.Tree.{Tree};
 ghost use Rattle.cl_values.specs.Valid.{IsPrincipal};
 ghost use Rattle.cl_code.specs.Typed.{expression_of};
@@ -12,7 +12,7 @@ ghost use Rattle.cl_meaning.specs.Calls.{callable, contract_call_form, enter_the
 ghost use Rattle.cl_meaning.specs.Meaning.{means, applied};
 ghost use Rattle.cl_eval.specs.Homes.{home_seen, with_opening, IsOpening};
 ghost use Rattle.cl_eval.specs.Across.{principal_in, there, IsAt};
-ghost use Rattle.cl_eval.specs.Runs.{Runs};
+ghost use Rattle.cl_eval.specs.Watching.{Walks, amount};
 ghost use Rattle.cl_eval.specs.Seen.{scope, scope_of, Fits};
 
 use crate::calls::enter;
@@ -25,7 +25,7 @@ use crate::names::Names;
 use crate::payment::pay;
 use crate::stop::Stop;
 use cl_c32::Principal;
-use cl_code::{Code, Function, Target, Word};
+use cl_code::{Code, Function, Target, Watch, Word};
 use cl_contracts::{Checked, Deployed};
 use cl_shapes::{CostName, Meter};
 use cl_state::World;
@@ -119,7 +119,7 @@ fn callable<'a>(checked: &'a Checked, name: &Name) -> Option<&'a Function>
 
 /// A call of a function of another contract.
 #[cycle(evaluate)]
-pub(crate) fn evaluate_contract_call(
+pub(crate) fn evaluate_contract_call<W: Watch>(
     context: &Context,
     names: &Names,
     literal: &Target,
@@ -128,25 +128,36 @@ pub(crate) fn evaluate_contract_call(
     below: u32,
     world: &mut World,
     meter: &mut Meter,
+    watch: &mut W,
 ) -> Result<Val, Stop>
     requires { length codes.now < 1048576 }
-    ensures meant { Fits context.now → Runs context.now meter.old (contract_call_form (means below) (applied below) (scope context.now names.now) (target literal.now ∷ word function.now ∷ map expression_of codes.now) world.old.stack.top) result meter.new world.new.stack.top }
+    ensures meant { Fits context.now → Walks context.now meter.old (W.seen watch.old) (contract_call_form (means below) (applied below) (scope context.now names.now) (target literal.now ∷ word function.now ∷ map expression_of codes.now) world.old.stack.top) result meter.new (W.seen watch.new) world.new.stack.top }
     ensures below { world.new.stack.below ≡ world.old.stack.below }
+    ensures grew { amount (W.seen watch.old) ≤ amount (W.seen watch.new) }
 {
-    let values = evaluate_parts(context, names, codes, below, world, meter)?;
+    let values = evaluate_parts(context, names, codes, below, world, meter, watch)?;
     let principal = principal_of(context, literal);
     if same(&principal, &context.frame.contract) {
         return Err(Stop::Stuck);
     }
     match contract_there(context, &principal) {
-        Some(home) => enter_there(context, &home, &function.name, values, below, world, meter),
+        Some(home) => enter_there(
+            context,
+            &home,
+            &function.name,
+            values,
+            below,
+            world,
+            meter,
+            watch,
+        ),
         None => Err(Stop::Stuck),
     }
 }
 
 /// Applies a function of another contract to values, in that contract.
 #[cycle(evaluate)]
-fn enter_there(
+fn enter_there<W: Watch>(
     context: &Context,
     home: &Home,
     name: &Name,
@@ -154,10 +165,12 @@ fn enter_there(
     below: u32,
     world: &mut World,
     meter: &mut Meter,
+    watch: &mut W,
 ) -> Result<Val, Stop>
     requires { length values.items < 1048576 }
-    ensures meant { (bound : Bound) → Fits context.now → IsAt context.now home.now → Runs context.now meter.old (enter_there (applied below) (scope_of context.now bound) name.now values.items (home_seen home.now) world.old.stack.top) result meter.new world.new.stack.top }
+    ensures meant { (bound : Bound) → Fits context.now → IsAt context.now home.now → Walks context.now meter.old (W.seen watch.old) (enter_there (applied below) (scope_of context.now bound) name.now values.items (home_seen home.now) world.old.stack.top) result meter.new (W.seen watch.new) world.new.stack.top }
     ensures below { world.new.stack.below ≡ world.old.stack.below }
+    ensures grew { amount (W.seen watch.old) ≤ amount (W.seen watch.new) }
 {
     let length = u64::from(home.checked.source_length);
     pay(context.costs, meter, CostName::ContractCall, length)?;
@@ -172,7 +185,7 @@ fn enter_there(
                 frame: &frame,
                 costs: context.costs,
             };
-            enter(&inner, function, values, below, world, meter)
+            enter(&inner, function, values, below, world, meter, watch)
         }
         None => Err(Stop::Stuck),
     }

@@ -5,7 +5,8 @@ ghost use Rattle.cl_events.specs.State.{State};
 ghost use Rattle.cl_costs.specs.Tables.{function_of};
 ghost use Rattle.cl_meaning.specs.Limits.{Costs, limited};
 ghost use Rattle.cl_meaning.specs.Control.{last_of};
-ghost use Rattle.cl_eval.specs.Runs.{Ends, Binds, Closes, is_public, response_of, returned_result};
+ghost use Rattle.cl_eval.specs.Runs.{Ends, Closes, is_public, response_of, returned_result};
+ghost use Rattle.cl_eval.specs.Watching.{Binds};
 
 use crate::payment::pay;
 use crate::stop::Stop;

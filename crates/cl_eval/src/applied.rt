@@ -1,13 +1,14 @@
 //! What is given by name to be applied.
-ghost use Rattle.std.specs.Prelude.{◌≡◌, ◌<◌, List, ℕ, true, length, option_map};
+ghost use Rattle.std.specs.Prelude.{◌≡◌, ◌<◌, ◌≤◌, List, ℕ, true, length, option_map};
 ghost use Rattle.cl_values.specs.Tree.{Tree};
 ghost use Rattle.cl_events.specs.State.{State};
 ghost use Rattle.cl_code.specs.Nodes.{has_own_applied};
 ghost use Rattle.cl_meaning.specs.Sequences.{callee_of};
 ghost use Rattle.cl_meaning.specs.Calls.{truths};
 ghost use Rattle.cl_meaning.specs.Meaning.{applied};
-ghost use Rattle.cl_eval.specs.Applying.{callee_seen, by_name, name_of_applied, place_of_applied, truth_of, join, joined as joined_form};
+ghost use Rattle.cl_eval.specs.Applying.{callee_seen, by_name, place_by_name, name_of_applied, place_of_applied, truth_of, join, joined as joined_form};
 ghost use Rattle.cl_eval.specs.Runs.{Runs};
+ghost use Rattle.cl_eval.specs.Watching.{Walks, amount};
 ghost use Rattle.cl_eval.specs.Seen.{scope_of, Fits};
 
 use crate::context::Context;
@@ -15,7 +16,7 @@ use crate::finding::own_function;
 use crate::natives::native_on;
 use crate::payment::pay;
 use crate::stop::Stop;
-use cl_code::{Applied, Function};
+use cl_code::{Applied, Function, Watch};
 use cl_seq::bool_value;
 use cl_sexpr::Span;
 use cl_shapes::{CostName, Meter};
@@ -27,6 +28,17 @@ pub(crate) enum ByName {
     OnValues(Native, Span),
     And(Span),
     Or(Span),
+}
+
+impl ByName {
+    /// The place of its name.
+    pub(crate) fn place(&self) -> Span
+        ensures { result ≡ place_by_name self.now }
+    {
+        match self {
+            ByName::OnValues(_, at) | ByName::And(at) | ByName::Or(at) => *at,
+        }
+    }
 }
 
 /// What is applied to values.
@@ -100,7 +112,7 @@ fn joined_on(context: &Context, all: bool, values: Vec<Val>, meter: &mut Meter) 
 }
 
 /// Applies a native to values, to a depth.
-pub(crate) fn apply_by_name(
+fn apply_by_name(
     context: &Context,
     native: ByName,
     values: Vec<Val>,
@@ -118,4 +130,22 @@ pub(crate) fn apply_by_name(
         ByName::And(_) => joined_on(context, true, values, meter),
         ByName::Or(_) => joined_on(context, false, values, meter),
     }
+}
+
+/// Applies a native to values, to a depth, and tells the value that it gives at the place of its name.
+pub(crate) fn apply_watched<W: Watch>(
+    context: &Context,
+    native: ByName,
+    values: Vec<Val>,
+    depth: u32,
+    meter: &mut Meter,
+    watch: &mut W,
+) -> Result<Val, Stop>
+    requires { length values.items < 1048576 }
+    ensures meant { (bound : List (List ℕ × Tree)) (s : State) → Walks context.now meter.old (W.seen watch.old) (applied depth (scope_of context.now bound) (by_name native) values.items s) result meter.new (W.seen watch.new) s }
+    ensures grew { amount (W.seen watch.old) ≤ amount (W.seen watch.new) }
+{
+    let value = apply_by_name(context, native, values, depth, meter)?;
+    watch.saw(native.place(), &value)?;
+    Ok(value)
 }

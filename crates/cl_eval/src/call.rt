@@ -1,5 +1,5 @@
 //! Calls from outside.
-ghost use Rattle.std.specs.Prelude.{◌≡◌, ◌≢◌, ◌<◌, length, Some, IfOk};
+ghost use Rattle.std.specs.Prelude.{◌≡◌, ◌≢◌, ◌<◌, ◌≤◌, length, Some, IfOk};
 ghost use Rattle.cl_types.specs.Fault.{IfRefused};
 ghost use Rattle.cl_costs.specs.Tables.{function_of as cost_function};
 ghost use Rattle.cl_contracts.specs.Seen.{AreIndexed, IsEntry, contract_seen, deployed_seen};
@@ -9,8 +9,8 @@ ghost use Rattle.cl_meaning.specs.Limits.{limited};
 ghost use Rattle.cl_meaning.specs.Top.{call_from};
 ghost use Rattle.cl_eval.specs.Aborts.{Answers};
 ghost use Rattle.cl_eval.specs.Homes.{frame_seen};
-ghost use Rattle.cl_eval.specs.Runs.{Ends};
-ghost use Rattle.cl_eval.specs.Sound.{IsFittingCall, IsKeptWorld, IsReturnOf};
+ghost use Rattle.cl_eval.specs.Sound.{IsFittingCall, IsKeptWorld, IsReturnOf, SpendsWithin};
+ghost use Rattle.cl_eval.specs.Watching.{Ends, Tells, amount, trace, watched};
 
 use crate::abort::{Abort, fault};
 use crate::calls::enter;
@@ -18,7 +18,10 @@ use crate::context::Context;
 use crate::frame::{Frame, is_valid};
 use crate::home::Home;
 use crate::stop::Stop;
-use cl_contract_sound::{functions_are_sound, limits_leave_sound_answers};
+use cl_code::{Silent, Watch};
+use cl_contract_sound::{
+    charges_stay_within_bounds, functions_are_sound, limits_leave_sound_answers,
+};
 use cl_contracts::{Contract, Deployed};
 use cl_costs::CostTable;
 use cl_shapes::Meter;
@@ -31,7 +34,7 @@ use std::alloc::Global;
 pub(crate) const MOST_DEPTH: u32 = 256;
 
 /// Calls a function of a contract that is deployed under the frame's principal.
-fn call_in<'a>(
+fn call_in<'a, W: Watch>(
     alloc: Global,
     world: &mut World,
     deployed: &'a Deployed,
@@ -41,13 +44,15 @@ fn call_in<'a>(
     args: Vec<Val>,
     costs: &'a CostTable,
     meter: &mut Meter,
+    watch: &mut W,
 ) -> Result<Val, Stop>
     requires indexed { AreIndexed deployed.now }
     requires found { contract_at frame.now.contract (deployed_seen deployed.now) ≡ Some (contract_seen (frame.now.contract, contract.now)) }
     requires entry { IsEntry (frame.now.contract, contract.now) }
     requires few { length args.items < 4294967296 }
-    ensures meant { Ends (limited (cost_function costs.now) meter.old (with_known (function_of function.now (Some (contract_seen (frame.now.contract, contract.now)))) (λ f. call_from (deployed_seen deployed.now) (frame_seen frame.now) f args.items) world.old.stack.top)) result meter.new world.new.stack.top }
+    ensures meant { Ends (watched (cost_function costs.now) meter.old (W.seen watch.old) (with_known (function_of function.now (Some (contract_seen (frame.now.contract, contract.now)))) (λ f. call_from (deployed_seen deployed.now) (frame_seen frame.now) f args.items) world.old.stack.top)) result meter.new (W.seen watch.new) world.new.stack.top }
     ensures below { world.new.stack.below ≡ world.old.stack.below }
+    ensures grew { amount (W.seen watch.old) ≤ amount (W.seen watch.new) }
 {
     let context = Context {
         alloc,
@@ -61,12 +66,12 @@ fn call_in<'a>(
         costs,
     };
     match contract.function(function) {
-        Some(f) => enter(&context, f, args, MOST_DEPTH, world, meter),
+        Some(f) => enter(&context, f, args, MOST_DEPTH, world, meter, watch),
         None => Err(Stop::Stuck),
     }
 }
 
-fn call_named(
+fn call_named<W: Watch>(
     alloc: Global,
     world: &mut World,
     deployed: &Deployed,
@@ -75,15 +80,17 @@ fn call_named(
     args: Vec<Val>,
     costs: &CostTable,
     meter: &mut Meter,
+    watch: &mut W,
 ) -> Result<Val, Stop>
     requires indexed { AreIndexed deployed.now }
     requires few { length args.items < 4294967296 }
-    ensures meant { Ends (limited (cost_function costs.now) meter.old (with_known (function_of function.now (contract_at frame.now.contract (deployed_seen deployed.now))) (λ f. call_from (deployed_seen deployed.now) (frame_seen frame.now) f args.items) world.old.stack.top)) result meter.new world.new.stack.top }
+    ensures meant { Ends (watched (cost_function costs.now) meter.old (W.seen watch.old) (with_known (function_of function.now (contract_at frame.now.contract (deployed_seen deployed.now))) (λ f. call_from (deployed_seen deployed.now) (frame_seen frame.now) f args.items) world.old.stack.top)) result meter.new (W.seen watch.new) world.new.stack.top }
     ensures below { world.new.stack.below ≡ world.old.stack.below }
+    ensures grew { amount (W.seen watch.old) ≤ amount (W.seen watch.new) }
 {
     match deployed.find(&frame.contract) {
         Some(contract) => call_in(
-            alloc, world, deployed, contract, frame, function, args, costs, meter,
+            alloc, world, deployed, contract, frame, function, args, costs, meter, watch,
         ),
         None => Err(Stop::Stuck),
     }
@@ -91,7 +98,8 @@ fn call_named(
 
 /// Calls a function of the frame's contract with values of its parameters' types. What it does is done to the top state of the
 /// world, and charged to the meter. Where a public function answers err, the state is as before and the charges stay. It never
-/// aborts by `EarlyTop`. What it answers is of the function's return type, and the state that it leaves is kept.
+/// aborts by `EarlyTop`. What it answers is of the function's return type, and the state that it leaves is kept. Whatever it answers,
+/// what is charged is within the function's bound; after want of memory nothing is.
 pub fn run(
     alloc: Global,
     world: &mut World,
@@ -110,13 +118,59 @@ pub fn run(
     ensures returned { IfRefused result (λ abort. abort ≢ Abort.EarlyTop) }
     ensures typed { IfOk result (λ value. IsReturnOf (deployed_seen deployed.now) frame.now.contract function.now value) }
     ensures kept { IfOk result (λ _. IsKeptWorld (deployed_seen deployed.now) world.new.stack.top) }
+    ensures within { SpendsWithin (cost_function costs.now) (deployed_seen deployed.now) frame.now.contract function.now meter.old meter.new }
+    ensures memory { result ≡ Err Fault.NoMemory → meter.new ≡ meter.old }
     ensures below { world.new.stack.below ≡ world.old.stack.below }
+{
+    let mut nobody = Silent;
+    run_watched(
+        alloc,
+        world,
+        deployed,
+        frame,
+        function,
+        args,
+        costs,
+        meter,
+        &mut nobody,
+    )
+}
+
+/// Calls a function as `run` does, and tells `watch` the value of each node that gives one, in the order in which they end. Where
+/// the limit stops the call, these are the nodes before that charge; after want of memory, the start of them.
+pub fn run_watched<W: Watch>(
+    alloc: Global,
+    world: &mut World,
+    deployed: &Deployed,
+    frame: &Frame,
+    function: &Name,
+    args: Vec<Val>,
+    costs: &CostTable,
+    meter: &mut Meter,
+    watch: &mut W,
+) -> Result<Val, Fault<Abort>>
+    requires indexed { AreIndexed deployed.now }
+    requires kept { IsKeptWorld (deployed_seen deployed.now) world.old.stack.top }
+    requires called { IsFittingCall (deployed_seen deployed.now) frame.now.contract function.now args.items }
+    requires few { length args.items < 4294967296 }
+    ensures meant { Answers (limited (cost_function costs.now) meter.old (with_known (function_of function.now (contract_at frame.now.contract (deployed_seen deployed.now))) (λ f. call_from (deployed_seen deployed.now) (frame_seen frame.now) f args.items) world.old.stack.top)) result meter.new world.new.stack.top }
+    ensures returned { IfRefused result (λ abort. abort ≢ Abort.EarlyTop) }
+    ensures typed { IfOk result (λ value. IsReturnOf (deployed_seen deployed.now) frame.now.contract function.now value) }
+    ensures kept { IfOk result (λ _. IsKeptWorld (deployed_seen deployed.now) world.new.stack.top) }
+    ensures within { SpendsWithin (cost_function costs.now) (deployed_seen deployed.now) frame.now.contract function.now meter.old meter.new }
+    ensures memory { result ≡ Err Fault.NoMemory → meter.new ≡ meter.old }
+    ensures below { world.new.stack.below ≡ world.old.stack.below }
+    ensures seen { Tells (W.seen watch.old) (W.seen watch.new) (trace (cost_function costs.now) meter.old (with_known (function_of function.now (contract_at frame.now.contract (deployed_seen deployed.now))) (λ f. call_from (deployed_seen deployed.now) (frame_seen frame.now) f args.items) world.old.stack.top)) result }
 {
     functions_are_sound();
     limits_leave_sound_answers();
+    charges_stay_within_bounds();
     is_valid(frame);
-    match call_named(alloc, world, deployed, frame, function, args, costs, meter) {
+    let before = meter.copy();
+    match call_named(
+        alloc, world, deployed, frame, function, args, costs, meter, watch,
+    ) {
         Ok(value) => Ok(value),
-        Err(stop) => Err(fault(stop)),
+        Err(stop) => Err(fault(stop, before, meter)),
     }
 }

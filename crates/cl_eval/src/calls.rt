@@ -1,12 +1,12 @@
 //! The application of functions.
-ghost use Rattle.std.specs.Prelude.{◌≡◌, ◌<◌, length, map};
+ghost use Rattle.std.specs.Prelude.{◌≡◌, ◌<◌, ◌≤◌, length, map};
 ghost use Rattle.cl_contracts.specs.Seen.{function_seen};
 ghost use Rattle.cl_meaning.specs.Scope.{Bound, OwnFunction};
 ghost use Rattle.cl_meaning.specs.Calls.{call_form, body_in};
 ghost use Rattle.cl_code.specs.Typed.{expression_of};
 ghost use Rattle.cl_meaning.specs.Meaning.{means, applied};
 ghost use Rattle.cl_eval.specs.Seen.{scope, scope_of, Fits};
-ghost use Rattle.cl_eval.specs.Runs.{Runs};
+ghost use Rattle.cl_eval.specs.Watching.{Walks, amount};
 
 use crate::application::{bind, close, is_public, returned};
 use crate::context::Context;
@@ -15,7 +15,7 @@ use crate::finding::own_function;
 use crate::names::Names;
 use crate::payment::pay;
 use crate::stop::Stop;
-use cl_code::{Code, Function};
+use cl_code::{Code, Function, Watch};
 use cl_shapes::{CostName, Meter};
 use cl_state::World;
 use cl_types::Name;
@@ -23,7 +23,7 @@ use cl_values::Val;
 
 /// A call of a function of the contract.
 #[cycle(evaluate)]
-pub(crate) fn evaluate_call(
+pub(crate) fn evaluate_call<W: Watch>(
     context: &Context,
     names: &Names,
     name: &Name,
@@ -31,31 +31,35 @@ pub(crate) fn evaluate_call(
     below: u32,
     world: &mut World,
     meter: &mut Meter,
+    watch: &mut W,
 ) -> Result<Val, Stop>
     requires { length codes.now < 1048576 }
-    ensures meant { Fits context.now → Runs context.now meter.old (call_form name.now (means below) (applied below) (scope context.now names.now) (map expression_of codes.now) world.old.stack.top) result meter.new world.new.stack.top }
+    ensures meant { Fits context.now → Walks context.now meter.old (W.seen watch.old) (call_form name.now (means below) (applied below) (scope context.now names.now) (map expression_of codes.now) world.old.stack.top) result meter.new (W.seen watch.new) world.new.stack.top }
     ensures below { world.new.stack.below ≡ world.old.stack.below }
+    ensures grew { amount (W.seen watch.old) ≤ amount (W.seen watch.new) }
 {
-    let values = evaluate_parts(context, names, codes, below, world, meter)?;
+    let values = evaluate_parts(context, names, codes, below, world, meter, watch)?;
     match own_function(context, name) {
-        Some(function) => enter(context, function, values, below, world, meter),
+        Some(function) => enter(context, function, values, below, world, meter, watch),
         None => Err(Stop::Stuck),
     }
 }
 
 /// Applies a function to values, to a depth.
 #[cycle(evaluate)]
-pub(crate) fn enter(
+pub(crate) fn enter<W: Watch>(
     context: &Context,
     function: &Function,
     values: Vec<Val>,
     depth: u32,
     world: &mut World,
     meter: &mut Meter,
+    watch: &mut W,
 ) -> Result<Val, Stop>
     requires { length values.items < 4294967296 }
-    ensures meant { (outer : Bound) → Fits context.now → Runs context.now meter.old (applied depth (scope_of context.now outer) (OwnFunction (function_seen function.now)) values.items world.old.stack.top) result meter.new world.new.stack.top }
+    ensures meant { (outer : Bound) → Fits context.now → Walks context.now meter.old (W.seen watch.old) (applied depth (scope_of context.now outer) (OwnFunction (function_seen function.now)) values.items world.old.stack.top) result meter.new (W.seen watch.new) world.new.stack.top }
     ensures below { world.new.stack.below ≡ world.old.stack.below }
+    ensures grew { amount (W.seen watch.old) ≤ amount (W.seen watch.new) }
 {
     if depth == 0 {
         return Err(Stop::Stuck);
@@ -63,27 +67,29 @@ pub(crate) fn enter(
     pay(context.costs, meter, CostName::Call, values.len() as u64)?;
     let bound = bind(context.alloc, context.costs, function, values, meter)?;
     let names = Names::alone(&bound);
-    evaluate_body(context, function, &names, depth - 1, world, meter)
+    evaluate_body(context, function, &names, depth - 1, world, meter, watch)
 }
 
 /// The body of a function; where a public one answers err or stops, the state is as it was before.
 #[cycle(evaluate)]
-fn evaluate_body(
+fn evaluate_body<W: Watch>(
     context: &Context,
     function: &Function,
     names: &Names,
     below: u32,
     world: &mut World,
     meter: &mut Meter,
+    watch: &mut W,
 ) -> Result<Val, Stop>
-    ensures meant { (outer : Bound) → Fits context.now → Runs context.now meter.old (body_in (means below) (scope_of context.now outer) (function_seen function.now) names.now.values world.old.stack.top) result meter.new world.new.stack.top }
+    ensures meant { (outer : Bound) → Fits context.now → Walks context.now meter.old (W.seen watch.old) (body_in (means below) (scope_of context.now outer) (function_seen function.now) names.now.values world.old.stack.top) result meter.new (W.seen watch.new) world.new.stack.top }
     ensures below { world.new.stack.below ≡ world.old.stack.below }
+    ensures grew { amount (W.seen watch.old) ≤ amount (W.seen watch.new) }
 {
     if is_public(function.access) {
         world.push_layer()?;
-        let answer = evaluate(context, names, &function.body, below, world, meter);
+        let answer = evaluate(context, names, &function.body, below, world, meter, watch);
         close(returned(answer), world)
     } else {
-        returned(evaluate(context, names, &function.body, below, world, meter))
+        returned(evaluate(context, names, &function.body, below, world, meter, watch))
     }
 }

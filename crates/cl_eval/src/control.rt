@@ -1,11 +1,11 @@
 //! The natives that decide how their parts are taken.
-ghost use Rattle.std.specs.Prelude.{◌≡◌, ◌<◌, length, map};
+ghost use Rattle.std.specs.Prelude.{◌≡◌, ◌<◌, ◌≤◌, length, map};
 ghost use Rattle.cl_meaning.specs.Control.{if_form, begin_form, and_form, or_form, and_on, or_on, asserts_form, unwrap_form, unwrap_err_form, try_form, as_contract_form};
 ghost use Rattle.cl_meaning.specs.Tokens.{print_form};
 ghost use Rattle.cl_code.specs.Typed.{expression_of};
 ghost use Rattle.cl_meaning.specs.Meaning.{means};
 ghost use Rattle.cl_eval.specs.Seen.{scope, Fits};
-ghost use Rattle.cl_eval.specs.Runs.{Runs};
+ghost use Rattle.cl_eval.specs.Watching.{Walks, amount};
 
 use crate::application::last;
 use crate::context::Context;
@@ -16,88 +16,96 @@ use crate::names::Names;
 use crate::payment::pay;
 use crate::stop::Stop;
 use crate::way::{Way, err_way_of, into_content, tried, way_of};
-use cl_code::Code;
+use cl_code::{Code, Watch};
 use cl_seq::bool_value;
 use cl_shapes::{CostName, Meter};
 use cl_state::World;
 use cl_values::Val;
 
 #[cycle(evaluate)]
-pub(crate) fn evaluate_if(
+pub(crate) fn evaluate_if<W: Watch>(
     context: &Context,
     names: &Names,
     codes: &[Code],
     below: u32,
     world: &mut World,
     meter: &mut Meter,
+    watch: &mut W,
 ) -> Result<Val, Stop>
     requires { length codes.now ≡ 3 }
-    ensures meant { Fits context.now → Runs context.now meter.old (if_form (means below) (scope context.now names.now) (map expression_of codes.now) world.old.stack.top) result meter.new world.new.stack.top }
+    ensures meant { Fits context.now → Walks context.now meter.old (W.seen watch.old) (if_form (means below) (scope context.now names.now) (map expression_of codes.now) world.old.stack.top) result meter.new (W.seen watch.new) world.new.stack.top }
     ensures below { world.new.stack.below ≡ world.old.stack.below }
+    ensures grew { amount (W.seen watch.old) ≤ amount (W.seen watch.new) }
 {
     let test = &codes[0];
     let first = &codes[1];
     let second = &codes[2];
     pay(context.costs, meter, CostName::Control, 3)?;
-    let holds = evaluate_truth(context, names, test, below, world, meter)?;
+    let holds = evaluate_truth(context, names, test, below, world, meter, watch)?;
     if holds {
-        evaluate(context, names, first, below, world, meter)
+        evaluate(context, names, first, below, world, meter, watch)
     } else {
-        evaluate(context, names, second, below, world, meter)
+        evaluate(context, names, second, below, world, meter, watch)
     }
 }
 
 #[cycle(evaluate)]
-pub(crate) fn evaluate_begin(
+pub(crate) fn evaluate_begin<W: Watch>(
     context: &Context,
     names: &Names,
     codes: &[Code],
     below: u32,
     world: &mut World,
     meter: &mut Meter,
+    watch: &mut W,
 ) -> Result<Val, Stop>
     requires { length codes.now < 1048576 }
-    ensures meant { Fits context.now → Runs context.now meter.old (begin_form (means below) (scope context.now names.now) (map expression_of codes.now) world.old.stack.top) result meter.new world.new.stack.top }
+    ensures meant { Fits context.now → Walks context.now meter.old (W.seen watch.old) (begin_form (means below) (scope context.now names.now) (map expression_of codes.now) world.old.stack.top) result meter.new (W.seen watch.new) world.new.stack.top }
     ensures below { world.new.stack.below ≡ world.old.stack.below }
+    ensures grew { amount (W.seen watch.old) ≤ amount (W.seen watch.new) }
 {
     pay(context.costs, meter, CostName::Control, codes.len() as u64)?;
-    let values = evaluate_parts(context, names, codes, below, world, meter)?;
+    let values = evaluate_parts(context, names, codes, below, world, meter, watch)?;
     last(values)
 }
 
 #[cycle(evaluate)]
-pub(crate) fn evaluate_and(
+pub(crate) fn evaluate_and<W: Watch>(
     context: &Context,
     names: &Names,
     codes: &[Code],
     below: u32,
     world: &mut World,
     meter: &mut Meter,
+    watch: &mut W,
 ) -> Result<Val, Stop>
     requires few { length codes.now < 1048576 }
     requires some { 0 < length codes.now }
-    ensures meant { Fits context.now → Runs context.now meter.old (and_form (means below) (scope context.now names.now) (map expression_of codes.now) world.old.stack.top) result meter.new world.new.stack.top }
+    ensures meant { Fits context.now → Walks context.now meter.old (W.seen watch.old) (and_form (means below) (scope context.now names.now) (map expression_of codes.now) world.old.stack.top) result meter.new (W.seen watch.new) world.new.stack.top }
     ensures below { world.new.stack.below ≡ world.old.stack.below }
+    ensures grew { amount (W.seen watch.old) ≤ amount (W.seen watch.new) }
 {
     pay(context.costs, meter, CostName::Control, codes.len() as u64)?;
-    and_parts(context, names, codes, below, world, meter)
+    and_parts(context, names, codes, below, world, meter, watch)
 }
 
 /// The parts up to the first that is false.
 #[cycle(evaluate)]
-fn and_parts(
+fn and_parts<W: Watch>(
     context: &Context,
     names: &Names,
     codes: &[Code],
     below: u32,
     world: &mut World,
     meter: &mut Meter,
+    watch: &mut W,
 ) -> Result<Val, Stop>
-    ensures meant { Fits context.now → Runs context.now meter.old (and_on (means below) (scope context.now names.now) (map expression_of codes.now) world.old.stack.top) result meter.new world.new.stack.top }
+    ensures meant { Fits context.now → Walks context.now meter.old (W.seen watch.old) (and_on (means below) (scope context.now names.now) (map expression_of codes.now) world.old.stack.top) result meter.new (W.seen watch.new) world.new.stack.top }
     ensures below { world.new.stack.below ≡ world.old.stack.below }
+    ensures grew { amount (W.seen watch.old) ≤ amount (W.seen watch.new) }
 {
     for code in codes {
-        let holds = evaluate_truth(context, names, code, below, world, meter)?;
+        let holds = evaluate_truth(context, names, code, below, world, meter, watch)?;
         if !holds {
             return Ok(bool_value(false));
         }
@@ -106,38 +114,42 @@ fn and_parts(
 }
 
 #[cycle(evaluate)]
-pub(crate) fn evaluate_or(
+pub(crate) fn evaluate_or<W: Watch>(
     context: &Context,
     names: &Names,
     codes: &[Code],
     below: u32,
     world: &mut World,
     meter: &mut Meter,
+    watch: &mut W,
 ) -> Result<Val, Stop>
     requires few { length codes.now < 1048576 }
     requires some { 0 < length codes.now }
-    ensures meant { Fits context.now → Runs context.now meter.old (or_form (means below) (scope context.now names.now) (map expression_of codes.now) world.old.stack.top) result meter.new world.new.stack.top }
+    ensures meant { Fits context.now → Walks context.now meter.old (W.seen watch.old) (or_form (means below) (scope context.now names.now) (map expression_of codes.now) world.old.stack.top) result meter.new (W.seen watch.new) world.new.stack.top }
     ensures below { world.new.stack.below ≡ world.old.stack.below }
+    ensures grew { amount (W.seen watch.old) ≤ amount (W.seen watch.new) }
 {
     pay(context.costs, meter, CostName::Control, codes.len() as u64)?;
-    or_parts(context, names, codes, below, world, meter)
+    or_parts(context, names, codes, below, world, meter, watch)
 }
 
 /// The parts up to the first that is true.
 #[cycle(evaluate)]
-fn or_parts(
+fn or_parts<W: Watch>(
     context: &Context,
     names: &Names,
     codes: &[Code],
     below: u32,
     world: &mut World,
     meter: &mut Meter,
+    watch: &mut W,
 ) -> Result<Val, Stop>
-    ensures meant { Fits context.now → Runs context.now meter.old (or_on (means below) (scope context.now names.now) (map expression_of codes.now) world.old.stack.top) result meter.new world.new.stack.top }
+    ensures meant { Fits context.now → Walks context.now meter.old (W.seen watch.old) (or_on (means below) (scope context.now names.now) (map expression_of codes.now) world.old.stack.top) result meter.new (W.seen watch.new) world.new.stack.top }
     ensures below { world.new.stack.below ≡ world.old.stack.below }
+    ensures grew { amount (W.seen watch.old) ≤ amount (W.seen watch.new) }
 {
     for code in codes {
-        let holds = evaluate_truth(context, names, code, below, world, meter)?;
+        let holds = evaluate_truth(context, names, code, below, world, meter, watch)?;
         if holds {
             return Ok(bool_value(true));
         }
@@ -146,108 +158,118 @@ fn or_parts(
 }
 
 #[cycle(evaluate)]
-pub(crate) fn evaluate_asserts(
+pub(crate) fn evaluate_asserts<W: Watch>(
     context: &Context,
     names: &Names,
     codes: &[Code],
     below: u32,
     world: &mut World,
     meter: &mut Meter,
+    watch: &mut W,
 ) -> Result<Val, Stop>
     requires { length codes.now ≡ 2 }
-    ensures meant { Fits context.now → Runs context.now meter.old (asserts_form (means below) (scope context.now names.now) (map expression_of codes.now) world.old.stack.top) result meter.new world.new.stack.top }
+    ensures meant { Fits context.now → Walks context.now meter.old (W.seen watch.old) (asserts_form (means below) (scope context.now names.now) (map expression_of codes.now) world.old.stack.top) result meter.new (W.seen watch.new) world.new.stack.top }
     ensures below { world.new.stack.below ≡ world.old.stack.below }
+    ensures grew { amount (W.seen watch.old) ≤ amount (W.seen watch.new) }
 {
     let test = &codes[0];
     let thrown = &codes[1];
     pay(context.costs, meter, CostName::Control, 2)?;
-    let holds = evaluate_truth(context, names, test, below, world, meter)?;
+    let holds = evaluate_truth(context, names, test, below, world, meter, watch)?;
     if holds {
         Ok(bool_value(true))
     } else {
-        evaluate_thrown(context, names, thrown, below, world, meter)
+        evaluate_thrown(context, names, thrown, below, world, meter, watch)
     }
 }
 
 #[cycle(evaluate)]
-pub(crate) fn evaluate_unwrap(
+pub(crate) fn evaluate_unwrap<W: Watch>(
     context: &Context,
     names: &Names,
     codes: &[Code],
     below: u32,
     world: &mut World,
     meter: &mut Meter,
+    watch: &mut W,
 ) -> Result<Val, Stop>
     requires { length codes.now ≡ 2 }
-    ensures meant { Fits context.now → Runs context.now meter.old (unwrap_form (means below) (scope context.now names.now) (map expression_of codes.now) world.old.stack.top) result meter.new world.new.stack.top }
+    ensures meant { Fits context.now → Walks context.now meter.old (W.seen watch.old) (unwrap_form (means below) (scope context.now names.now) (map expression_of codes.now) world.old.stack.top) result meter.new (W.seen watch.new) world.new.stack.top }
     ensures below { world.new.stack.below ≡ world.old.stack.below }
+    ensures grew { amount (W.seen watch.old) ≤ amount (W.seen watch.new) }
 {
     let whole = &codes[0];
     let thrown = &codes[1];
     pay(context.costs, meter, CostName::Control, 2)?;
-    let value = evaluate(context, names, whole, below, world, meter)?;
+    let value = evaluate(context, names, whole, below, world, meter, watch)?;
     match way_of(&value) {
         Way::Good => Ok(into_content(value)),
-        Way::Bad => evaluate_thrown(context, names, thrown, below, world, meter),
+        Way::Bad => evaluate_thrown(context, names, thrown, below, world, meter, watch),
         Way::Neither => Err(Stop::Stuck),
     }
 }
 
 #[cycle(evaluate)]
-pub(crate) fn evaluate_unwrap_err(
+pub(crate) fn evaluate_unwrap_err<W: Watch>(
     context: &Context,
     names: &Names,
     codes: &[Code],
     below: u32,
     world: &mut World,
     meter: &mut Meter,
+    watch: &mut W,
 ) -> Result<Val, Stop>
     requires { length codes.now ≡ 2 }
-    ensures meant { Fits context.now → Runs context.now meter.old (unwrap_err_form (means below) (scope context.now names.now) (map expression_of codes.now) world.old.stack.top) result meter.new world.new.stack.top }
+    ensures meant { Fits context.now → Walks context.now meter.old (W.seen watch.old) (unwrap_err_form (means below) (scope context.now names.now) (map expression_of codes.now) world.old.stack.top) result meter.new (W.seen watch.new) world.new.stack.top }
     ensures below { world.new.stack.below ≡ world.old.stack.below }
+    ensures grew { amount (W.seen watch.old) ≤ amount (W.seen watch.new) }
 {
     let whole = &codes[0];
     let thrown = &codes[1];
     pay(context.costs, meter, CostName::Control, 2)?;
-    let value = evaluate(context, names, whole, below, world, meter)?;
+    let value = evaluate(context, names, whole, below, world, meter, watch)?;
     match err_way_of(&value) {
         Way::Good => Ok(into_content(value)),
-        Way::Bad => evaluate_thrown(context, names, thrown, below, world, meter),
+        Way::Bad => evaluate_thrown(context, names, thrown, below, world, meter, watch),
         Way::Neither => Err(Stop::Stuck),
     }
 }
 
 #[cycle(evaluate)]
-pub(crate) fn evaluate_try(
+pub(crate) fn evaluate_try<W: Watch>(
     context: &Context,
     names: &Names,
     codes: &[Code],
     below: u32,
     world: &mut World,
     meter: &mut Meter,
+    watch: &mut W,
 ) -> Result<Val, Stop>
     requires { length codes.now ≡ 1 }
-    ensures meant { Fits context.now → Runs context.now meter.old (try_form (means below) (scope context.now names.now) (map expression_of codes.now) world.old.stack.top) result meter.new world.new.stack.top }
+    ensures meant { Fits context.now → Walks context.now meter.old (W.seen watch.old) (try_form (means below) (scope context.now names.now) (map expression_of codes.now) world.old.stack.top) result meter.new (W.seen watch.new) world.new.stack.top }
     ensures below { world.new.stack.below ≡ world.old.stack.below }
+    ensures grew { amount (W.seen watch.old) ≤ amount (W.seen watch.new) }
 {
     let whole = &codes[0];
     pay(context.costs, meter, CostName::Control, 1)?;
-    let value = evaluate(context, names, whole, below, world, meter)?;
+    let value = evaluate(context, names, whole, below, world, meter, watch)?;
     tried(value)
 }
 
 #[cycle(evaluate)]
-pub(crate) fn evaluate_as_contract(
+pub(crate) fn evaluate_as_contract<W: Watch>(
     context: &Context,
     names: &Names,
     codes: &[Code],
     below: u32,
     world: &mut World,
     meter: &mut Meter,
+    watch: &mut W,
 ) -> Result<Val, Stop>
     requires { length codes.now ≡ 1 }
-    ensures meant { Fits context.now → Runs context.now meter.old (as_contract_form (means below) (scope context.now names.now) (map expression_of codes.now) world.old.stack.top) result meter.new world.new.stack.top }
+    ensures meant { Fits context.now → Walks context.now meter.old (W.seen watch.old) (as_contract_form (means below) (scope context.now names.now) (map expression_of codes.now) world.old.stack.top) result meter.new (W.seen watch.new) world.new.stack.top }
     ensures below { world.new.stack.below ≡ world.old.stack.below }
+    ensures grew { amount (W.seen watch.old) ≤ amount (W.seen watch.new) }
 {
     let part = &codes[0];
     pay(context.costs, meter, CostName::Control, 1)?;
@@ -260,23 +282,25 @@ pub(crate) fn evaluate_as_contract(
         frame: &frame,
         costs: context.costs,
     };
-    evaluate(&inner, names, part, below, world, meter)
+    evaluate(&inner, names, part, below, world, meter, watch)
 }
 
 #[cycle(evaluate)]
-pub(crate) fn evaluate_print(
+pub(crate) fn evaluate_print<W: Watch>(
     context: &Context,
     names: &Names,
     codes: &[Code],
     below: u32,
     world: &mut World,
     meter: &mut Meter,
+    watch: &mut W,
 ) -> Result<Val, Stop>
     requires { length codes.now ≡ 1 }
-    ensures meant { Fits context.now → Runs context.now meter.old (print_form (means below) (scope context.now names.now) (map expression_of codes.now) world.old.stack.top) result meter.new world.new.stack.top }
+    ensures meant { Fits context.now → Walks context.now meter.old (W.seen watch.old) (print_form (means below) (scope context.now names.now) (map expression_of codes.now) world.old.stack.top) result meter.new (W.seen watch.new) world.new.stack.top }
     ensures below { world.new.stack.below ≡ world.old.stack.below }
+    ensures grew { amount (W.seen watch.old) ≤ amount (W.seen watch.new) }
 {
     let part = &codes[0];
-    let value = evaluate(context, names, part, below, world, meter)?;
+    let value = evaluate(context, names, part, below, world, meter, watch)?;
     print(context, value, world, meter)
 }

@@ -1,12 +1,11 @@
 //! Natives with a name, where the values of their parts are there.
-ghost use Rattle.std.specs.Prelude.{◌≡◌, ◌<◌, ◌^◌, length, is_some, IfOk};
+ghost use Rattle.std.specs.Prelude.{◌≡◌, ◌<◌, ◌^◌, length};
 ghost use Rattle.cl_shapes.specs.Limits.{Purse};
 ghost use Rattle.cl_values.specs.Wire.{size_of};
 ghost use Rattle.cl_values.specs.Sequences.{optional};
 ghost use Rattle.cl_values.specs.Computed.{Gives};
 ghost use Rattle.cl_meaning.specs.Answers.{outcome_of};
-ghost use Rattle.cl_maps.specs.Maps.{get};
-ghost use Rattle.cl_events.specs.State.{State, place as key_of};
+ghost use Rattle.cl_events.specs.State.{State};
 ghost use Rattle.cl_meaning.specs.Data.{set_entry, insert_entry, entry_at};
 ghost use Rattle.cl_eval.specs.Homes.{frame_seen};
 ghost use Rattle.cl_eval.specs.Runs.{Runs, Computes};
@@ -27,7 +26,7 @@ use cl_forms::TokenNative as Token;
 use cl_seq::{bool_value, none, some, try_get};
 use cl_shapes::{CostName, Meter};
 use cl_state::{Place, World};
-use cl_types::{Name, NoMemory};
+use cl_types::Name;
 use cl_values::Val;
 
 /// A native that takes no part.
@@ -128,12 +127,6 @@ fn read_variable(
     }
 }
 
-fn has_variable(world: &World, place: &Place) -> Result<bool, NoMemory>
-    ensures { IfOk result (λ there. there ≡ is_some (get (key_of place.now.contract place.now.name) world.now.stack.top.variables)) }
-{
-    Ok(world.variable(place)?.is_some())
-}
-
 /// Gives a variable that is there another value.
 fn write_variable(
     context: &Context,
@@ -151,9 +144,8 @@ fn write_variable(
         name: *name,
     };
     pay_for(context.costs, meter, CostName::WriteVar, &value)?;
-    let there = has_variable(world, &place)?;
+    let there = world.set_variable(&place, value)?;
     if there {
-        world.put_variable(&place, value)?;
         Ok(bool_value(true))
     } else {
         Err(Stop::Stuck)
@@ -288,10 +280,8 @@ fn put_new_entry(
         contract: context.frame.contract,
         name: *name,
     };
-    match world.entry(&place, &key)? {
-        Some(_) => Ok(bool_value(false)),
-        None => put_entry(context, names, name, key, value, world),
-    }
+    let inserted = world.insert_entry(&place, &key, value)?;
+    Ok(bool_value(inserted))
 }
 
 /// Puts a value under a key of a map, where nothing stands there.

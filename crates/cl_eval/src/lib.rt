@@ -36,6 +36,6 @@ mod tuples;
 mod way;
 
 pub use abort::Abort;
-pub use call::run;
+pub use call::{run, run_watched};
 pub use frame::Frame;
-pub use top::run_top;
+pub use top::{run_top, run_top_watched};

@@ -1,5 +1,5 @@
 //! Tuples, and sequences within a length.
-ghost use Rattle.std.specs.Prelude.{◌≡◌, ◌<◌, ◌∷◌, true, length, map, zip, nat_le, if◌then◌else◌, IfOk};
+ghost use Rattle.std.specs.Prelude.{◌≡◌, ◌<◌, ◌≤◌, ◌∷◌, true, length, map, zip, nat_le, if◌then◌else◌, IfOk};
 ghost use Rattle.cl_sexpr.specs.declared.sexpr.Span.{Span};
 ghost use Rattle.cl_sexpr.specs.Tree.{LeafAt, Unsigned};
 ghost use Rattle.cl_events.specs.State.{State};
@@ -15,6 +15,7 @@ ghost use Rattle.cl_code.specs.Typed.{expression_of};
 ghost use Rattle.cl_meaning.specs.Meaning.{means};
 ghost use Rattle.cl_eval.specs.Seen.{scope, Fits};
 ghost use Rattle.cl_eval.specs.Runs.{Runs, Computes};
+ghost use Rattle.cl_eval.specs.Watching.{Walks, amount};
 
 use crate::context::Context;
 use crate::evaluate::{evaluate, evaluate_parts};
@@ -22,7 +23,7 @@ use crate::names::Names;
 use crate::natives::computed;
 use crate::payment::{pay_for, pay_for_all};
 use crate::stop::Stop;
-use cl_code::{Binding, Code};
+use cl_code::{Binding, Code, Watch};
 use cl_seq::{none, some, try_len, tuple_of};
 use cl_shapes::{CostName, Meter};
 use cl_state::World;
@@ -54,7 +55,7 @@ fn shorten(context: &Context, most: u128, value: Val, meter: &mut Meter) -> Resu
 
 /// A sequence, if it has at most so many entries.
 #[cycle(evaluate)]
-pub(crate) fn evaluate_as_max_len(
+pub(crate) fn evaluate_as_max_len<W: Watch>(
     context: &Context,
     names: &Names,
     most: u128,
@@ -62,13 +63,15 @@ pub(crate) fn evaluate_as_max_len(
     below: u32,
     world: &mut World,
     meter: &mut Meter,
+    watch: &mut W,
 ) -> Result<Val, Stop>
     requires { length codes.now ≡ 1 }
-    ensures meant { (at : Span) → Fits context.now → Runs context.now meter.old (as_max_len_form (means below) (scope context.now names.now) (behind_first (λ e more. e ∷ LeafAt (Unsigned most) at ∷ more) (map expression_of codes.now)) world.old.stack.top) result meter.new world.new.stack.top }
+    ensures meant { (at : Span) → Fits context.now → Walks context.now meter.old (W.seen watch.old) (as_max_len_form (means below) (scope context.now names.now) (behind_first (λ e more. e ∷ LeafAt (Unsigned most) at ∷ more) (map expression_of codes.now)) world.old.stack.top) result meter.new (W.seen watch.new) world.new.stack.top }
     ensures below { world.new.stack.below ≡ world.old.stack.below }
+    ensures grew { amount (W.seen watch.old) ≤ amount (W.seen watch.new) }
 {
     let part = &codes[0];
-    let value = evaluate(context, names, part, below, world, meter)?;
+    let value = evaluate(context, names, part, below, world, meter, watch)?;
     shorten(context, most, value, meter)
 }
 
@@ -118,7 +121,7 @@ fn make_tuple(
 
 /// A tuple whose parts stand under keys.
 #[cycle(evaluate)]
-pub(crate) fn evaluate_tuple(
+pub(crate) fn evaluate_tuple<W: Watch>(
     context: &Context,
     names: &Names,
     keys: &[Name],
@@ -126,23 +129,25 @@ pub(crate) fn evaluate_tuple(
     below: u32,
     world: &mut World,
     meter: &mut Meter,
+    watch: &mut W,
 ) -> Result<Val, Stop>
     requires few { length codes.now < 1048576 }
     requires fit { length codes.now ≡ length keys.now }
     requires apart { are_once keys.now ≡ true }
-    ensures meant { Fits context.now → Runs context.now meter.old (tuple_form (means below) (scope context.now names.now) (zip keys.now (map expression_of codes.now)) world.old.stack.top) result meter.new world.new.stack.top }
+    ensures meant { Fits context.now → Walks context.now meter.old (W.seen watch.old) (tuple_form (means below) (scope context.now names.now) (zip keys.now (map expression_of codes.now)) world.old.stack.top) result meter.new (W.seen watch.new) world.new.stack.top }
     ensures below { world.new.stack.below ≡ world.old.stack.below }
+    ensures grew { amount (W.seen watch.old) ≤ amount (W.seen watch.new) }
 {
     if codes.len() == 0 {
         return Err(Stop::Stuck);
     }
-    let values = evaluate_parts(context, names, codes, below, world, meter)?;
+    let values = evaluate_parts(context, names, codes, below, world, meter, watch)?;
     make_tuple(context, keys, values, meter)
 }
 
 /// A tuple whose parts stand in brackets with their keys.
 #[cycle(evaluate)]
-pub(crate) fn evaluate_tuple_of(
+pub(crate) fn evaluate_tuple_of<W: Watch>(
     context: &Context,
     names: &Names,
     pairs: &[Binding],
@@ -150,13 +155,15 @@ pub(crate) fn evaluate_tuple_of(
     below: u32,
     world: &mut World,
     meter: &mut Meter,
+    watch: &mut W,
 ) -> Result<Val, Stop>
     requires few { length codes.now < 1048576 }
     requires fit { length codes.now ≡ length pairs.now }
     requires apart { are_once (bound_names pairs.now) ≡ true }
-    ensures meant { Fits context.now → Runs context.now meter.old (with_known (bindings_of (bound_items pairs.now (map expression_of codes.now))) (tuple_form (means below) (scope context.now names.now)) world.old.stack.top) result meter.new world.new.stack.top }
+    ensures meant { Fits context.now → Walks context.now meter.old (W.seen watch.old) (with_known (bindings_of (bound_items pairs.now (map expression_of codes.now))) (tuple_form (means below) (scope context.now names.now)) world.old.stack.top) result meter.new (W.seen watch.new) world.new.stack.top }
     ensures below { world.new.stack.below ≡ world.old.stack.below }
+    ensures grew { amount (W.seen watch.old) ≤ amount (W.seen watch.new) }
 {
     let keys = names_of(context.alloc, pairs)?;
-    evaluate_tuple(context, names, &keys, codes, below, world, meter)
+    evaluate_tuple(context, names, &keys, codes, below, world, meter, watch)
 }

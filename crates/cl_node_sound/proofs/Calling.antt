@@ -13,7 +13,7 @@ use Rattle.cl_shapes.specs.declared.cost.Cost5.{Cost5}
 use Rattle.cl_shapes.specs.declared.limit.Over.{Over}
 use Rattle.cl_shapes.specs.Costs.{IsAtMost}
 use Rattle.cl_shapes.specs.Limits.{limit_of}
-use Rattle.cl_values.specs.Tree.{Tree}
+use Rattle.cl_values.specs.Tree.{Tree, ResponseV}
 use Rattle.cl_values.specs.Valid.{IsVal, IsPrincipal}
 use Rattle.cl_values.specs.Inhabits.{inhabits}
 use Rattle.cl_values.specs.Typed.{IsOf, AreOf}
@@ -39,19 +39,20 @@ use Rattle.cl_tx.specs.declared.outcome.Stop.TheVariants.{CostLimit, PostConditi
 use Rattle.cl_tx.specs.declared.outcome.EntryRefusal.{EntryRefusal}
 use Rattle.cl_tx.specs.Nodes.{NodeSeen, Stepped, Told, nothing_told, frame_of, purse_of, stop_of, moves_on, stays, aborted, refused, settled_by, settled, answered, call_ended}
 use Rattle.cl_tx.specs.Step.{first_misfit, run_call, if_fitting, if_as_many, if_open, if_function, if_deployed, call_step}
-use Rattle.cl_node_sound.specs.Sound.{IsSoundNode, IsWithinBound}
+use Rattle.cl_node_sound.specs.Sound.{IsSoundNode, IsWithinBound, IsTypedAnswer, given_by}
 use Rattle.cl_node_sound.specs.Told.{IsStopped}
 use Rattle.cl_node_sound.proofs.Enough.{IsPassed, passes_not, aborts_not_stopped}
 use Rattle.cl_node_sound.proofs.SameContracts.{itself, kept_moved}
 
--- It comes to something: the node after it is sound, this was told, what is charged is low, and where it is stopped by its limit,
--- that has a reason.
-pub record Comes (costs : Costs) (told : Told) (Low : Cost5 → Type 0) (Reason : Type 0) (o : Option Stepped) : Type 0 where
+-- It comes to something: the node after it is sound, this was told, what is charged is low, what it gives is typed, and where it
+-- is stopped by its limit, that has a reason.
+pub record Comes (costs : Costs) (told : Told) (Low : Cost5 → Type 0) (Typed : Tree → Type 0) (Reason : Type 0) (o : Option Stepped) : Type 0 where
   pub step : Stepped
   pub is : o ≡ Some step
   pub sound : IsSoundNode costs step.node
   pub tells : step.result.bounds ≡ told.bounds
   pub low : (cost : Cost5) → step.result.cost ≡ Some cost → Low cost
+  pub typed : (v : Tree) → given_by step.result.outcome ≡ Some v → Typed v
   pub stopped : IsStopped step.result.outcome → Reason
 
 pub some_cost : (b c : Cost5) → Some b ≡ Some c → b ≡ c
@@ -60,57 +61,71 @@ some_cost b c e = cc
 no_cost : (Low : Cost5 → Type 0) (c : Cost5) → None ≡ Some c → Low c
 no_cost Low c e = absurd cc
 
-module _ (costs : Costs) (node : NodeSeen) (N : IsSoundNode costs node) (told : Told) (Low : Cost5 → Type 0) (Reason : Type 0) where
-  stays_sound : (outcome : Outcome) (cost : Cost5) → Low cost → (IsStopped outcome → Reason) → Comes costs told Low Reason (Some (stays node told outcome (Some cost)))
-  stays_sound outcome cost low reason = record { step = stays node told outcome (Some cost); is = refl; sound = N; tells = refl; low = λ c e. subst Low (some_cost cost c e) low; stopped = reason }
+no_value : (Typed : Tree → Type 0) (v : Tree) → None ≡ Some v → Typed v
+no_value Typed v e = absurd cc
+
+same_value : (Typed : Tree → Type 0) (u v : Tree) → Typed u → Some u ≡ Some v → Typed v
+same_value Typed u v typed e = subst Typed (some_tree u v e) typed
+  where
+    some_tree : (u v : Tree) → Some u ≡ Some v → u ≡ v
+    some_tree u v e = cc
+
+module _ (costs : Costs) (node : NodeSeen) (N : IsSoundNode costs node) (told : Told) (Low : Cost5 → Type 0) (Typed : Tree → Type 0) (Reason : Type 0) where
+  abbrev HasTyped : Outcome → Type 0
+  HasTyped outcome = (v : Tree) → given_by outcome ≡ Some v → Typed v
+
+  stays_sound : (outcome : Outcome) (cost : Cost5) → Low cost → HasTyped outcome → (IsStopped outcome → Reason) → Comes costs told Low Typed Reason (Some (stays node told outcome (Some cost)))
+  stays_sound outcome cost low typed reason = record { step = stays node told outcome (Some cost); is = refl; sound = N; tells = refl; low = λ c e. subst Low (some_cost cost c e) low; typed = typed; stopped = reason }
 
   -- an abort by a cause
-  pub aborted_sound : (why : Cause) (cost : Cost5) → Low cost → Comes costs told Low Reason (Some (aborted node told (stop_of why) cost))
-  aborted_sound why cost low = stays_sound (Aborted (stop_of why)) cost low (λ h. absurd (aborts_not_stopped why h))
+  pub aborted_sound : (why : Cause) (cost : Cost5) → Low cost → Comes costs told Low Typed Reason (Some (aborted node told (stop_of why) cost))
+  aborted_sound why cost low = stays_sound (Aborted (stop_of why)) cost low (no_value Typed) (λ h. absurd (aborts_not_stopped why h))
 
   -- another outcome than a stop by the limit
-  pub failed_sound : (outcome : Outcome) (cost : Cost5) → Low cost → (IsStopped outcome → ⊥) → Comes costs told Low Reason (Some (stays node told outcome (Some cost)))
-  failed_sound outcome cost low goes_on = stays_sound outcome cost low (λ h. absurd (goes_on h))
+  pub failed_sound : (outcome : Outcome) (cost : Cost5) → Low cost → HasTyped outcome → (IsStopped outcome → ⊥) → Comes costs told Low Typed Reason (Some (stays node told outcome (Some cost)))
+  failed_sound outcome cost low typed goes_on = stays_sound outcome cost low typed (λ h. absurd (goes_on h))
 
   -- a stop by the limit
-  pub stopped_sound : (over : Over) (cost : Cost5) → Low cost → Reason → Comes costs told Low Reason (Some (aborted node told (CostLimit over) cost))
-  stopped_sound over cost low reason = stays_sound (Aborted (CostLimit over)) cost low (λ h. reason)
+  pub stopped_sound : (over : Over) (cost : Cost5) → Low cost → Reason → Comes costs told Low Typed Reason (Some (aborted node told (CostLimit over) cost))
+  stopped_sound over cost low reason = stays_sound (Aborted (CostLimit over)) cost low (no_value Typed) (λ h. reason)
 
   -- a run that is settled, where it would move on to a sound node
-  pub settled_sound : (failing : Option ℕ) (after : NodeSeen) (outcome : Outcome) (cost : Cost5) (s : State) → IsSoundNode costs (moves_on after told outcome cost s).node → Low cost → (IsStopped outcome → ⊥) → Comes costs told Low Reason (Some (settled_by failing node after told outcome cost s))
-  settled_sound None after outcome cost s sound low goes_on = record { step = moves_on after told outcome cost s; is = refl; sound = sound; tells = refl; low = λ c e. subst Low (some_cost cost c e) low; stopped = λ h. absurd (goes_on h) }
-  settled_sound (Some index) after outcome cost s sound low goes_on = failed_sound (Aborted (PostCondition index)) cost low (λ h. h)
+  pub settled_sound : (failing : Option ℕ) (after : NodeSeen) (outcome : Outcome) (cost : Cost5) (s : State) → IsSoundNode costs (moves_on after told outcome cost s).node → Low cost → HasTyped outcome → (IsStopped outcome → ⊥) → Comes costs told Low Typed Reason (Some (settled_by failing node after told outcome cost s))
+  settled_sound None after outcome cost s sound low typed goes_on = record { step = moves_on after told outcome cost s; is = refl; sound = sound; tells = refl; low = λ c e. subst Low (some_cost cost c e) low; typed = typed; stopped = λ h. absurd (goes_on h) }
+  settled_sound (Some index) after outcome cost s sound low typed goes_on = failed_sound (Aborted (PostCondition index)) cost low (no_value Typed) (λ h. h)
 
-module _ (costs : Costs) (node : NodeSeen) (N : IsSoundNode costs node) (Low : Cost5 → Type 0) (Reason : Type 0) (common : Common) where
+module _ (costs : Costs) (node : NodeSeen) (N : IsSoundNode costs node) (Low : Cost5 → Type 0) (Typed : Tree → Type 0) (Reason : Type 0) (common : Common) where
   abbrev CallComes : Option Stepped → Type 0
-  CallComes = Comes costs nothing_told Low Reason
+  CallComes = Comes costs nothing_told Low Typed Reason
 
   refusal : (why : EntryRefusal) → CallComes (Some (refused node why))
-  refusal why = record { step = refused node why; is = refl; sound = N; tells = refl; low = λ c e. no_cost Low c e; stopped = λ h. absurd h }
+  refusal why = record { step = refused node why; is = refl; sound = N; tells = refl; low = λ c e. no_cost Low c e; typed = no_value Typed; stopped = λ h. absurd h }
 
-  moved_sound : (outcome : Outcome) (cost : Cost5) (s : State) → Kept node.contracts Whole s → Low cost → (IsStopped outcome → ⊥) → CallComes (Some (settled common node node nothing_told outcome cost s))
-  moved_sound outcome cost s kept low goes_on =
-      settled_sound costs node N nothing_told Low Reason (holds s.moves common.mode common.conditions) node outcome cost s
+  moved_sound : (outcome : Outcome) (cost : Cost5) (s : State) → Kept node.contracts Whole s → Low cost → HasTyped costs node N nothing_told Low Typed Reason outcome → (IsStopped outcome → ⊥) → CallComes (Some (settled common node node nothing_told outcome cost s))
+  moved_sound outcome cost s kept low typed goes_on =
+      settled_sound costs node N nothing_told Low Typed Reason (holds s.moves common.mode common.conditions) node outcome cost s
       (record { contracts = N.contracts; kept = kept_moved node.contracts node.contracts (itself node.contracts) Whole s kept; height = N.height; no_events = refl; no_moves = refl })
-      low goes_on
+      low typed goes_on
 
   -- a public function's value is a response
-  public_answer : (t : PlainType) (v : Tree) (cost : Cost5) (s : State) → Answers Public t → IsOf v t → Kept node.contracts Whole s → Low cost → CallComes (answered common Public v node cost s)
-  public_answer t v cost s answers typed kept low =
+  public_answer : (t : PlainType) (v : Tree) (cost : Cost5) (s : State) → Answers Public t → IsOf v t → Typed v → Kept node.contracts Whole s → Low cost → CallComes (answered common Public v node cost s)
+  public_answer t v cost s answers is_of typed kept low =
       response_type (λ t. IsOf v t → CallComes (answered common Public v node cost s)) t answers
-      (λ u e i. response_of (λ v. CallComes (answered common Public v node cost s)) v u e i (λ w j. moved_sound (Good w) cost s kept low (λ h. h)) (λ w j. failed_sound costs node N nothing_told Low Reason (Bad w) cost low (λ h. h))) typed
+      (λ u e i. response_of (λ v. Typed v → CallComes (answered common Public v node cost s)) v u e i
+      (λ w j given. moved_sound (Good w) cost s kept low (λ x e. same_value Typed (ResponseV true w) x given e) (λ h. h))
+      (λ w j given. failed_sound costs node N nothing_told Low Typed Reason (Bad w) cost low (λ x e. same_value Typed (ResponseV false w) x given e) (λ h. h)) typed) is_of
 
-  answer : (access : Access) (t : PlainType) (v : Tree) (cost : Cost5) (s : State) → Answers access t → IsOf v t → Kept node.contracts Whole s → Low cost → CallComes (answered common access v node cost s)
-  answer Public t v cost s answers typed kept low = public_answer t v cost s answers typed kept low
-  answer ReadOnly t v cost s answers typed kept low = moved_sound (Plain v) cost s kept low (λ h. h)
-  answer Private t v cost s answers typed kept low = moved_sound (Plain v) cost s kept low (λ h. h)
+  answer : (access : Access) (t : PlainType) (v : Tree) (cost : Cost5) (s : State) → Answers access t → IsOf v t → Typed v → Kept node.contracts Whole s → Low cost → CallComes (answered common access v node cost s)
+  answer Public t v cost s answers is_of typed kept low = public_answer t v cost s answers is_of typed kept low
+  answer ReadOnly t v cost s answers is_of typed kept low = moved_sound (Plain v) cost s kept low (λ x e. same_value Typed v x typed e) (λ h. h)
+  answer Private t v cost s answers is_of typed kept low = moved_sound (Plain v) cost s kept low (λ x e. same_value Typed v x typed e) (λ h. h)
 
-  ended : (access : Access) (t : PlainType) → Answers access t → (l : Limited Tree) → IsFineUnder (λ v. IsOf v t) (Kept node.contracts Whole) l → Low (charged l) → (IsPassed l → Reason) → CallComes (call_ended common access node l)
-  ended access t answers (Gave v s purse) fine low reason = answer access t v purse.spent s answers fine.0 fine.1 low
-  ended access t answers (Threw v s purse) fine low reason = absurd fine
-  ended access t answers (AbortedBy why purse) fine low reason = aborted_sound costs node N nothing_told Low Reason why purse.spent low
-  ended access t answers (Passed over purse) fine low reason = stopped_sound costs node N nothing_told Low Reason over over.attempted low (reason tt)
-  ended access t answers (Lost purse) fine low reason = absurd fine
+  ended : (access : Access) (t : PlainType) → Answers access t → ((v : Tree) → IsOf v t → Typed v) → (l : Limited Tree) → IsFineUnder (λ v. IsOf v t) (Kept node.contracts Whole) l → Low (charged l) → (IsPassed l → Reason) → CallComes (call_ended common access node l)
+  ended access t answers typed (Gave v s purse) fine low reason = answer access t v purse.spent s answers fine.0 (typed v fine.0) fine.1 low
+  ended access t answers typed (Threw v s purse) fine low reason = absurd fine
+  ended access t answers typed (AbortedBy why purse) fine low reason = aborted_sound costs node N nothing_told Low Typed Reason why purse.spent low
+  ended access t answers typed (Passed over purse) fine low reason = stopped_sound costs node N nothing_told Low Typed Reason over over.attempted low (reason tt)
+  ended access t answers typed (Lost purse) fine low reason = absurd fine
 
 -- arguments that are fitting are of the parameters' types
 pub fitting_are : (n : ℕ) (ps : List (List ℕ × PlainType)) (vs : List Tree) → length vs ≡ length ps → All IsVal vs → first_misfit n ps vs ≡ None → AreOf vs (map (λ (p : List ℕ × PlainType). p.1) ps)
@@ -139,11 +154,14 @@ module _ (costs : Costs) (node : NodeSeen) (N : IsSoundNode costs node) where
     abbrev Low : Cost5 → Type 0
     Low = IsWithinBound costs node.known p function
 
+    abbrev Typed : Tree → Type 0
+    Typed = IsTypedAnswer node.known p function
+
     abbrev Reason : Type 0
     Reason = IsBoundAbove costs node.known p function (limit_of common.limit)
 
     abbrev HasCome : Option Stepped → Type 0
-    HasCome = Comes costs nothing_told Low Reason
+    HasCome = Comes costs nothing_told Low Typed Reason
 
     run : (c : Contract) (f : Function) → contract_at p node.contracts ≡ Some c → function_in function c.forms ≡ Some f → length args ≡ length f.params → first_misfit 0 f.params args ≡ None → HasCome (run_call costs node common p f args)
     unfolding run_call
@@ -161,13 +179,14 @@ module _ (costs : Costs) (node : NodeSeen) (N : IsSoundNode costs node) where
         let under = fine_under (deployed_world costs node.contracts Whole) (λ v. IsOf v g.returns) (g.bound costs) (call_from node.contracts frame s.function args node.state) sound costs purse in
         let low : Low (charged (limited costs purse (call_from node.contracts frame s.function args node.state))) = record { known = signed.known; signature = g; there = signed.there; told = signed.told; low = at_most _ (cost costs (call_from node.contracts frame s.function args node.state)) (g.bound costs) (charged_low costs purse.limit (call_from node.contracts frame s.function args node.state)) sound.within } in
         let reason : IsPassed (limited costs purse (call_from node.contracts frame s.function args node.state)) → Reason = λ passed. record { known = signed.known; signature = g; there = signed.there; told = signed.told; above = λ enough. passes_not costs (g.bound costs) purse.limit (call_from node.contracts frame s.function args node.state) sound.within enough passed } in
-        ended costs node N Low Reason common f.access g.returns (subst (λ a. Answers a g.returns) access s.answers) (limited costs purse (call_from node.contracts frame f args node.state))
+        ended costs node N Low Typed Reason common f.access g.returns (subst (λ a. Answers a g.returns) access s.answers)
+        (λ v is_of. record { known = signed.known; signature = g; there = signed.there; told = signed.told; typed = is_of }) (limited costs purse (call_from node.contracts frame f args node.state))
         (subst (λ f. IsFineUnder (λ v. IsOf v g.returns) (Kept node.contracts Whole) (limited costs purse (call_from node.contracts frame f args node.state))) same under)
         (subst (λ f. Low (charged (limited costs purse (call_from node.contracts frame f args node.state)))) same low)
         (subst (λ f. IsPassed (limited costs purse (call_from node.contracts frame f args node.state)) → Reason) same reason)
 
     refused_here : (why : EntryRefusal) → HasCome (Some (refused node why))
-    refused_here = refusal costs node N Low Reason common
+    refused_here = refusal costs node N Low Typed Reason common
 
     fitting : (c : Contract) (f : Function) → contract_at p node.contracts ≡ Some c → function_in function c.forms ≡ Some f → length args ≡ length f.params → (misfit : Option ℕ) → first_misfit 0 f.params args ≡ misfit → HasCome (if_fitting costs node common p f args misfit)
     fitting c f at there many (Some index) e = refused_here _

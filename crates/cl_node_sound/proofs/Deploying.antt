@@ -6,6 +6,7 @@ use Rattle.cl_shapes.specs.declared.cost.Cost5.{Cost5}
 use Rattle.cl_shapes.specs.Costs.{IsAtMost}
 use Rattle.cl_shapes.specs.Limits.{Purse, limit_of}
 use Rattle.cl_values.specs.Valid.{IsPrincipal}
+use Rattle.cl_values.specs.Tree.{Tree}
 use Rattle.cl_events.specs.State.{State}
 use Rattle.cl_meaning.specs.Deployed.{Contract}
 use Rattle.cl_meaning.specs.Deploying.{forms_at, deployment}
@@ -43,15 +44,19 @@ module _ (costs : Costs) (node : NodeSeen) (N : IsSoundNode costs node) where
         no_moves = refl;
       }
 
-  ended : (Low : Cost5 → Type 0) (Reason : Type 0) (common : Common) (told : Told) (known : Known) (l : Limited Contract) → IsFineEndUnder (λ d t. IsNode costs (d ∷ node.contracts) (node.known ++ known ∷ []) t) l → Low (charged l) → (IsPassed l → Reason) → Comes costs told Low Reason (deployment_ended common node told known l)
-  ended Low Reason common told known (Gave c s purse) fine low reason = settled_sound costs node N told Low Reason (holds s.moves common.mode common.conditions) (with_contract node c known) Done purse.spent s (done told known c purse.spent s fine) low (λ h. h)
-  ended Low Reason common told known (Threw v s purse) fine low reason = failed_sound costs node N told Low Reason (Aborted EarlyTop) purse.spent low (λ h. h)
-  ended Low Reason common told known (AbortedBy why purse) fine low reason = aborted_sound costs node N told Low Reason why purse.spent low
-  ended Low Reason common told known (Passed over purse) fine low reason = stopped_sound costs node N told Low Reason over over.attempted low (reason tt)
+  -- a deployment gives no value
+  abbrev AnyTree : Tree → Type 0
+  AnyTree v = Unit {0}
+
+  ended : (Low : Cost5 → Type 0) (Reason : Type 0) (common : Common) (told : Told) (known : Known) (l : Limited Contract) → IsFineEndUnder (λ d t. IsNode costs (d ∷ node.contracts) (node.known ++ known ∷ []) t) l → Low (charged l) → (IsPassed l → Reason) → Comes costs told Low AnyTree Reason (deployment_ended common node told known l)
+  ended Low Reason common told known (Gave c s purse) fine low reason = settled_sound costs node N told Low AnyTree Reason (holds s.moves common.mode common.conditions) (with_contract node c known) Done purse.spent s (done told known c purse.spent s fine) low (λ v e. tt) (λ h. h)
+  ended Low Reason common told known (Threw v s purse) fine low reason = failed_sound costs node N told Low AnyTree Reason (Aborted EarlyTop) purse.spent low (λ v e. tt) (λ h. h)
+  ended Low Reason common told known (AbortedBy why purse) fine low reason = aborted_sound costs node N told Low AnyTree Reason why purse.spent low
+  ended Low Reason common told known (Passed over purse) fine low reason = stopped_sound costs node N told Low AnyTree Reason over over.attempted low (reason tt)
   ended Low Reason common told known (Lost purse) fine low reason = absurd fine
 
   pub deployment_comes : (common : Common) → IsAddress common.sender → (principal : Principal) → IsPrincipal principal → known_at principal node.known ≡ None → (source : List ℕ) (accepted : Accepted node.known principal costs source) →
-      Comes costs (told_of costs accepted.defined accepted.forms) (λ c. IsAtMost c (accepted.defined.deploy costs)) (IsAtMost (accepted.defined.deploy costs) (limit_of common.limit) → ⊥) (run_deployment costs node common principal source accepted.forms accepted.defined)
+      Comes costs (told_of costs accepted.defined accepted.forms) (λ c. IsAtMost c (accepted.defined.deploy costs)) AnyTree (IsAtMost (accepted.defined.deploy costs) (limit_of common.limit) → ⊥) (run_deployment costs node common principal source accepted.forms accepted.defined)
   unfolding run_deployment
   deployment_comes common sender principal valid new source accepted =
       let frame = frame_of node common.sender principal in

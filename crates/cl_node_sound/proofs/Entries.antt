@@ -20,7 +20,7 @@ use Rattle.cl_tx.specs.declared.outcome.Bounds.{Bounds}
 use Rattle.cl_tx.specs.declared.outcome.TxResult.{TxResult}
 use Rattle.cl_tx.specs.Nodes.{NodeSeen, Stepped, contract_of}
 use Rattle.cl_tx.specs.Step.{Steps, name_taken, source_refused, evaluated, AllStep, Runs, first_node, told_of, run_deployment}
-use Rattle.cl_node_sound.specs.Sound.{IsSoundNode, IsWithinBound, HasParts, FileHasParts}
+use Rattle.cl_node_sound.specs.Sound.{IsSoundNode, IsWithinBound, IsTypedAnswer, HasParts, FileHasParts, given_by}
 use Rattle.cl_node_sound.specs.Told.{IsStopped}
 use Rattle.cl_node_sound.specs.Laws.{DeployedHaveConstants}
 use Rattle.cl_node_sound.proofs.Calling.{call_comes, IsBoundAbove}
@@ -75,6 +75,11 @@ module _ (costs : Costs) (node : NodeSeen) (common : Common) (contract : Princip
   calls_within x cost e =
       let c = call_comes costs node N common parts.0 contract parts.1 function args parts.2 in
       c.low cost (ap (λ (s : Stepped). s.result.cost) (some_same c.step s (sym c.is ∙ x)) ∙ e)
+
+  pub calls_typed : Steps costs node (Call common contract function args) s → (v : Tree) → given_by s.result.outcome ≡ Some v → IsTypedAnswer node.known contract function v
+  calls_typed x v e =
+      let c = call_comes costs node N common parts.0 contract parts.1 function args parts.2 in
+      c.typed v (ap (λ (s : Stepped). given_by s.result.outcome) (some_same c.step s (sym c.is ∙ x)) ∙ e)
 
   -- a call that is stopped by its limit has a bound above it
   pub bound_above : Steps costs node (Call common contract function args) s → IsStopped s.result.outcome → IsBoundAbove costs node.known contract function (limit_of common.limit)

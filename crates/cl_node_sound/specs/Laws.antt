@@ -22,7 +22,7 @@ use Rattle.cl_tx.specs.declared.outcome.Bounds.{Bounds}
 use Rattle.cl_tx.specs.declared.outcome.TxResult.{TxResult}
 use Rattle.cl_tx.specs.Nodes.{NodeSeen, Stepped, contract_of, frame_of, purse_of}
 use Rattle.cl_tx.specs.Step.{Steps, Runs, contract_with, first_node}
-use Rattle.cl_node_sound.specs.Sound.{IsSoundNode, IsWithinBound, IsTypedUnder, HasParts, FileHasParts}
+use Rattle.cl_node_sound.specs.Sound.{IsSoundNode, IsWithinBound, IsTypedAnswer, IsTypedUnder, HasParts, FileHasParts, given_by}
 use Rattle.cl_node_sound.specs.Told.{none_told, AreChargedWithin, IsStopped, AreNotStopped}
 
 -- with holders who are principals
@@ -86,6 +86,12 @@ DeploymentsStep =
     (costs : Costs) (node : NodeSeen) (common : Common) (name source : List ℕ) → HasParts (Deploy common name source) → IsSoundNode costs node →
     known_at (contract_of common.sender name) node.known ≡ None → Accepted node.known (contract_of common.sender name) costs source →
     (s : Stepped) × Steps costs node (Deploy common name source) s
+
+-- the value that a call gives, an ok and an err as responses, is of the type that its function returns
+abbrev pub CallsAreTyped : Type 0
+CallsAreTyped =
+    (costs : Costs) (node : NodeSeen) (common : Common) (contract : Principal) (function : List ℕ) (args : List Tree) (s : Stepped) → HasParts (Call common contract function args) → IsSoundNode costs node →
+    Steps costs node (Call common contract function args) s → (v : Tree) → given_by s.result.outcome ≡ Some v → IsTypedAnswer node.known contract function v
 
 -- each value that the deployment of an accepted source gives is of the type of the constant of its name
 abbrev pub DeployedHaveConstants : Type 0

@@ -1,5 +1,5 @@
 -- Sound nodes: each contract stands for one accepted text, the state is kept, and nothing was told or moved.
-use Rattle.std.specs.Prelude.{◌≡◌, ℕ, ◌<◌, ◌^◌, List, [], Some}
+use Rattle.std.specs.Prelude.{◌≡◌, ℕ, ◌<◌, ◌^◌, true, false, List, [], Option, Some, None}
 use Rattle.std.specs.List.{All}
 use Rattle.cl_types.specs.Types.{PlainType}
 use Rattle.cl_c32.specs.Address.{IsAddress}
@@ -7,7 +7,7 @@ use Rattle.cl_c32.specs.ContractName.{IsContractName}
 use Rattle.cl_c32.specs.declared.principal.Principal.{Principal}
 use Rattle.cl_shapes.specs.declared.cost.Cost5.{Cost5}
 use Rattle.cl_shapes.specs.Costs.{IsAtMost}
-use Rattle.cl_values.specs.Tree.{Tree}
+use Rattle.cl_values.specs.Tree.{Tree, ResponseV}
 use Rattle.cl_values.specs.Typed.{IsOf}
 use Rattle.cl_values.specs.Valid.{IsVal, IsPrincipal}
 use Rattle.cl_meaning.specs.Kept.{Whole, Kept}
@@ -17,6 +17,8 @@ use Rattle.cl_contract_sound.specs.Nodes.{AreContracts}
 use Rattle.cl_file.specs.declared.entry.Entry.{Entry}
 use Rattle.cl_file.specs.declared.entry.Entry.TheVariants.{Deploy, Call, Block}
 use Rattle.cl_file.specs.Files.{FileSeen}
+use Rattle.cl_tx.specs.declared.outcome.Outcome.{Outcome}
+use Rattle.cl_tx.specs.declared.outcome.Outcome.TheVariants.{Good, Bad, Plain}
 use Rattle.cl_tx.specs.Nodes.{NodeSeen}
 
 pub record IsSoundNode (costs : Costs) (node : NodeSeen) : Type 0 where
@@ -33,6 +35,21 @@ pub record IsWithinBound (costs : Costs) (ks : List Known) (p : Principal) (x : 
   pub there : known_at p ks ≡ Some known
   pub told : signature_in x known.functions ≡ Some signature
   pub low : IsAtMost cost (signature.bound costs)
+
+-- the value that a call gives: an ok and an err are responses
+abbrev pub given_by : Outcome → Option Tree
+given_by (Good v) = Some (ResponseV true v)
+given_by (Bad v) = Some (ResponseV false v)
+given_by (Plain v) = Some v
+given_by outcome = None
+
+-- a value is of the type that the function returns which callers see under this name
+pub record IsTypedAnswer (ks : List Known) (p : Principal) (x : List ℕ) (v : Tree) : Type 0 where
+  pub known : Known
+  pub signature : Signature
+  pub there : known_at p ks ≡ Some known
+  pub told : signature_in x known.functions ≡ Some signature
+  pub typed : IsOf v signature.returns
 
 -- a value of the type that stands under a name
 pub record IsTypedUnder (types : Names) (x : List ℕ) (v : Tree) : Type 0 where

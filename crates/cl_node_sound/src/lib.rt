@@ -1,7 +1,7 @@
 //! Nodes stay sound. Each function here is a law, and does nothing.
 #![tactic(auto)]
 
-ghost use Rattle.cl_node_sound.specs.Laws.{FirstIsSound, SoundStay, RunsEndSound, CallsStayWithin, DeploymentsStayWithin, RunsStayWithin, CallsAreNotStopped, DeploymentsAreNotStopped, RunsAreNotStopped, CallsStep, DeploymentsStep, DeployedHaveConstants, NewHaveNoTokens};
+ghost use Rattle.cl_node_sound.specs.Laws.{FirstIsSound, SoundStay, RunsEndSound, CallsStayWithin, DeploymentsStayWithin, RunsStayWithin, CallsAreNotStopped, DeploymentsAreNotStopped, RunsAreNotStopped, CallsStep, DeploymentsStep, CallsAreTyped, DeployedHaveConstants, NewHaveNoTokens};
 
 /// Before all entries a node is sound: each of its contracts stands for one accepted text, its state is kept, and nothing was
 /// told or moved. It stays so from entry to entry, under each table of costs, whatever limits and conditions the entries have.
@@ -33,6 +33,11 @@ pub fn bounds_suffice_as_limits()
 pub fn entries_come_to_something()
     ensures calls { CallsStep }
     ensures deployments { DeploymentsStep }
+{}
+
+/// The value that a call gives at a sound node is of the type that its function returns, an ok and an err as responses.
+pub fn answers_have_their_types()
+    ensures { CallsAreTyped }
 {}
 
 /// Each value that the deployment of an accepted source gives at a sound node is of the type of the constant of its name.

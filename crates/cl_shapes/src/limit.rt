@@ -54,6 +54,16 @@ impl Meter {
         }
     }
 
+    /// A meter with the same limit, of which the same was spent.
+    pub fn copy(&self) -> Meter
+        ensures { result ≡ self.now }
+    {
+        Meter {
+            limit: self.limit,
+            spent: self.spent,
+        }
+    }
+
     /// The sum of what was charged.
     pub fn spent(&self) -> Cost5
         ensures value { result ≡ self.now.spent }

@@ -8,7 +8,7 @@ use Rattle.indexmap.specs.Layout.{set_value_at, length-set_value_at}
 use Rattle.cl_types.specs.declared.fault.Fault.{Fault}
 use Rattle.cl_types.specs.declared.fault.Fault.TheVariants.{Refused, NoMemory}
 use Rattle.cl_values.specs.Tree.{Tree}
-use Rattle.cl_maps.specs.Maps.{Map, empty, get, put, with_value}
+use Rattle.cl_maps.specs.Maps.{empty, get, put, with_value}
 use Rattle.cl_maps.proofs.MapLaws.{undone_write}
 use Rattle.cl_tokens.specs.Table.{Shelf, HasRoom}
 use Rattle.cl_tokens.specs.declared.refusal.TokenRefusal.{TokenRefusal}
@@ -18,20 +18,17 @@ use Rattle.cl_tokens.specs.Ledger.{Ledger, Held as LedgerHeld, no_tokens}
 use Rattle.cl_tokens.specs.Owners.{Owners, Owned}
 use Rattle.cl_tokens.specs.Deeds.{done, undone as act_undone, HasGiver}
 use Rattle.cl_tokens.specs.AssetDeeds.{done as asset_done}
-use Rattle.cl_events.specs.State.{State, with_variables, with_fungibles, with_nonfungibles, with_stx}
+use Rattle.cl_events.specs.State.{State, with_fungibles, with_nonfungibles, with_stx}
 use Rattle.cl_events.specs.Acts.{Acted, replaced, on_stx, on_ledger, on_owners}
 use Rattle.cl_state.specs.declared.place.Place.{Place}
-use Rattle.cl_state.specs.declared.held.Placed.{Placed}
 use Rattle.cl_state.specs.declared.note.Note.{Note}
 use Rattle.cl_state.specs.declared.note.Note.TheVariants.{Variable, Entry, Stx, Fungible, Asset, FungibleDefined, NonFungibleDefined}
-use Rattle.cl_state.specs.Variables.{IsPlace, key_of}
-use Rattle.cl_state.specs.Places.{values_of, IsAt, AreAtPlaces}
+use Rattle.cl_state.specs.Variables.{IsPlace, key_of, IsPlaceKey}
 use Rattle.cl_state.specs.Spelled.{IsSpot, Each, IsSpelled}
-use Rattle.cl_state.proofs.Spelled.{each_with}
+use Rattle.cl_state.proofs.Spelled.{each_put, each_with}
 use Rattle.cl_state.specs.Numbered.{by_place, value_at, IsNumber, ArePlaced, but_last, ledgers_of, owners_of, no_ledger, no_owners}
 use Rattle.cl_state.specs.Notes.{Held, state_of, Rooms, room_at, Keeps, Serves, IsSound, Gives, IsRefusedBy, fungibles_in, nonfungibles_in}
 use Rattle.cl_state.specs.Tables.{IsChange, IsAsBefore}
-use Rattle.cl_state.proofs.Places.{mapped-put, put_at}
 use Rattle.cl_state.proofs.Numbered.{number_found, number_changed, one_more, but_the_last, placed_set, placed_more, changed_back, set_same, parts_set, parts_at, parts_numbered, rooms_of, room_is, rooms_set, rooms_more}
 
 -- ------------------------------------------------------------ room
@@ -85,30 +82,24 @@ kept_room old new is q h = subst (λ r. HasRoom r q) (sym is) h
 
 -- ------------------------------------------------------------ a variable
 
-pub variable_change : (h : Held) (r : Rooms) (s : Shelf Placed) (key : List ℕ) (b : Option Placed) (p : Placed) → IsSound h → IsAt (key, p) → b ≡ get key h.variables → s.content ≡ put key p h.variables
+pub variable_change : (h : Held) (r : Rooms) (s : Shelf Tree) (key : List ℕ) (b : Option Tree) (v : Tree) → IsSound h → IsPlaceKey key → b ≡ get key h.variables → s.content ≡ put key v h.variables
     → HasRoom s.room key → Keeps r.variables s.room → IsChange (Variable key b) h (record h { variables = s.content }) r (record r { variables = s.room })
-variable_change h r s key b p sound at was done ready keeps =
-    let back : with_value key b s.content ≡ h.variables = (λ i. with_value key (was i) (done i)) ∙ undone_write h.variables key (Some p) in
+variable_change h r s key b v sound at was done ready keeps =
+    let back : with_value key b s.content ≡ h.variables = (λ i. with_value key (was i) (done i)) ∙ undone_write h.variables key (Some v) in
     record {
       back = λ i. record h { variables = back i };
       ready = ready;
       rooms = variables_serve r s.room keeps;
       sound = record {
-        variables = subst AreAtPlaces (sym done) (put_at key p h.variables at sound.variables);
+        variables = subst (λ m. Each (λ k x. IsPlaceKey k) m) (sym done) (each_put (λ k x. IsPlaceKey k) h.variables key v sound.variables at);
         fungibles = sound.fungibles;
         nonfungibles = sound.nonfungibles;
         spelled = record { entries = sound.spelled.entries; fungibles = sound.spelled.fungibles; nonfungibles = sound.spelled.nonfungibles; stx = sound.spelled.stx };
       };
     }
 
-pub variable_same : (h : Held) (r : Rooms) (s : Shelf Placed) → s.content ≡ h.variables → Keeps r.variables s.room → IsAsBefore h (record h { variables = s.content }) r (record r { variables = s.room })
+pub variable_same : (h : Held) (r : Rooms) (s : Shelf Tree) → s.content ≡ h.variables → Keeps r.variables s.room → IsAsBefore h (record h { variables = s.content }) r (record r { variables = s.room })
 variable_same h r s is keeps = record { held = λ i. record h { variables = is i }; rooms = variables_serve r s.room keeps }
-
-pub variable_state : (h : Held) (m : Map Placed) (key at : List ℕ) (p : Placed) (value : Tree) → m ≡ put key p h.variables → key ≡ at → p.value ≡ value
-    → state_of (record h { variables = m }) ≡ with_variables (put at value (values_of h.variables)) (state_of h)
-variable_state h m key at p value done spelled is =
-    ap (λ n. with_variables (values_of n) (state_of h)) (done ∙ (λ i. put (spelled i) p h.variables))
-    ∙ ap (λ n. with_variables n (state_of h)) (mapped-put (λ (p : Placed). p.value) at p h.variables ∙ (λ i. put at (is i) (values_of h.variables)))
 
 -- ------------------------------------------------------------ an entry
 

@@ -3,10 +3,10 @@ pub mod Layers
 pub mod Holders
 pub mod PlaceKeys
 pub mod SamePlaces
-pub mod Places
 pub mod Past
 pub mod Numbered
 pub mod Spelled
+pub mod StxSupply
 pub mod Changes
 pub mod TokenActs
 pub mod Amounts

@@ -1,33 +1,21 @@
 -- Each key of a state is that of something that has a row.
-use Rattle.std.proofs.Common.{◌≡◌, ℕ, List, [], ◌∷◌, refl, ap, sym, ◌∙◌}
-use Rattle.std.specs.Prelude.{Bool, true, false, cond, Option, None, Some}
-use Rattle.std.specs.Option.{option_map}
+use Rattle.std.proofs.Common.{◌≡◌, ℕ, List, [], ◌∷◌, refl, sym, ◌∙◌}
+use Rattle.std.specs.Prelude.{Bool, true, false, cond, Some}
 use Rattle.std.proofs.lemmas.Option.{none-some}
-use Rattle.cl_maps.specs.Maps.{Map, get}
+use Rattle.cl_maps.specs.Maps.{get}
 use Rattle.cl_maps.proofs.MapLaws.{get-put, same_keys}
 use Rattle.cl_tokens.specs.Table.{is_key}
 use Rattle.cl_events.specs.declared.event.Event.{Event}
 use Rattle.cl_events.specs.declared.event.Move.{Move}
 use Rattle.cl_events.specs.State.{State}
 use Rattle.cl_state.specs.declared.place.Place.{Place}
-use Rattle.cl_state.specs.declared.held.Placed.{Placed}
-use Rattle.cl_state.specs.Variables.{key_of}
-use Rattle.cl_state.specs.Places.{IsAt, AreAtPlaces, values_of}
+use Rattle.cl_state.specs.Variables.{key_of, IsPlaceKey}
 use Rattle.cl_state.specs.Numbered.{by_place, ArePlaced}
 use Rattle.cl_state.specs.Spelled.{Each}
+use Rattle.cl_state.specs.Sums.{HasSums}
 use Rattle.cl_state.specs.Notes.{Held, state_of, IsSound}
 use Rattle.cl_state.specs.Rows.{with_told}
-use Rattle.cl_state.specs.StateRows.{IsPlaceKey, IsListed}
-use Rattle.cl_state.proofs.Places.{get-mapped}
-use Rattle.cl_state.proofs.RowLists.{each_of}
-
-variable_step : (m : Map Placed) (key : List ℕ) (o : Option Placed) → AreAtPlaces m → get key m ≡ o → (o ≡ None → ⊥) → IsPlaceKey key
-variable_step m key None at is some = absurd (some refl)
-variable_step m key (Some p) at is some = let here : IsAt (key, p) = each_of IsAt m at key p is in (p.at, here.place, sym here.key)
-
-variables_listed : (m : Map Placed) → AreAtPlaces m → Each (λ key v. IsPlaceKey key) (values_of m)
-variables_listed m at key v is =
-    variable_step m key (get key m) at refl (λ none. none-some v (sym (ap (option_map (λ (p : Placed). p.value)) none) ∙ sym (get-mapped (λ (p : Placed). p.value) key m) ∙ is))
+use Rattle.cl_state.specs.StateRows.{IsListed}
 
 token_step : {A : Type 0} (key : List ℕ) (e : Place × A) (es : List (Place × A)) (a : A) (b : Bool) → is_key key (key_of e.0) ≡ b → ArePlaced (e ∷ es) → cond b (Some e.1) (get key (by_place es)) ≡ Some a → (get key (by_place es) ≡ Some a → IsPlaceKey key) → IsPlaceKey key
 token_step key e es a true same placed is rest = (e.0, placed.0, same_keys key (key_of e.0) same)
@@ -41,7 +29,7 @@ tokens_listed (e ∷ es) placed key a is =
 
 pub sound_is_listed : (h : Held) → IsSound h → IsListed (state_of h)
 sound_is_listed h sound = record {
-  variables = variables_listed h.variables sound.variables;
+  variables = sound.variables;
   fungibles = tokens_listed h.fungibles sound.fungibles;
   nonfungibles = tokens_listed h.nonfungibles sound.nonfungibles;
   spelled = sound.spelled;
@@ -54,3 +42,10 @@ listed_told s es ms listed = record {
   nonfungibles = listed.nonfungibles;
   spelled = record { entries = listed.spelled.entries; fungibles = listed.spelled.fungibles; nonfungibles = listed.spelled.nonfungibles; stx = listed.spelled.stx };
 }
+
+-- supplies are sums
+pub sound_has_sums : (h : Held) → IsSound h → HasSums (state_of h)
+sound_has_sums h sound = record { fungibles = λ key l is. (sound.spelled.fungibles key l is).sums; stx = sound.spelled.stx.sums }
+
+pub sums_told : (s : State) (es : List Event) (ms : List Move) → HasSums s → HasSums (with_told es ms s)
+sums_told s es ms sums = record { fungibles = sums.fungibles; stx = sums.stx }

@@ -1,10 +1,7 @@
 -- The rows of each kind are just those of what a table has.
-use Rattle.std.proofs.Common.{◌≡◌, ℕ, ◌<◌, List, [], ◌∷◌, ◌++◌, refl, ap, sym, subst, ◌∙◌, arith}
+use Rattle.std.proofs.Common.{◌≡◌, ℕ, ◌<◌, List, [], ◌++◌, refl, ap, sym, subst, ◌∙◌, arith}
 use Rattle.std.specs.Prelude.{Option, None, Some, Result, Ok, Err, OnOk}
-use Rattle.std.specs.Option.{option_map}
-use Rattle.std.specs.List.{AllZip, AllByRecursion as ByRecursion}
 use Rattle.std.specs.List.Sorted.{IsPermutation}
-use Rattle.std.proofs.lemmas.Option.{none-some}
 use Rattle.cl_c32.specs.declared.principal.Principal.{Principal}
 use Rattle.cl_values.specs.Tree.{Tree, UintV, PrincipalV}
 use Rattle.cl_values.specs.Wire.{wire}
@@ -14,16 +11,13 @@ use Rattle.cl_tokens.specs.Ledger.{balance}
 use Rattle.cl_tokens.specs.Owners.{Owners}
 use Rattle.cl_events.specs.State.{holder, spot, place}
 use Rattle.cl_state.specs.declared.place.Place.{Place}
-use Rattle.cl_state.specs.declared.held.Placed.{Placed}
 use Rattle.cl_state.specs.declared.row.StateRow.{StateRow}
 use Rattle.cl_state.specs.declared.row.RowKind.TheVariants.{StxBalance}
 use Rattle.cl_state.specs.Codes.{principal_of}
 use Rattle.cl_state.specs.Variables.{key_of}
-use Rattle.cl_state.specs.Places.{IsAt, values_of}
 use Rattle.cl_state.specs.StateRows.{variable_row, entry_row, owner_row, stx_row}
 use Rattle.cl_state.specs.RowParts.{IsVariableRow, IsEntryRow, holding_row, IsHolding, IsOwnerRow, Lists, Adds, OfVariables, OfEntries, OfHoldings, OfNonFungible}
 use Rattle.cl_state.proofs.PlaceKeys.{keys_apart}
-use Rattle.cl_state.proofs.Places.{get-mapped}
 use Rattle.cl_state.proofs.KeyReading.{OwnSpelling, spots_apart}
 use Rattle.cl_state.proofs.OwnerKeys.{principal_is_val}
 use Rattle.cl_state.proofs.RowLists.{OfMap, just_of_map, adds_so}
@@ -48,10 +42,6 @@ key_of_row r = key_bytes r.key
 abbrev spot_of_row : StateRow → List ℕ
 spot_of_row r = place_of_row r ++ key_of_row r
 
-abbrev value_or : {A : Type 0} → A → Option A → A
-value_or a None = a
-value_or a (Some b) = b
-
 -- what holds of what was done
 pub on_ok : {A E : Type 0} (r : Result A E) (P Q : Type 0) → (P → Q) → OnOk r P → OnOk r Q
 on_ok (Ok a) P Q f h = f h
@@ -61,48 +51,23 @@ pub stx_made : (key v : Tree) (who : Principal) (n : ℕ) → key ≡ PrincipalV
     → ◌≡◌ {A = StateRow} (record { kind = StxBalance; contract = None; name = None; key = Some key; value = v }) (stx_row who n)
 stx_made key v who n key_is value_is = λ i. record { kind = StxBalance; contract = None; name = None; key = Some (key_is i); value = value_is i }
 
-same_some : {A : Type 0} (a b : A) → Some a ≡ Some b → a ≡ b
-same_some a b is = ap (value_or a) is
-
 -- ------------------------------------------------------------ variables
 
-abbrev IsPlacedRow : List ℕ × Placed → StateRow → Type 0
-IsPlacedRow e r = IsAt e × IsVariableRow e r
+variable_key : (e : List ℕ × Tree) (r : StateRow) → IsVariableRow e r → e.0 ≡ place_of_row r
+variable_key e r is = is.2 ∙ sym (ap place_of_row is.3)
 
-placed_zip : (es : List (List ℕ × Placed)) (rows : List StateRow) → ByRecursion IsAt es → AllZip IsVariableRow es rows → AllZip IsPlacedRow es rows
-placed_zip [] [] at zip = tt
-placed_zip [] (r ∷ rows) at zip = absurd zip
-placed_zip (e ∷ es) [] at zip = absurd zip
-placed_zip (e ∷ es) (r ∷ rows) at zip = ((at.0, zip.0), placed_zip es rows at.1 zip.1)
+variable_one : (e : List ℕ × Tree) (r q : StateRow) → IsVariableRow e r → IsVariableRow e q → r ≡ q
+variable_one e r q is also = is.3 ∙ ap (λ at. variable_row at e.1) (keys_apart is.0 also.0 is.1 also.1 (sym is.2 ∙ also.2)) ∙ sym also.3
 
-placed_key : (e : List ℕ × Placed) (r : StateRow) → IsPlacedRow e r → e.0 ≡ place_of_row r
-placed_key e r is = sym is.0.key ∙ sym (ap place_of_row is.1)
+variable_from : (m : Map Tree) (r : StateRow) → OfMap m IsVariableRow place_of_row variable_key variable_one r → OfVariables m r
+variable_from m r (e, is, row) = (row.0, e.1, row.1, subst (λ k. get k m ≡ Some e.1) row.2 is, row.3)
 
-placed_one : (e : List ℕ × Placed) (r q : StateRow) → IsPlacedRow e r → IsPlacedRow e q → r ≡ q
-placed_one e r q is also = is.1 ∙ sym also.1
+variable_to : (m : Map Tree) (r : StateRow) → OfVariables m r → OfMap m IsVariableRow place_of_row variable_key variable_one r
+variable_to m r is = ((key_of is.0, is.1), is.3, (is.0, is.2, refl, is.4))
 
-variable_found : (m : Map Placed) (at : Place) (v : Tree) (o : Option Placed) → get (key_of at) m ≡ o → option_map (λ p. p.value) o ≡ Some v → (p : Placed) × (get (key_of at) m ≡ Some p) × (p.value ≡ v)
-variable_found m at v None is some = absurd (none-some v some)
-variable_found m at v (Some p) is some = (p, is, same_some p.value v some)
-
-module _ (m : Map Placed) (at_places : (key : List ℕ) (p : Placed) → get key m ≡ Some p → IsAt (key, p)) where
-  variable_from : (r : StateRow) → OfMap m IsPlacedRow place_of_row placed_key placed_one r → OfVariables (values_of m) r
-  variable_from r (e, is, row) =
-      (e.1.at, e.1.value, row.0.place, get-mapped (λ (p : Placed). p.value) (key_of e.1.at) m ∙ ap (λ k. option_map (λ (p : Placed). p.value) (get k m)) row.0.key ∙ ap (option_map (λ (p : Placed). p.value)) is, row.1)
-
-  variable_to : (r : StateRow) → OfVariables (values_of m) r → OfMap m IsPlacedRow place_of_row placed_key placed_one r
-  variable_to r (at, v, real, is, row) =
-      let found = variable_found m at v (get (key_of at) m) refl (sym (get-mapped (λ (p : Placed). p.value) (key_of at) m) ∙ is) in
-      let p : Placed = found.0 in
-      let here : IsAt (key_of at, p) = at_places (key_of at) p found.1 in
-      let same : p.at ≡ at = keys_apart p.at at here.place real here.key in
-      ((key_of at, p), found.1, (here, row ∙ sym (λ i. variable_row (same i) (found.2 i))))
-
-  pub variables_added : (es : List (List ℕ × Placed)) (a b : List StateRow) → IsPermutation es m.list → ByRecursion IsAt es → Lists IsVariableRow es a b → Adds (OfVariables (values_of m)) a b
-  variables_added es a b moved at lists =
-      adds_so (OfMap m IsPlacedRow place_of_row placed_key placed_one) (OfVariables (values_of m)) a b
-      (just_of_map m IsPlacedRow place_of_row placed_key placed_one es a b moved (lists.0, lists.1, placed_zip es lists.0 at lists.2))
-      variable_from variable_to
+pub variables_added : (m : Map Tree) (es : List (List ℕ × Tree)) (a b : List StateRow) → IsPermutation es m.list → Lists IsVariableRow es a b → Adds (OfVariables m) a b
+variables_added m es a b moved lists =
+    adds_so (OfMap m IsVariableRow place_of_row variable_key variable_one) (OfVariables m) a b (just_of_map m IsVariableRow place_of_row variable_key variable_one es a b moved lists) (variable_from m) (variable_to m)
 
 -- ------------------------------------------------------------ entries of maps
 

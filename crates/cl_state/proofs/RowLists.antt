@@ -10,7 +10,7 @@ use Rattle.std.specs.FinMap.{is_sorted}
 use Rattle.std.specs.FinMap.Entries as entries
 use Rattle.std.specs.FinMap.Entries.{below_all}
 use Rattle.std.proofs.lemmas.List.{append-nil, take_more}
-use Rattle.std.proofs.lemmas.List.Elements.{All-from_recursion, recursion_from_All, All-contains, Contains-append_left, Contains-append_right}
+use Rattle.std.proofs.lemmas.List.Elements.{All-from_recursion, recursion_from_All, Contains-append_left, Contains-append_right}
 use Rattle.std.proofs.lemmas.List.Kept.{AllPairs-cons}
 use Rattle.std.proofs.lemmas.List.Sorted.{IsPermutation-sym, All-permutation, Contains-permutation, sum_by-IsPermutation}
 use Rattle.std.proofs.lemmas.List.Sums.{sum_by-cons}
@@ -171,10 +171,6 @@ module _ {A : Type 0} where
   -- what each entry of a map has, the rows of its table have
   pub rows_have : (P : List ℕ → A → Type 0) (es : List (List ℕ × A)) (m : Map A) → IsPermutation es m.list → Each P m → ByRecursion (λ e. P e.0 e.1) es
   rows_have P es m moved each = weaker (λ e. get e.0 m ≡ Some e.1) (λ e. P e.0 e.1) es (λ e is. each e.0 e.1 is) (rows_found es m moved)
-
-  -- what each entry in the list has, what is found has
-  pub each_of : (P : List ℕ × A → Type 0) (m : Map A) → ByRecursion P m.list → (key : List ℕ) (a : A) → get key m ≡ Some a → P (key, a)
-  each_of P m all key a is = All-contains P m.list (key, a) (All-from_recursion P m.list all) (stands key a m.list is)
 
   -- ------------------------------------------------------------ rows of a table's rows
 

@@ -17,6 +17,8 @@ use Rattle.cl_tokens.specs.Ledger.{Ledger, most_of, balance, positive, with_bala
 use Rattle.cl_tokens.specs.Owners.{Owners}
 use Rattle.cl_tokens.specs.Deeds.{done}
 use Rattle.cl_tokens.specs.AssetDeeds.{done as asset_done}
+use Rattle.cl_tokens.proofs.Balances.{empty_kept}
+use Rattle.cl_tokens.proofs.Acts.{minted_sound, sent_sound, burnt_sound}
 use Rattle.cl_tokens.proofs.AssetBacks.{minted_gives, sent_gives, burnt_gives}
 use Rattle.cl_events.specs.State.{State, holder, holdings, or_as_before, with_fungibles, with_nonfungibles, with_stx}
 use Rattle.cl_events.specs.Acts.{Acted, replaced}
@@ -76,25 +78,37 @@ with_holder : (m : Map ℕ) (who : List ℕ) (n : ℕ) → Each (λ key k. IsHol
 unfolding with_balance
 with_holder m who n all holds = each_with (λ key k. IsHolder key) m who (positive n) all (λ v. holds)
 
+abbrev Holders : Ledger → Type 0
+Holders l = Each (λ key k. IsHolder key) l.balances
+
 pub held_minted : (amount : ℕ) (to : List ℕ) (l n : Ledger) → IsHolder to → AreHeld l → minted amount to l ≡ Ok n → AreHeld n
 unfolding minted
 held_minted amount to l n holds all e =
     let m : Ledger = record { cap = l.cap; supply = l.supply + amount; balances = with_balance to (balance to l.balances + amount) l.balances } in
-    subst AreHeld (after_two (amount == 0) (nat_lt (most_of l.cap) (l.supply + amount)) (Code 1) SupplyOverflow m n e) (with_holder l.balances to (balance to l.balances + amount) all holds)
+    record {
+      holders = subst Holders (after_two (amount == 0) (nat_lt (most_of l.cap) (l.supply + amount)) (Code 1) SupplyOverflow m n e) (with_holder l.balances to (balance to l.balances + amount) all.holders holds);
+      sums = minted_sound amount to l n all.sums e;
+    }
 
 held_sent : (amount : ℕ) (from to : List ℕ) (l n : Ledger) → IsHolder from → IsHolder to → AreHeld l → sent amount from to l ≡ Ok n → AreHeld n
 unfolding sent
 held_sent amount from to l n gives takes all e =
     let less = with_balance from (balance from l.balances - amount) l.balances in
     let m : Ledger = record { cap = l.cap; supply = l.supply; balances = with_balance to (balance to less + amount) less } in
-    subst AreHeld (after_three (amount == 0) (is_key from to) (nat_lt (balance from l.balances) amount) (Code 3) (Code 2) (Code 1) m n e)
-    (with_holder less to (balance to less + amount) (with_holder l.balances from (balance from l.balances - amount) all gives) takes)
+    record {
+      holders = subst Holders (after_three (amount == 0) (is_key from to) (nat_lt (balance from l.balances) amount) (Code 3) (Code 2) (Code 1) m n e)
+          (with_holder less to (balance to less + amount) (with_holder l.balances from (balance from l.balances - amount) all.holders gives) takes);
+      sums = sent_sound amount from to l n all.sums e;
+    }
 
 held_burnt : (amount : ℕ) (from : List ℕ) (l n : Ledger) → IsHolder from → AreHeld l → burnt amount from l ≡ Ok n → AreHeld n
 unfolding burnt
 held_burnt amount from l n gives all e =
     let m : Ledger = record { cap = l.cap; supply = l.supply - amount; balances = with_balance from (balance from l.balances - amount) l.balances } in
-    subst AreHeld (after_two (amount == 0) (nat_lt (balance from l.balances) amount) (Code 1) (Code 1) m n e) (with_holder l.balances from (balance from l.balances - amount) all gives)
+    record {
+      holders = subst Holders (after_two (amount == 0) (nat_lt (balance from l.balances) amount) (Code 1) (Code 1) m n e) (with_holder l.balances from (balance from l.balances - amount) all.holders gives);
+      sums = burnt_sound amount from l n all.sums e;
+    }
 
 held_after : (act : Act) (l n : Ledger) → AreHolders act → AreHeld l → done act l ≡ Ok n → AreHeld n
 held_after (Mint amount to) l n holders all e = held_minted amount to l n holders all e
@@ -110,7 +124,7 @@ pub held_paid : (amount : ℕ) (to : List ℕ) (l n : Ledger) → IsHolder to �
 held_paid amount to l n holds all is = subst AreHeld (sym is) (paid_step amount to l (minted amount to l) holds all refl)
 
 pub nobody_holds : (cap : Option ℕ) → AreHeld (no_tokens cap)
-nobody_holds cap = none_in (λ key k. IsHolder key)
+nobody_holds cap = record { holders = none_in (λ key k. IsHolder key); sums = empty_kept cap }
 
 -- ------------------------------------------------------------ owners
 
@@ -121,27 +135,27 @@ owned_after id (asset.Burn from) m n is holds all e = subst AreOwned (sym (burnt
 
 -- ------------------------------------------------------------ acts on a state
 
-abbrev state_or : State → Acted → State
+abbrev pub state_or : State → Acted → State
 state_or s (Some (Ok t)) = t
 state_or s (Some (Err r)) = s
 state_or s None = s
 
-abbrev is_done : Acted → Bool
+abbrev pub is_done : Acted → Bool
 is_done (Some (Ok t)) = true
 is_done (Some (Err r)) = false
 is_done None = false
 
-part_done : {A : Type 0} (put_back : A → State) (r : Result A TokenRefusal) (t : State) → replaced put_back r ≡ Some (Ok t) → (m : A) × (r ≡ Ok m) × (put_back m ≡ t)
+pub part_done : {A : Type 0} (put_back : A → State) (r : Result A TokenRefusal) (t : State) → replaced put_back r ≡ Some (Ok t) → (m : A) × (r ≡ Ok m) × (put_back m ≡ t)
 part_done put_back (Ok m) t e = (m, refl, ap (state_or (put_back m)) e)
 part_done put_back (Err x) t e = absurd (subst T (ap is_done (sym e)) tt)
 
-ledger_done : (at : List ℕ) (f : Ledger → Result Ledger TokenRefusal) (s t : State) (o : Option Ledger) → get at s.fungibles ≡ o
+pub ledger_done : (at : List ℕ) (f : Ledger → Result Ledger TokenRefusal) (s t : State) (o : Option Ledger) → get at s.fungibles ≡ o
     → ◌≡◌ {A = Acted} (elim o [ None ↦ None | Some l ↦ replaced (λ m. with_fungibles (put at m s.fungibles) s) (f l) ]) (Some (Ok t))
     → (l : Ledger) × (m : Ledger) × (get at s.fungibles ≡ Some l) × (f l ≡ Ok m) × (with_fungibles (put at m s.fungibles) s ≡ t)
 ledger_done at f s t None is e = absurd (subst T (ap is_done (sym e)) tt)
 ledger_done at f s t (Some l) is e = let r = part_done (λ m. with_fungibles (put at m s.fungibles) s) (f l) t e in (l, r.0, is, r.1, r.2)
 
-owners_done : (at : List ℕ) (f : Owners → Result Owners TokenRefusal) (s t : State) (o : Option Owners) → get at s.nonfungibles ≡ o
+pub owners_done : (at : List ℕ) (f : Owners → Result Owners TokenRefusal) (s t : State) (o : Option Owners) → get at s.nonfungibles ≡ o
     → ◌≡◌ {A = Acted} (elim o [ None ↦ None | Some l ↦ replaced (λ m. with_nonfungibles (put at m s.nonfungibles) s) (f l) ]) (Some (Ok t))
     → (l : Owners) × (m : Owners) × (get at s.nonfungibles ≡ Some l) × (f l ≡ Ok m) × (with_nonfungibles (put at m s.nonfungibles) s ≡ t)
 owners_done at f s t None is e = absurd (subst T (ap is_done (sym e)) tt)

@@ -12,7 +12,6 @@ use Rattle.cl_state.specs.declared.row.RowKind.{RowKind}
 use Rattle.cl_state.specs.declared.row.RowKind.TheVariants.{Variable, MapEntry, Balance, Supply, Owner, StxBalance}
 use Rattle.cl_state.specs.declared.row.StateRow.{StateRow}
 use Rattle.cl_state.specs.Variables.{key_of}
-use Rattle.cl_state.specs.Places.{values_of}
 use Rattle.cl_state.specs.Numbered.{by_place}
 use Rattle.cl_state.specs.Notes.{Held, state_of}
 use Rattle.cl_state.specs.Rows.{with_told}
@@ -34,7 +33,7 @@ part_number StxBalance = 5
 abbrev number_of : StateRow → ℕ
 number_of r = part_number r.kind
 
-variable_number : (h : Held) (r : StateRow) → OfVariables (values_of h.variables) r → number_of r ≡ 0
+variable_number : (h : Held) (r : StateRow) → OfVariables h.variables r → number_of r ≡ 0
 variable_number h r is = ap number_of is.4
 
 entry_number : (h : Held) (r : StateRow) → OfEntries h.entries r → number_of r ≡ 1
@@ -69,17 +68,17 @@ owner_place r at m is = ap place_of_row is.5
 -- ------------------------------------------------------------ all parts
 
 abbrev OfParts : Held → StateRow → Type 0
-OfParts h r = (((OfVariables (values_of h.variables) r ⊎ OfEntries h.entries r) ⊎ OfPlaced OfFungible (by_place h.fungibles) r) ⊎ OfPlaced OfNonFungible (by_place h.nonfungibles) r) ⊎ OfHoldings None h.stx.balances r
+OfParts h r = (((OfVariables h.variables r ⊎ OfEntries h.entries r) ⊎ OfPlaced OfFungible (by_place h.fungibles) r) ⊎ OfPlaced OfNonFungible (by_place h.nonfungibles) r) ⊎ OfHoldings None h.stx.balances r
 
-two_parts : (h : Held) (r : StateRow) → OfVariables (values_of h.variables) r ⊎ OfEntries h.entries r → number_of r ≤ 1
+two_parts : (h : Held) (r : StateRow) → OfVariables h.variables r ⊎ OfEntries h.entries r → number_of r ≤ 1
 two_parts h r (inl is) = let number = variable_number h r is in omega (arith, number)
 two_parts h r (inr is) = let number = entry_number h r is in omega (arith, number)
 
-three_parts : (h : Held) (r : StateRow) → (OfVariables (values_of h.variables) r ⊎ OfEntries h.entries r) ⊎ OfPlaced OfFungible (by_place h.fungibles) r → number_of r ≤ 3
+three_parts : (h : Held) (r : StateRow) → (OfVariables h.variables r ⊎ OfEntries h.entries r) ⊎ OfPlaced OfFungible (by_place h.fungibles) r → number_of r ≤ 3
 three_parts h r (inl is) = let number = two_parts h r is in omega (arith, number)
 three_parts h r (inr is) = (fungible_number is.0 is.1 r is.4).1
 
-four_parts : (h : Held) (r : StateRow) → ((OfVariables (values_of h.variables) r ⊎ OfEntries h.entries r) ⊎ OfPlaced OfFungible (by_place h.fungibles) r) ⊎ OfPlaced OfNonFungible (by_place h.nonfungibles) r → number_of r ≤ 4
+four_parts : (h : Held) (r : StateRow) → ((OfVariables h.variables r ⊎ OfEntries h.entries r) ⊎ OfPlaced OfFungible (by_place h.fungibles) r) ⊎ OfPlaced OfNonFungible (by_place h.nonfungibles) r → number_of r ≤ 4
 four_parts h r (inl is) = let number = three_parts h r is in omega (arith, number)
 four_parts h r (inr is) = let number = owner_number is.0 is.1 r is.4 in omega (arith, number)
 
@@ -99,16 +98,16 @@ row_to h r (OfSupply at token real is) = inl (inl (inr (at, token, real, is, inl
 row_to h r (OfAsset at owners id owner real is valid owned owner_is) = inl (inr (at, owners, real, is, (id, owner, valid, owned, owner_is, refl)))
 row_to h r (OfStx who valid more) = inr (who, valid, more, refl)
 
-pub parts_added : (h : Held) (a b c d e f : List StateRow) → Adds (OfVariables (values_of h.variables)) a b → Adds (OfEntries h.entries) b c → Adds (OfPlaced OfFungible (by_place h.fungibles)) c d
+pub parts_added : (h : Held) (a b c d e f : List StateRow) → Adds (OfVariables h.variables) a b → Adds (OfEntries h.entries) b c → Adds (OfPlaced OfFungible (by_place h.fungibles)) c d
     → Adds (OfPlaced OfNonFungible (by_place h.nonfungibles)) d e → Adds (OfHoldings None h.stx.balances) e f → Adds (IsRow (state_of h)) a f
 parts_added h a b c d e f variables entries fungibles nonfungibles stx =
-    let two = adds_more (OfVariables (values_of h.variables)) (OfEntries h.entries) a b c variables entries
+    let two = adds_more (OfVariables h.variables) (OfEntries h.entries) a b c variables entries
     (λ r is also. let low = variable_number h r is in let high = entry_number h r also in omega (arith, low, high)) in
-    let three = adds_more (λ r. OfVariables (values_of h.variables) r ⊎ OfEntries h.entries r) (OfPlaced OfFungible (by_place h.fungibles)) a c d two fungibles
+    let three = adds_more (λ r. OfVariables h.variables r ⊎ OfEntries h.entries r) (OfPlaced OfFungible (by_place h.fungibles)) a c d two fungibles
     (λ r is also. let low = two_parts h r is in let high = (fungible_number also.0 also.1 r also.4).0 in omega (arith, low, high)) in
-    let four = adds_more (λ r. (OfVariables (values_of h.variables) r ⊎ OfEntries h.entries r) ⊎ OfPlaced OfFungible (by_place h.fungibles) r) (OfPlaced OfNonFungible (by_place h.nonfungibles)) a d e three nonfungibles
+    let four = adds_more (λ r. (OfVariables h.variables r ⊎ OfEntries h.entries r) ⊎ OfPlaced OfFungible (by_place h.fungibles) r) (OfPlaced OfNonFungible (by_place h.nonfungibles)) a d e three nonfungibles
     (λ r is also. let low = three_parts h r is in let high = owner_number also.0 also.1 r also.4 in omega (arith, low, high)) in
-    let five = adds_more (λ r. ((OfVariables (values_of h.variables) r ⊎ OfEntries h.entries r) ⊎ OfPlaced OfFungible (by_place h.fungibles) r) ⊎ OfPlaced OfNonFungible (by_place h.nonfungibles) r) (OfHoldings None h.stx.balances) a e f four stx
+    let five = adds_more (λ r. ((OfVariables h.variables r ⊎ OfEntries h.entries r) ⊎ OfPlaced OfFungible (by_place h.fungibles) r) ⊎ OfPlaced OfNonFungible (by_place h.nonfungibles) r) (OfHoldings None h.stx.balances) a e f four stx
     (λ r is also. let low = four_parts h r is in let high = stx_number h.stx r also in omega (arith, low, high)) in
     adds_so (OfParts h) (IsRow (state_of h)) a f five (row_from h) (row_to h)
 

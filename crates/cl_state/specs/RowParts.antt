@@ -10,7 +10,6 @@ use Rattle.cl_tokens.specs.Ledger.{Ledger, balance}
 use Rattle.cl_tokens.specs.Owners.{Owners}
 use Rattle.cl_events.specs.State.{holder, spot}
 use Rattle.cl_state.specs.declared.place.Place.{Place}
-use Rattle.cl_state.specs.declared.held.Placed.{Placed}
 use Rattle.cl_state.specs.declared.row.StateRow.{StateRow}
 use Rattle.cl_state.specs.Variables.{IsPlace, key_of}
 use Rattle.cl_state.specs.StateRows.{variable_row, entry_row, balance_row, supply_row, owner_row, stx_row}
@@ -33,9 +32,8 @@ principal_size bytes = if get_or bytes 0 0 == 5 then 22 else 23 + get_or bytes 2
 
 -- ------------------------------------------------------------ the row of an entry of a table
 
--- of a row of the table of variables
-abbrev pub IsVariableRow : List ℕ × Placed → StateRow → Type 0
-IsVariableRow e row = row ≡ variable_row e.1.at e.1.value
+abbrev pub IsVariableRow : List ℕ × Tree → StateRow → Type 0
+IsVariableRow e row = (at : Place) × IsPlace at × (e.0 ≡ key_of at) × (row ≡ variable_row at e.1)
 
 abbrev pub IsEntryRow : List ℕ × Tree → StateRow → Type 0
 IsEntryRow e row = (at : Place) × (key : Tree) × IsPlace at × IsVal key × (e.0 ≡ spot at.contract at.name key) × (row ≡ entry_row at key e.1)

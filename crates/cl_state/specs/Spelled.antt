@@ -1,11 +1,11 @@
--- States in which each key spells what it is the key of.
+-- States in which each key spells what it is the key of, and balances sum to supplies.
 use Rattle.std.specs.Prelude.{◌≡◌, ℕ, List, Some}
 use Rattle.cl_c32.specs.declared.principal.Principal.{Principal}
 use Rattle.cl_values.specs.Tree.{Tree}
 use Rattle.cl_values.specs.Wire.{wire}
 use Rattle.cl_values.specs.Valid.{IsPrincipal, IsVal}
 use Rattle.cl_maps.specs.Maps.{Map, get}
-use Rattle.cl_tokens.specs.Ledger.{Ledger}
+use Rattle.cl_tokens.specs.Ledger.{Ledger, IsLedger}
 use Rattle.cl_tokens.specs.Owners.{Owners}
 use Rattle.cl_events.specs.State.{State, holder, spot}
 use Rattle.cl_state.specs.declared.place.Place.{Place}
@@ -27,9 +27,10 @@ IsAsset key = (id : Tree) × IsVal id × (key ≡ wire id)
 abbrev pub Each : {A : Type 0} → (List ℕ → A → Type 0) → Map A → Type 0
 Each {A} P m = (key : List ℕ) (a : A) → get key m ≡ Some a → P key a
 
--- whoever has a balance is a principal
-abbrev pub AreHeld : Ledger → Type 0
-AreHeld l = Each (λ key n. IsHolder key) l.balances
+-- whoever has a balance is a principal, and the balances sum to the supply
+pub record AreHeld (l : Ledger) : Type 0 where
+  pub holders : Each (λ key n. IsHolder key) l.balances
+  pub sums : IsLedger l
 
 -- each asset is owned by a principal
 abbrev pub AreOwned : Owners → Type 0

@@ -13,7 +13,7 @@ use Rattle.cl_state.specs.declared.place.Place.{Place}
 use Rattle.cl_state.specs.declared.row.RowKind.{RowKind}
 use Rattle.cl_state.specs.declared.row.RowKind.TheVariants.{Variable, MapEntry, Balance, Supply, Owner, StxBalance}
 use Rattle.cl_state.specs.declared.row.StateRow.{StateRow}
-use Rattle.cl_state.specs.Variables.{IsPlace, key_of}
+use Rattle.cl_state.specs.Variables.{IsPlace, key_of, IsPlaceKey}
 use Rattle.cl_state.specs.Spelled.{Each, IsSpelled}
 
 -- a row of what a contract has under a name
@@ -59,10 +59,6 @@ pub record AreRows (rows : List StateRow) (s : State) : Type 0 where
   pub sound : All (IsRow s) rows
   pub whole : (row : StateRow) → IsRow s row → Contains rows row
   pub once : AllPairs (λ a b. a ≡ b → ⊥) rows
-
--- the key of what has a place
-abbrev pub IsPlaceKey : List ℕ → Type 0
-IsPlaceKey key = (at : Place) × IsPlace at × (key ≡ key_of at)
 
 -- each key of a state is that of something that has a row, so nothing is kept without one
 pub record IsListed (s : State) : Type 0 where

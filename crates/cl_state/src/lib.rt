@@ -15,7 +15,7 @@ mod tables;
 mod tokens;
 mod world;
 
-pub use laws::{acts_have_answers, places_have_own_keys};
+pub use laws::{acts_have_answers, burns_alone_change_stx_supply, places_have_own_keys};
 pub use place::Place;
 pub use row::{RowKind, StateRow};
 pub use world::{TokenAct, World};

@@ -2,15 +2,15 @@
 ghost use Rattle.std.specs.Prelude.{◌≡◌, OnOk, IfOk, option_copied};
 ghost use Rattle.std.specs.List.{AllByRecursion};
 ghost use Rattle.cl_values.specs.Tree.{UintV};
+ghost use Rattle.cl_state.specs.Variables.{IsPlaceKey};
 ghost use Rattle.cl_state.specs.Spelled.{IsHolder, IsSpot, IsAsset, Each, AreHeld, AreOwned};
-ghost use Rattle.cl_state.specs.Places.{values_of, AreAtPlaces};
 ghost use Rattle.cl_state.specs.Numbered.{by_place, ledgers_of, owners_of, ArePlaced};
-ghost use Rattle.cl_state.specs.StateRows.{placed_row, variable_row, supply_row};
+ghost use Rattle.cl_state.specs.StateRows.{placed_row, supply_row};
 ghost use Rattle.cl_state.specs.RowParts.{holding_row, IsVariableRow, IsEntryRow, IsHolding, IsOwnerRow, Lists, Adds, OfVariables, OfEntries, OfHoldings, OfFungible, OfNonFungible, OfPlaced};
 
-use crate::held::{HeldValue, Placed};
+use crate::held::HeldValue;
 use crate::place::Place;
-use crate::reading::{spot_of, value_of};
+use crate::reading::{place_of, spot_of, value_of};
 use crate::row::{RowKind, StateRow};
 use cl_tokens::{Fungible, Key, NonFungible, Table};
 use cl_types::NoMemory;
@@ -35,6 +35,14 @@ fn placed_row(kind: RowKind, at: &Place, key: Option<Val>, value: Val) -> StateR
         key,
         value,
     }
+}
+
+fn variable_row(alloc: Global, key: &Key, value: Val) -> Result<StateRow, NoMemory>
+    requires { IsPlaceKey key.now }
+    ensures { IfOk result (λ row. IsVariableRow (key.now, value) row) }
+{
+    let at = place_of(alloc, key.bytes())?;
+    Ok(placed_row(RowKind::Variable, &at, None, value))
 }
 
 fn entry_row(alloc: Global, key: &Key, value: Val) -> Result<StateRow, NoMemory>
@@ -81,13 +89,17 @@ fn owner_row(alloc: Global, at: &Place, asset: &Key, owner: &Key) -> Result<Stat
     Ok(placed_row(RowKind::Owner, at, Some(id), owner))
 }
 
-fn list_variables(out: &mut Vec<StateRow>, rows: Vec<(Key, Placed)>) -> Result<(), NoMemory>
+fn list_variables(
+    out: &mut Vec<StateRow>,
+    alloc: Global,
+    rows: Vec<(Key, HeldValue)>,
+) -> Result<(), NoMemory>
+    requires { AllByRecursion (λ e. IsPlaceKey e.0) rows.items }
     ensures { OnOk result (Lists IsVariableRow rows.items out.old.items out.new.items) }
 {
-    for row in rows {
-        let at = row.1.at;
-        let value = row.1.value.into_value();
-        out.push(placed_row(RowKind::Variable, &at, None, value))?;
+    for (key, held) in rows {
+        let row = variable_row(alloc, &key, held.into_value())?;
+        out.push(row)?;
     }
     Ok(())
 }
@@ -143,12 +155,13 @@ fn list_owners(
 /// Adds the rows of variables.
 pub(crate) fn add_variables(
     out: &mut Vec<StateRow>,
-    variables: &Table<Placed>,
+    alloc: Global,
+    variables: &Table<HeldValue>,
 ) -> Result<(), NoMemory>
-    requires { AreAtPlaces variables.now.content }
-    ensures { OnOk result (Adds (OfVariables (values_of variables.now.content)) out.old.items out.new.items) }
+    requires { Each (λ key v. IsPlaceKey key) variables.now.content }
+    ensures { OnOk result (Adds (OfVariables variables.now.content) out.old.items out.new.items) }
 {
-    list_variables(out, variables.rows()?)
+    list_variables(out, alloc, variables.rows()?)
 }
 
 /// Adds the rows of the entries of maps.

@@ -8,7 +8,7 @@ ghost use Rattle.cl_values.specs.Valid.{IsPrincipal, IsVal};
 ghost use Rattle.cl_values.specs.Wire.{name_wire};
 ghost use Rattle.cl_events.specs.State.{holder, spot};
 ghost use Rattle.cl_state.specs.Spelled.{IsHolder, IsSpot};
-ghost use Rattle.cl_state.specs.Variables.{IsPlace};
+ghost use Rattle.cl_state.specs.Variables.{IsPlace, IsPlaceKey, key_of};
 ghost use Rattle.cl_state.specs.RowParts.{IsSpelling, BeginsWithPrincipal, BeginsWithName, principal_size};
 
 use crate::place::Place;
@@ -76,6 +76,31 @@ fn cut_name(bytes: &[u8]) -> (&[u8], &[u8])
     bytes[1..].split_at(bytes[0] as usize)
 }
 
+// of the contract and the name that bytes spell
+fn place_from(alloc: Global, contract: &[u8], name: &[u8]) -> Result<Place, NoMemory>
+    requires contract { IsHolder contract.now }
+    requires name { IsName name.now }
+    ensures place { IfOk result (λ at. IsPlace at) }
+    ensures spelled { IfOk result (λ at. key_of at ≡ contract.now ++ name_wire name.now) }
+{
+    let Some(name) = Name::make(name) else {
+        unreachable!();
+    };
+    let contract = principal_of(alloc, contract)?;
+    Ok(Place { contract, name })
+}
+
+/// The place that bytes spell.
+pub(crate) fn place_of(alloc: Global, bytes: &[u8]) -> Result<Place, NoMemory>
+    requires { IsPlaceKey bytes.now }
+    ensures place { IfOk result (λ at. IsPlace at) }
+    ensures spelled { IfOk result (λ at. bytes.now ≡ key_of at) }
+{
+    let (contract, behind) = cut_principal(bytes);
+    let (name, _end) = cut_name(behind);
+    place_from(alloc, contract, name)
+}
+
 /// The map and the key in it that bytes spell.
 pub(crate) fn spot_of(alloc: Global, bytes: &[u8]) -> Result<(Place, Val), NoMemory>
     requires { IsSpot bytes.now }
@@ -86,10 +111,7 @@ pub(crate) fn spot_of(alloc: Global, bytes: &[u8]) -> Result<(Place, Val), NoMem
     read_back();
     let (contract, behind) = cut_principal(bytes);
     let (name, key) = cut_name(behind);
-    let Some(name) = Name::make(name) else {
-        unreachable!();
-    };
-    let contract = principal_of(alloc, contract)?;
+    let at = place_from(alloc, contract, name)?;
     let key = value_of(alloc, key)?;
-    Ok((Place { contract, name }, key))
+    Ok((at, key))
 }

@@ -1,5 +1,5 @@
 //! What contracts keep, in one table for each kind of thing. A change gives the note by which it is undone.
-ghost use Rattle.std.specs.Prelude.{◌≡◌, ℕ, List, None, Ok, true, false, IfOk, OnOk, OnErr, OnSome, IfSome, IsSome, is_some, option_copied};
+ghost use Rattle.std.specs.Prelude.{◌≡◌, ℕ, List, None, Ok, true, false, not, IfOk, OnOk, OnErr, OnSome, IfSome, IsSome, is_some, option_copied};
 ghost use Rattle.std.specs.Option.{option_map};
 ghost use Rattle.cl_values.specs.Tree.{PrincipalV};
 ghost use Rattle.cl_values.specs.Reading.{decoded};
@@ -21,7 +21,7 @@ ghost use Rattle.cl_state.specs.Notes.{state_of, undone, IsReady, Serves, Gives,
 ghost use Rattle.cl_state.specs.Tables.{held_in, rooms_in, Changes, Stays};
 
 use crate::deed::{Deed, place_of};
-use crate::held::{HeldValue, Placed};
+use crate::held::HeldValue;
 use crate::keys::{holder_key, place_key, spot_key, wire_key};
 use crate::listing::{add_entries, add_fungibles, add_holdings, add_nonfungibles, add_variables};
 use crate::note::Note;
@@ -29,6 +29,7 @@ use crate::place::Place;
 use crate::reading::principal_of;
 use crate::row::StateRow;
 use crate::tokens;
+use crate::tokens::Touched;
 use cl_c32::Principal;
 use cl_events::Asset;
 use cl_tokens::{Act, AssetAct, Fungible, Key, NonFungible, Stored, Table, TokenRefusal};
@@ -40,11 +41,13 @@ use std::alloc::Global;
 /// Variables, map entries, tokens and STX.
 #[derive(Drop)]
 pub(crate) struct Tables {
-    pub(crate) variables: Table<Placed>,
+    pub(crate) variables: Table<HeldValue>,
     pub(crate) entries: Table<HeldValue>,
     pub(crate) fungibles: IndexMap<Place, Fungible>,
     pub(crate) nonfungibles: IndexMap<Place, NonFungible>,
     pub(crate) stx: Fungible,
+    pub(crate) fungibles_touched: Touched,
+    pub(crate) nonfungibles_touched: Touched,
 }
 
 // mints the STX that a holder has from the start, where that is more than 0
@@ -87,6 +90,8 @@ impl Tables {
             fungibles: IndexMap::new(alloc),
             nonfungibles: IndexMap::new(alloc),
             stx: paid(alloc, holders)?,
+            fungibles_touched: Touched::none(),
+            nonfungibles_touched: Touched::none(),
         })
     }
 
@@ -94,21 +99,14 @@ impl Tables {
     pub(crate) fn variable(&self, key: &Key) -> Result<Option<Val>, NoMemory>
         ensures { IfOk result (λ found. found ≡ get key.now (state_of (held_in self.now)).variables) }
     {
-        copy_placed(self.variables.get(key))
-    }
-
-    /// Whether there is a variable of this key.
-    pub(crate) fn has_variable(&self, key: &Key) -> bool
-        ensures { result ≡ is_some (get key.now (state_of (held_in self.now)).variables) }
-    {
-        self.variables.get(key).is_some()
+        copy_found(self.variables.get(key))
     }
 
     fn add_rows(&self, alloc: Global, out: &mut Vec<StateRow>) -> Result<(), NoMemory>
         requires { IsSound (held_in self.now) }
         ensures { OnOk result (Adds (IsRow (state_of (held_in self.now))) out.old.items out.new.items) }
     {
-        add_variables(out, &self.variables)?;
+        add_variables(out, alloc, &self.variables)?;
         add_entries(out, alloc, &self.entries)?;
         add_fungibles(out, alloc, &self.fungibles)?;
         add_nonfungibles(out, alloc, &self.nonfungibles)?;
@@ -184,13 +182,6 @@ impl Tables {
         copy_found(self.entries.get(spot))
     }
 
-    /// Whether there is an entry at a spot.
-    pub(crate) fn has_entry(&self, spot: &Key) -> bool
-        ensures { result ≡ is_some (get spot.now (state_of (held_in self.now)).entries) }
-    {
-        self.entries.get(spot).is_some()
-    }
-
     pub(crate) fn put_variable(
         &mut self,
         alloc: Global,
@@ -203,12 +194,29 @@ impl Tables {
         ensures refused { OnErr result (Stays self.old self.new) }
     {
         let key = place_key(alloc, at)?;
-        let placed = Placed {
-            at: *at,
-            value: HeldValue::new(alloc, value),
-        };
-        let before = put_value(&mut self.variables, &key, placed)?;
+        let before = put_value(&mut self.variables, &key, HeldValue::new(alloc, value))?;
         Ok(Note::Variable(key, before))
+    }
+
+    /// None where there is no such variable; else it holds the value.
+    pub(crate) fn set_variable(
+        &mut self,
+        alloc: Global,
+        at: &Place,
+        value: Val,
+    ) -> Result<Option<Note>, NoMemory>
+        requires { IsSound (held_in self.old) }
+        ensures found { IfOk result (λ o. is_some o ≡ is_some (get (place at.now.contract at.now.name) (state_of (held_in self.old)).variables)) }
+        ensures state { IfOk result (λ o. OnSome o (state_of (held_in self.new) ≡ with_variables (put (place at.now.contract at.now.name) value (state_of (held_in self.old)).variables) (state_of (held_in self.old)))) }
+        ensures noted { IfOk result (λ o. IfSome o (λ note. Changes note self.old self.new)) }
+        ensures absent { IfOk result (λ o. is_some o ≡ false → Stays self.old self.new) }
+        ensures refused { OnErr result (Stays self.old self.new) }
+    {
+        let key = place_key(alloc, at)?;
+        match set_value(&mut self.variables, &key, HeldValue::new(alloc, value)) {
+            Some(before) => Ok(Some(Note::Variable(key, Some(before)))),
+            None => Ok(None),
+        }
     }
 
     pub(crate) fn put_entry(
@@ -226,6 +234,29 @@ impl Tables {
         let spot = spot_key(alloc, at, key)?;
         let before = put_value(&mut self.entries, &spot, HeldValue::new(alloc, value))?;
         Ok(Note::Entry(spot, before))
+    }
+
+    /// None where there is an entry already; else the value is put there.
+    pub(crate) fn insert_entry(
+        &mut self,
+        alloc: Global,
+        at: &Place,
+        key: &Val,
+        value: Val,
+    ) -> Result<Option<Note>, NoMemory>
+        requires { IsSound (held_in self.old) }
+        ensures found { IfOk result (λ o. not (is_some o) ≡ is_some (get (spot at.now.contract at.now.name key.now) (state_of (held_in self.old)).entries)) }
+        ensures state { IfOk result (λ o. OnSome o (state_of (held_in self.new) ≡ with_entries (put (spot at.now.contract at.now.name key.now) value (state_of (held_in self.old)).entries) (state_of (held_in self.old)))) }
+        ensures noted { IfOk result (λ o. IfSome o (λ note. Changes note self.old self.new)) }
+        ensures there { IfOk result (λ o. is_some o ≡ false → Stays self.old self.new) }
+        ensures refused { OnErr result (Stays self.old self.new) }
+    {
+        let spot = spot_key(alloc, at, key)?;
+        if self.entries.get(&spot).is_some() {
+            return Ok(None);
+        }
+        let before = put_value(&mut self.entries, &spot, HeldValue::new(alloc, value))?;
+        Ok(Some(Note::Entry(spot, before)))
     }
 
     /// None where there was no entry; else it is taken away.
@@ -316,6 +347,7 @@ impl Tables {
         let Some(number) = tokens::number_of(&self.fungibles, at) else {
             unreachable!();
         };
+        self.fungibles_touched = self.fungibles_touched.with(number);
         tokens::perform_at(&mut self.fungibles, number, &act)?;
         Ok(Note::Fungible(number, act))
     }
@@ -337,6 +369,7 @@ impl Tables {
         let Some(number) = tokens::number_of(&self.nonfungibles, at) else {
             unreachable!();
         };
+        self.nonfungibles_touched = self.nonfungibles_touched.with(number);
         let owner = tokens::transfer_at(&mut self.nonfungibles, number, &id, act)?;
         Ok(Note::Asset(number, id, owner))
     }
@@ -367,6 +400,10 @@ impl Tables {
         self.variables.tidy();
         self.entries.tidy();
         self.stx.tidy();
+        tokens::tidy_ledgers(&mut self.fungibles, self.fungibles_touched);
+        tokens::tidy_owners(&mut self.nonfungibles, self.nonfungibles_touched);
+        self.fungibles_touched = Touched::none();
+        self.nonfungibles_touched = Touched::none();
     }
 }
 
@@ -407,15 +444,6 @@ fn copy_found(found: Option<&HeldValue>) -> Result<Option<Val>, NoMemory>
     }
 }
 
-fn copy_placed(found: Option<&Placed>) -> Result<Option<Val>, NoMemory>
-    ensures { IfOk result (λ copy. copy ≡ option_map (λ p. p.value) (option_copied found.entry)) }
-{
-    match found {
-        Some(placed) => Ok(Some(placed.value.copy_out()?)),
-        None => Ok(None),
-    }
-}
-
 // gives what was there before
 fn put_value<V: Stored>(table: &mut Table<V>, key: &Key, value: V) -> Result<Option<V>, NoMemory>
     ensures before { IfOk result (λ before. before ≡ get key.now table.old.content) }
@@ -426,6 +454,20 @@ fn put_value<V: Stored>(table: &mut Table<V>, key: &Key, value: V) -> Result<Opt
 {
     table.make_slot(key)?;
     Ok(table.replace(key, Some(value)))
+}
+
+// what there was under a key, in whose place the value is put then
+fn set_value(table: &mut Table<HeldValue>, key: &Key, value: HeldValue) -> Option<HeldValue>
+    ensures before { result ≡ get key.now table.old.content }
+    ensures set { OnSome result (table.new.content ≡ put key.now value table.old.content) }
+    ensures absent { is_some result ≡ false → table.new.content ≡ table.old.content }
+    ensures room { table.new.room ≡ table.old.room }
+    ensures ready { OnSome result (HasRoom table.new.room key.now) }
+{
+    let Some(_value) = table.get(key) else {
+        return None;
+    };
+    table.replace(key, Some(value))
 }
 
 // what there was under a key, which is then taken away

@@ -7,13 +7,36 @@ ghost use Rattle.cl_maps.specs.Maps.{get, with_value};
 ghost use Rattle.indexmap.specs.Layout.{set_value_at};
 ghost use Rattle.cl_state.specs.declared.place.Place.{Place};
 ghost use Rattle.cl_state.specs.Variables.{IsPlace, key_of};
-ghost use Rattle.cl_state.specs.Numbered.{by_place, value_at, IsNumbered, IsNowhere, ArePlaced, no_ledger, no_owners};
+ghost use Rattle.cl_state.specs.Numbered.{by_place, value_at, IsNumbered, IsNowhere, ArePlaced, ledgers_of, owners_of, no_ledger, no_owners};
 ghost use Rattle.cl_state.specs.Notes.{IsRefusedBy, Keeps};
 
 use crate::place::Place;
 use cl_tokens::{Act, AssetAct, Fungible, Key, NonFungible, TokenRefusal};
 use cl_types::{Fault, NoMemory};
 use indexmap::IndexMap;
+
+/// From the first number to before the end: of tokens on which there were acts since the last commit.
+#[derive(Clone, Copy)]
+pub(crate) struct Touched {
+    first: usize,
+    end: usize,
+}
+
+impl Touched {
+    pub(crate) fn none() -> Touched {
+        Touched {
+            first: usize::MAX,
+            end: 0,
+        }
+    }
+
+    pub(crate) fn with(self, number: usize) -> Touched {
+        Touched {
+            first: self.first.min(number),
+            end: self.end.max(number.saturating_add(1)),
+        }
+    }
+}
 
 /// A law of each place: it is valid.
 fn is_valid(at: &Place)
@@ -181,4 +204,42 @@ pub(crate) fn restore_at(
         unreachable!();
     };
     owners.restore(asset, owner);
+}
+
+fn tidy_ledger(tokens: &mut IndexMap<Place, Fungible>, number: usize)
+    ensures { ledgers_of tokens.new.entries ≡ ledgers_of tokens.old.entries }
+{
+    if let Some(ledger) = tokens.get_index_mut(number) {
+        ledger.tidy();
+    }
+}
+
+/// Takes away the slots of those who hold nothing, where these may outnumber the others. Takes no memory.
+pub(crate) fn tidy_ledgers(tokens: &mut IndexMap<Place, Fungible>, touched: Touched)
+    ensures { ledgers_of tokens.new.entries ≡ ledgers_of tokens.old.entries }
+{
+    let mut number = touched.first;
+    while number < touched.end {
+        tidy_ledger(tokens, number);
+        number += 1;
+    }
+}
+
+fn tidy_assets(tokens: &mut IndexMap<Place, NonFungible>, number: usize)
+    ensures { owners_of tokens.new.entries ≡ owners_of tokens.old.entries }
+{
+    if let Some(owners) = tokens.get_index_mut(number) {
+        owners.tidy();
+    }
+}
+
+/// Takes away the slots of assets that nobody owns, where these may outnumber the others. Takes no memory.
+pub(crate) fn tidy_owners(tokens: &mut IndexMap<Place, NonFungible>, touched: Touched)
+    ensures { owners_of tokens.new.entries ≡ owners_of tokens.old.entries }
+{
+    let mut number = touched.first;
+    while number < touched.end {
+        tidy_assets(tokens, number);
+        number += 1;
+    }
 }

@@ -22,25 +22,25 @@ use Rattle.cl_meaning.specs.Scope.{Frame, OwnFunction, parts, in_frame, as_contr
 use Rattle.cl_meaning.specs.Control.{last_of, and_on, or_on, let_in, match_optional, match_response}
 use Rattle.cl_meaning.specs.Values.{on_values}
 use Rattle.cl_meaning.specs.Calls.{closing, body_in}
-use Rattle.cl_meaning.specs.Limits.{limited, Gave}
+use Rattle.cl_eval.specs.Watching.{watched, Gave, truthful}
 use Rattle.cl_meaning.specs.Meaning.{means, applied, head_form}
-use Rattle.cl_meaning.proofs.LimitLaws.{charge_within, limited-stop, then_gave}
+use Rattle.cl_eval.proofs.WatchLaws.{charge_within, watched-stop, watched-ending, then_gave, starts, grew_more}
 use Rattle.std.specs.Prelude.{option_map}
 use Rattle.cl_eval.specs.Homes.{frame_seen, home_seen}
 use Rattle.cl_eval.specs.Seen.{costs_of, scope, scope_of}
-use Rattle.cl_eval.specs.Runs.{truthful}
-use Rattle.cl_eval.proofs.Steps.{hands_on, stops_eq, stops_then, charge_stops, pay_fails, part_fails, ends_so, gives, native_ends, known_some, known_none}
-use Rattle.cl_eval.proofs.Parts.{parts_turn, parts_turn_stop, parts_end, hands_on_all}
+use Rattle.cl_eval.proofs.Steps.{native_ends}
+use Rattle.cl_eval.proofs.WatchSteps.{hands_on, stops_eq, stops_then, charge_stops, charge_spent, pay_fails, pay_fails_at, part_fails, memory_ends, memory_fails, ends_so, gives, known_some, known_none, unseen_ends, node_stops, node_gives, node_unseen}
+use Rattle.cl_eval.proofs.Unseen.{stopped, standing_unseen, literal_unseen, name_unseen, values_unseen, shortened_unseen, tuple_unseen, last_unseen, tried_unseen, token_unseen, stx_unseen, printed_unseen, nothing_unseen, one_unseen, all_unseen}
+use Rattle.cl_eval.proofs.Parts.{parts_turn, parts_turn_stop, parts_end, hands_on_all, onto_memory}
 use Rattle.cl_eval.proofs.Nodes
 use Rattle.cl_eval.proofs.Nodes.{node_is}
 use Rattle.cl_eval.proofs.Heads
 use Rattle.cl_eval.proofs.Forms
 use Rattle.cl_eval.proofs.Forms.{begin_at, strict_at, call_at, means_none, means_down, applied_none, applied_down}
-use Rattle.cl_eval.proofs.Ways.{chose_first, chose_second, choice_stops, truth_stops, wanted_good, wanted_bad, wanted_neither, err_good, err_bad, err_neither}
+use Rattle.cl_eval.proofs.Ways.{chose_first, chose_second, choice_stops, truth_stops, wanted_good, wanted_bad, wanted_neither, truth_ends, err_good, err_bad, err_neither}
 use Rattle.cl_eval.proofs.Loops
 use Rattle.cl_eval.proofs.Lets
 use Rattle.cl_eval.proofs.TupleLaws
-use Rattle.cl_eval.proofs.Steps
 use Rattle.cl_eval.proofs.HomeLaws
 use Rattle.cl_eval.proofs.Closing.{public_ends, public_one, other_ends, returning_ends, closes_below}
 use Rattle.cl_values.specs.Tree.{ListV, items_of}
@@ -50,842 +50,811 @@ use Rattle.cl_meaning.specs.Scope.{sizes}
 use Rattle.cl_meaning.specs.Answers.{stop, outcome_of}
 use Rattle.cl_eval.specs.Applying.{callee_seen}
 use Rattle.cl_eval.specs.Rows.{rows_from, entries_from}
-use Rattle.cl_eval.proofs.Steps.{stops_after}
 use Rattle.cl_eval.proofs.Parts.{onto, onto-nil}
 use Rattle.cl_eval.proofs.IterateLaws
 use Rattle.cl_eval.proofs.Iterating
 use Rattle.cl_eval.proofs.Rows
 use Rattle.cl_eval.proofs.+evaluate.Goals as goal
+use Rattle.cl_forms.specs.declared.head.TokenNative.TheVariants as natives
 
 pub evaluate::evaluate-returns-then-depth-eq0-clause-meant : goal.evaluate::evaluate-returns-then-depth-eq0-clause-meant
-evaluate::evaluate-returns-then-depth-eq0-clause-meant t c fits =
-    means_none _ _ _ _ _ _ c.if-depth-eq0.true
+evaluate::evaluate-returns-then-depth-eq0-clause-meant g t c fits = means_none _ _ _ _ _ _ _ c.if-depth-eq0.true
+
+pub evaluate::evaluate-returns-in_err-value-clause-meant : goal.evaluate::evaluate-returns-in_err-value-clause-meant
+evaluate::evaluate-returns-in_err-value-clause-meant g t c fits = hands_on _ _ c.in_err-value.field-0.0 _ _ _ (err_from_is_err_and c.from_residual.result c.from_residual.ensures.1) (stops_eq _ _ _ _ _ _ (means_down _ _ _ _ _ _ _ (omega arith)) (node_stops _ _ _ _ _ _ _ _ _ (c.in_err-value.ensures.meant fits)))
 
 pub evaluate::evaluate-returns-clause-meant : goal.evaluate::evaluate-returns-clause-meant
-evaluate::evaluate-returns-clause-meant t c fits =
-    ends_so _ _ _ _ _ (means_down _ _ _ _ _ _ (omega arith)) (c.evaluate_node.ensures.meant fits)
+evaluate::evaluate-returns-clause-meant g t c fits =
+    means_down _ _ _ _ _ _ _ (omega arith) ∙ watched-ending _ _ _ _ _ ∙ node_gives _ _ _ _ _ _ _ _ _ (c.in_ok-value.ensures.meant fits) (Nodes.place_of _ _ _ _ _ c.code.view_is) refl c.in_ok-saw.ensures
 
 pub evaluate::evaluate_node-returns-in-Int-clause-meant : goal.evaluate::evaluate_node-returns-in-Int-clause-meant
-evaluate::evaluate_node-returns-in-Int-clause-meant t c fits =
+evaluate::evaluate_node-returns-in-Int-clause-meant g t c fits =
     let s = c.args.world.now.stack.top in
     let same : to_z w128 (of_z w128 c.in-Int.number) ≡ c.in-Int.number = grind (arith, ints, to_z-of_z) in
-    ends_so _ _ _ _ _
-    (ap (limited _ _) (node_is _ _ _ _ _ _ _ _ _ _ _ c.code.view_is c.code.invariant.named c.in-Int.is c.as_slice-parts.ensures.value) ∙ ap (λ z. limited (costs_of c.args.context.now) c.args.meter.now (standing Literal (IntV z) s)) (sym same) ∙ ap (λ v. limited (costs_of c.args.context.now) c.args.meter.now (standing Literal v s)) (sym c.int_value.ensures))
-    (c.stands.ensures s)
+    ends_so _ _ _ _ _ _
+    (ap (watched _ _ _) (node_is _ _ _ _ _ _ _ _ _ _ _ c.code.view_is c.code.invariant.named c.in-Int.is c.as_slice-parts.ensures.value) ∙ ap (λ z. watched (costs_of c.args.context.now) c.args.meter.now (g.W.Watch.seen c.args.watch.now) (standing Literal (IntV z) s)) (sym same) ∙ ap (λ v. watched (costs_of c.args.context.now) c.args.meter.now (g.W.Watch.seen c.args.watch.now) (standing Literal v s)) (sym c.int_value.ensures))
+    (unseen_ends _ _ _ _ _ _ _ (standing_unseen _ _ _ _ _) (c.stands.ensures s))
 
 pub evaluate::evaluate_node-returns-in-Uint-clause-meant : goal.evaluate::evaluate_node-returns-in-Uint-clause-meant
-evaluate::evaluate_node-returns-in-Uint-clause-meant t c fits =
+evaluate::evaluate_node-returns-in-Uint-clause-meant g t c fits =
     let s = c.args.world.now.stack.top in
-    ends_so _ _ _ _ _
-    (ap (limited _ _) (node_is _ _ _ _ _ _ _ _ _ _ _ c.code.view_is c.code.invariant.named c.in-Uint.is c.as_slice-parts.ensures.value) ∙ ap (λ z. limited (costs_of c.args.context.now) c.args.meter.now (standing Literal z s)) (sym c.uint_value.ensures))
-    (c.stands-in-Uint.ensures s)
+    ends_so _ _ _ _ _ _
+    (ap (watched _ _ _) (node_is _ _ _ _ _ _ _ _ _ _ _ c.code.view_is c.code.invariant.named c.in-Uint.is c.as_slice-parts.ensures.value) ∙ ap (λ z. watched (costs_of c.args.context.now) c.args.meter.now (g.W.Watch.seen c.args.watch.now) (standing Literal z s)) (sym c.uint_value.ensures))
+    (unseen_ends _ _ _ _ _ _ _ (standing_unseen _ _ _ _ _) (c.stands-in-Uint.ensures s))
 
 pub evaluate::evaluate_node-returns-in-Buff-clause-meant : goal.evaluate::evaluate_node-returns-in-Buff-clause-meant
-evaluate::evaluate_node-returns-in-Buff-clause-meant t c fits =
-    ends_so _ _ _ _ _ (ap (limited _ _) (node_is _ _ _ _ _ _ _ _ _ _ _ c.code.view_is c.code.invariant.named c.in-Buff.is c.as_slice-parts.ensures.value) ∙ ap (λ b. limited (costs_of c.args.context.now) c.args.meter.now (literal (made (Rattle.cl_values.specs.Tree.BuffV b)) c.args.world.now.stack.top)) (sym c.deref.ensures.value)) (c.buff_literal.ensures c.args.world.now.stack.top)
+evaluate::evaluate_node-returns-in-Buff-clause-meant g t c fits =
+    ends_so _ _ _ _ _ _ (ap (watched _ _ _) (node_is _ _ _ _ _ _ _ _ _ _ _ c.code.view_is c.code.invariant.named c.in-Buff.is c.as_slice-parts.ensures.value) ∙ ap (λ b. watched (costs_of c.args.context.now) c.args.meter.now (g.W.Watch.seen c.args.watch.now) (literal (made (Rattle.cl_values.specs.Tree.BuffV b)) c.args.world.now.stack.top)) (sym c.deref.ensures.value)) (unseen_ends _ _ _ _ _ _ _ (literal_unseen _ _ _ _) (c.buff_literal.ensures c.args.world.now.stack.top))
 
 pub evaluate::evaluate_node-returns-in-Ascii-clause-meant : goal.evaluate::evaluate_node-returns-in-Ascii-clause-meant
-evaluate::evaluate_node-returns-in-Ascii-clause-meant t c fits =
-    ends_so _ _ _ _ _ (ap (limited _ _) (node_is _ _ _ _ _ _ _ _ _ _ _ c.code.view_is c.code.invariant.named c.in-Ascii.is c.as_slice-parts.ensures.value) ∙ ap (λ b. limited (costs_of c.args.context.now) c.args.meter.now (literal (made (Rattle.cl_values.specs.Tree.AsciiV b)) c.args.world.now.stack.top)) (sym c.deref-in-Ascii.ensures.value)) (c.ascii_literal.ensures c.args.world.now.stack.top)
+evaluate::evaluate_node-returns-in-Ascii-clause-meant g t c fits =
+    ends_so _ _ _ _ _ _ (ap (watched _ _ _) (node_is _ _ _ _ _ _ _ _ _ _ _ c.code.view_is c.code.invariant.named c.in-Ascii.is c.as_slice-parts.ensures.value) ∙ ap (λ b. watched (costs_of c.args.context.now) c.args.meter.now (g.W.Watch.seen c.args.watch.now) (literal (made (Rattle.cl_values.specs.Tree.AsciiV b)) c.args.world.now.stack.top)) (sym c.deref-in-Ascii.ensures.value)) (unseen_ends _ _ _ _ _ _ _ (literal_unseen _ _ _ _) (c.ascii_literal.ensures c.args.world.now.stack.top))
 
 pub evaluate::evaluate_node-returns-in-Utf8-clause-meant : goal.evaluate::evaluate_node-returns-in-Utf8-clause-meant
-evaluate::evaluate_node-returns-in-Utf8-clause-meant t c fits =
-    ends_so _ _ _ _ _ (ap (limited _ _) (node_is _ _ _ _ _ _ _ _ _ _ _ c.code.view_is c.code.invariant.named c.in-Utf8.is c.as_slice-parts.ensures.value) ∙ ap (λ b. limited (costs_of c.args.context.now) c.args.meter.now (literal (made (Rattle.cl_values.specs.Tree.Utf8V b)) c.args.world.now.stack.top)) (sym c.deref-in-Utf8.ensures.value)) (c.utf8_literal.ensures c.args.world.now.stack.top)
+evaluate::evaluate_node-returns-in-Utf8-clause-meant g t c fits =
+    ends_so _ _ _ _ _ _ (ap (watched _ _ _) (node_is _ _ _ _ _ _ _ _ _ _ _ c.code.view_is c.code.invariant.named c.in-Utf8.is c.as_slice-parts.ensures.value) ∙ ap (λ b. watched (costs_of c.args.context.now) c.args.meter.now (g.W.Watch.seen c.args.watch.now) (literal (made (Rattle.cl_values.specs.Tree.Utf8V b)) c.args.world.now.stack.top)) (sym c.deref-in-Utf8.ensures.value)) (unseen_ends _ _ _ _ _ _ _ (literal_unseen _ _ _ _) (c.utf8_literal.ensures c.args.world.now.stack.top))
 
 pub evaluate::evaluate_node-returns-in-Standing-clause-meant : goal.evaluate::evaluate_node-returns-in-Standing-clause-meant
-evaluate::evaluate_node-returns-in-Standing-clause-meant t c fits =
-    ends_so _ _ _ _ _ (ap (limited _ _) (node_is _ _ _ _ _ _ _ _ _ _ _ c.code.view_is c.code.invariant.named c.in-Standing.is c.as_slice-parts.ensures.value)) (c.principal_literal.ensures c.args.world.now.stack.top)
+evaluate::evaluate_node-returns-in-Standing-clause-meant g t c fits = ends_so _ _ _ _ _ _ (ap (watched _ _ _) (node_is _ _ _ _ _ _ _ _ _ _ _ c.code.view_is c.code.invariant.named c.in-Standing.is c.as_slice-parts.ensures.value)) (unseen_ends _ _ _ _ _ _ _ (standing_unseen _ _ _ _ _) (c.principal_literal.ensures c.args.world.now.stack.top))
 
 pub evaluate::evaluate_node-returns-in-Local-clause-meant : goal.evaluate::evaluate_node-returns-in-Local-clause-meant
-evaluate::evaluate_node-returns-in-Local-clause-meant t c fits =
-    ends_so _ _ _ _ _ (ap (limited _ _) (node_is _ _ _ _ _ _ _ _ _ _ _ c.code.view_is c.code.invariant.named c.in-Local.is c.as_slice-parts.ensures.value) ∙ ap (λ p. limited (costs_of c.args.context.now) c.args.meter.now (standing Literal (Rattle.cl_values.specs.Tree.PrincipalV p) c.args.world.now.stack.top)) (sym c.beside.ensures)) (c.principal_literal-in-Local.ensures c.args.world.now.stack.top)
+evaluate::evaluate_node-returns-in-Local-clause-meant g t c fits =
+    ends_so _ _ _ _ _ _ (ap (watched _ _ _) (node_is _ _ _ _ _ _ _ _ _ _ _ c.code.view_is c.code.invariant.named c.in-Local.is c.as_slice-parts.ensures.value) ∙ ap (λ p. watched (costs_of c.args.context.now) c.args.meter.now (g.W.Watch.seen c.args.watch.now) (standing Literal (Rattle.cl_values.specs.Tree.PrincipalV p) c.args.world.now.stack.top)) (sym c.beside.ensures)) (unseen_ends _ _ _ _ _ _ _ (standing_unseen _ _ _ _ _) (c.principal_literal-in-Local.ensures c.args.world.now.stack.top))
 
 pub evaluate::evaluate_node-returns-in-Keyword-clause-meant : goal.evaluate::evaluate_node-returns-in-Keyword-clause-meant
-evaluate::evaluate_node-returns-in-Keyword-clause-meant t c fits =
-    ends_so _ _ _ _ _ (ap (limited _ _) (node_is _ _ _ _ _ _ _ _ _ _ _ c.code.view_is c.code.invariant.named c.in-Keyword.is c.as_slice-parts.ensures.value)) (c.keyword.ensures c.args.world.now.stack.top)
+evaluate::evaluate_node-returns-in-Keyword-clause-meant g t c fits = ends_so _ _ _ _ _ _ (ap (watched _ _ _) (node_is _ _ _ _ _ _ _ _ _ _ _ c.code.view_is c.code.invariant.named c.in-Keyword.is c.as_slice-parts.ensures.value)) (unseen_ends _ _ _ _ _ _ _ (name_unseen _ _ _ _ _) (c.keyword.ensures c.args.world.now.stack.top))
 
 pub evaluate::evaluate_node-returns-in-Bound-clause-meant : goal.evaluate::evaluate_node-returns-in-Bound-clause-meant
-evaluate::evaluate_node-returns-in-Bound-clause-meant t c fits =
-    ends_so _ _ _ _ _ (ap (limited _ _) (node_is _ _ _ _ _ _ _ _ _ _ _ c.code.view_is c.code.invariant.named c.in-Bound.is c.as_slice-parts.ensures.value)) (c.named.ensures c.args.world.now.stack.top fits)
+evaluate::evaluate_node-returns-in-Bound-clause-meant g t c fits = ends_so _ _ _ _ _ _ (ap (watched _ _ _) (node_is _ _ _ _ _ _ _ _ _ _ _ c.code.view_is c.code.invariant.named c.in-Bound.is c.as_slice-parts.ensures.value)) (unseen_ends _ _ _ _ _ _ _ (name_unseen _ _ _ _ _) (c.named.ensures c.args.world.now.stack.top fits))
 
 pub evaluate::evaluate_node-returns-in-Constant-clause-meant : goal.evaluate::evaluate_node-returns-in-Constant-clause-meant
-evaluate::evaluate_node-returns-in-Constant-clause-meant t c fits =
-    ends_so _ _ _ _ _ (ap (limited _ _) (node_is _ _ _ _ _ _ _ _ _ _ _ c.code.view_is c.code.invariant.named c.in-Constant.is c.as_slice-parts.ensures.value)) (c.named-in-Constant.ensures c.args.world.now.stack.top fits)
+evaluate::evaluate_node-returns-in-Constant-clause-meant g t c fits = ends_so _ _ _ _ _ _ (ap (watched _ _ _) (node_is _ _ _ _ _ _ _ _ _ _ _ c.code.view_is c.code.invariant.named c.in-Constant.is c.as_slice-parts.ensures.value)) (unseen_ends _ _ _ _ _ _ _ (name_unseen _ _ _ _ _) (c.named-in-Constant.ensures c.args.world.now.stack.top fits))
 
 pub evaluate::evaluate_node-returns-in-OnValues-clause-meant : goal.evaluate::evaluate_node-returns-in-OnValues-clause-meant
-evaluate::evaluate_node-returns-in-OnValues-clause-meant t c fits =
-    ends_so _ _ _ _ _ (ap (limited _ _) (node_is _ _ _ _ _ _ _ _ _ _ _ c.code.view_is c.code.invariant.named c.in-OnValues.is c.as_slice-parts.ensures.value)) (c.evaluate_native.ensures.meant fits)
+evaluate::evaluate_node-returns-in-OnValues-clause-meant g t c fits = ends_so _ _ _ _ _ _ (ap (watched _ _ _) (node_is _ _ _ _ _ _ _ _ _ _ _ c.code.view_is c.code.invariant.named c.in-OnValues.is c.as_slice-parts.ensures.value)) (c.evaluate_native.ensures.meant fits)
 
 pub evaluate::evaluate_node-returns-in-OnParts-clause-meant : goal.evaluate::evaluate_node-returns-in-OnParts-clause-meant
-evaluate::evaluate_node-returns-in-OnParts-clause-meant t c fits =
-    ends_so _ _ _ _ _ (ap (limited _ _) (node_is _ _ _ _ _ _ _ _ _ _ _ c.code.view_is c.code.invariant.named c.in-OnParts.is c.as_slice-parts.ensures.value)) (c.evaluate_on_parts.ensures.meant fits)
+evaluate::evaluate_node-returns-in-OnParts-clause-meant g t c fits = ends_so _ _ _ _ _ _ (ap (watched _ _ _) (node_is _ _ _ _ _ _ _ _ _ _ _ c.code.view_is c.code.invariant.named c.in-OnParts.is c.as_slice-parts.ensures.value)) (c.evaluate_on_parts.ensures.meant fits)
 
 pub evaluate::evaluate_node-returns-in-OnName-clause-meant : goal.evaluate::evaluate_node-returns-in-OnName-clause-meant
-evaluate::evaluate_node-returns-in-OnName-clause-meant t c fits =
-    ends_so _ _ _ _ _ (ap (limited _ _) (node_is _ _ _ _ _ _ _ _ _ _ _ c.code.view_is c.code.invariant.named c.in-OnName.is c.as_slice-parts.ensures.value)) (c.evaluate_on_name.ensures.meant fits)
+evaluate::evaluate_node-returns-in-OnName-clause-meant g t c fits = ends_so _ _ _ _ _ _ (ap (watched _ _ _) (node_is _ _ _ _ _ _ _ _ _ _ _ c.code.view_is c.code.invariant.named c.in-OnName.is c.as_slice-parts.ensures.value)) (c.evaluate_on_name.ensures.meant fits)
 
 pub evaluate::evaluate_node-returns-in-MatchOptional-clause-meant : goal.evaluate::evaluate_node-returns-in-MatchOptional-clause-meant
-evaluate::evaluate_node-returns-in-MatchOptional-clause-meant t c fits =
-    ends_so _ _ _ _ _ (ap (limited _ _) (node_is _ _ _ _ _ _ _ _ _ _ _ c.code.view_is c.code.invariant.named c.in-MatchOptional.is c.as_slice-parts.ensures.value)) (c.evaluate_match_optional.ensures.meant fits)
+evaluate::evaluate_node-returns-in-MatchOptional-clause-meant g t c fits = ends_so _ _ _ _ _ _ (ap (watched _ _ _) (node_is _ _ _ _ _ _ _ _ _ _ _ c.code.view_is c.code.invariant.named c.in-MatchOptional.is c.as_slice-parts.ensures.value)) (c.evaluate_match_optional.ensures.meant fits)
 
 pub evaluate::evaluate_node-returns-in-MatchResponse-clause-meant : goal.evaluate::evaluate_node-returns-in-MatchResponse-clause-meant
-evaluate::evaluate_node-returns-in-MatchResponse-clause-meant t c fits =
-    ends_so _ _ _ _ _ (ap (limited _ _) (node_is _ _ _ _ _ _ _ _ _ _ _ c.code.view_is c.code.invariant.named c.in-MatchResponse.is c.as_slice-parts.ensures.value)) (c.evaluate_match_response.ensures.meant fits)
+evaluate::evaluate_node-returns-in-MatchResponse-clause-meant g t c fits = ends_so _ _ _ _ _ _ (ap (watched _ _ _) (node_is _ _ _ _ _ _ _ _ _ _ _ c.code.view_is c.code.invariant.named c.in-MatchResponse.is c.as_slice-parts.ensures.value)) (c.evaluate_match_response.ensures.meant fits)
 
 pub evaluate::evaluate_node-returns-in-Call-clause-meant : goal.evaluate::evaluate_node-returns-in-Call-clause-meant
-evaluate::evaluate_node-returns-in-Call-clause-meant t c fits =
-    ends_so _ _ _ _ _ (ap (limited _ _) (node_is _ _ _ _ _ _ _ _ _ _ _ c.code.view_is c.code.invariant.named c.in-Call.is c.as_slice-parts.ensures.value)) (c.evaluate_call.ensures.meant fits)
+evaluate::evaluate_node-returns-in-Call-clause-meant g t c fits = ends_so _ _ _ _ _ _ (ap (watched _ _ _) (node_is _ _ _ _ _ _ _ _ _ _ _ c.code.view_is c.code.invariant.named c.in-Call.is c.as_slice-parts.ensures.value)) (c.evaluate_call.ensures.meant fits)
 
 pub evaluate::evaluate_node-returns-in-Let-clause-meant : goal.evaluate::evaluate_node-returns-in-Let-clause-meant
-evaluate::evaluate_node-returns-in-Let-clause-meant t c fits =
-    ends_so _ _ _ _ _ (ap (limited _ _) (node_is _ _ _ _ _ _ _ _ _ _ _ c.code.view_is c.code.invariant.named c.in-Let.is c.as_slice-parts.ensures.value) ∙ Lets.let_names _ _ _ _ _ _ _ _ _ c.deref-in-Let.ensures.value) (c.evaluate_let.ensures.meant _ fits)
+evaluate::evaluate_node-returns-in-Let-clause-meant g t c fits = ends_so _ _ _ _ _ _ (ap (watched _ _ _) (node_is _ _ _ _ _ _ _ _ _ _ _ c.code.view_is c.code.invariant.named c.in-Let.is c.as_slice-parts.ensures.value) ∙ Lets.let_names _ _ _ _ _ _ _ _ _ _ c.deref-in-Let.ensures.value) (c.evaluate_let.ensures.meant _ fits)
 
 pub on_parts::evaluate_on_parts-returns-in-If-clause-meant : goal.on_parts::evaluate_on_parts-returns-in-If-clause-meant
-on_parts::evaluate_on_parts-returns-in-If-clause-meant t c fits =
-    ends_so _ _ _ _ _ (ap (limited _ _) (Heads.parts_at _ _ _ _ _ _ _ _ c.in-If.is)) (c.evaluate_if.ensures.meant fits)
+on_parts::evaluate_on_parts-returns-in-If-clause-meant g t c fits = ends_so _ _ _ _ _ _ (ap (watched _ _ _) (Heads.parts_at _ _ _ _ _ _ _ _ c.in-If.is)) (c.evaluate_if.ensures.meant fits)
 
 pub on_parts::evaluate_on_parts-returns-in-Begin-clause-meant : goal.on_parts::evaluate_on_parts-returns-in-Begin-clause-meant
-on_parts::evaluate_on_parts-returns-in-Begin-clause-meant t c fits =
-    ends_so _ _ _ _ _ (ap (limited _ _) (Heads.parts_at _ _ _ _ _ _ _ _ c.in-Begin.is)) (c.evaluate_begin.ensures.meant fits)
+on_parts::evaluate_on_parts-returns-in-Begin-clause-meant g t c fits = ends_so _ _ _ _ _ _ (ap (watched _ _ _) (Heads.parts_at _ _ _ _ _ _ _ _ c.in-Begin.is)) (c.evaluate_begin.ensures.meant fits)
 
 pub on_parts::evaluate_on_parts-returns-in-And-clause-meant : goal.on_parts::evaluate_on_parts-returns-in-And-clause-meant
-on_parts::evaluate_on_parts-returns-in-And-clause-meant t c fits =
-    ends_so _ _ _ _ _ (ap (limited _ _) (Heads.parts_at _ _ _ _ _ _ _ _ c.in-And.is)) (c.evaluate_and.ensures.meant fits)
+on_parts::evaluate_on_parts-returns-in-And-clause-meant g t c fits = ends_so _ _ _ _ _ _ (ap (watched _ _ _) (Heads.parts_at _ _ _ _ _ _ _ _ c.in-And.is)) (c.evaluate_and.ensures.meant fits)
 
 pub on_parts::evaluate_on_parts-returns-in-Or-clause-meant : goal.on_parts::evaluate_on_parts-returns-in-Or-clause-meant
-on_parts::evaluate_on_parts-returns-in-Or-clause-meant t c fits =
-    ends_so _ _ _ _ _ (ap (limited _ _) (Heads.parts_at _ _ _ _ _ _ _ _ c.in-Or.is)) (c.evaluate_or.ensures.meant fits)
+on_parts::evaluate_on_parts-returns-in-Or-clause-meant g t c fits = ends_so _ _ _ _ _ _ (ap (watched _ _ _) (Heads.parts_at _ _ _ _ _ _ _ _ c.in-Or.is)) (c.evaluate_or.ensures.meant fits)
 
 pub on_parts::evaluate_on_parts-returns-in-Asserts-clause-meant : goal.on_parts::evaluate_on_parts-returns-in-Asserts-clause-meant
-on_parts::evaluate_on_parts-returns-in-Asserts-clause-meant t c fits =
-    ends_so _ _ _ _ _ (ap (limited _ _) (Heads.parts_at _ _ _ _ _ _ _ _ c.in-Asserts.is)) (c.evaluate_asserts.ensures.meant fits)
+on_parts::evaluate_on_parts-returns-in-Asserts-clause-meant g t c fits = ends_so _ _ _ _ _ _ (ap (watched _ _ _) (Heads.parts_at _ _ _ _ _ _ _ _ c.in-Asserts.is)) (c.evaluate_asserts.ensures.meant fits)
 
 pub on_parts::evaluate_on_parts-returns-in-Unwrap-clause-meant : goal.on_parts::evaluate_on_parts-returns-in-Unwrap-clause-meant
-on_parts::evaluate_on_parts-returns-in-Unwrap-clause-meant t c fits =
-    ends_so _ _ _ _ _ (ap (limited _ _) (Heads.parts_at _ _ _ _ _ _ _ _ c.in-Unwrap.is)) (c.evaluate_unwrap.ensures.meant fits)
+on_parts::evaluate_on_parts-returns-in-Unwrap-clause-meant g t c fits = ends_so _ _ _ _ _ _ (ap (watched _ _ _) (Heads.parts_at _ _ _ _ _ _ _ _ c.in-Unwrap.is)) (c.evaluate_unwrap.ensures.meant fits)
 
 pub on_parts::evaluate_on_parts-returns-in-UnwrapErr-clause-meant : goal.on_parts::evaluate_on_parts-returns-in-UnwrapErr-clause-meant
-on_parts::evaluate_on_parts-returns-in-UnwrapErr-clause-meant t c fits =
-    ends_so _ _ _ _ _ (ap (limited _ _) (Heads.parts_at _ _ _ _ _ _ _ _ c.in-UnwrapErr.is)) (c.evaluate_unwrap_err.ensures.meant fits)
+on_parts::evaluate_on_parts-returns-in-UnwrapErr-clause-meant g t c fits = ends_so _ _ _ _ _ _ (ap (watched _ _ _) (Heads.parts_at _ _ _ _ _ _ _ _ c.in-UnwrapErr.is)) (c.evaluate_unwrap_err.ensures.meant fits)
 
 pub on_parts::evaluate_on_parts-returns-in-Try-clause-meant : goal.on_parts::evaluate_on_parts-returns-in-Try-clause-meant
-on_parts::evaluate_on_parts-returns-in-Try-clause-meant t c fits =
-    ends_so _ _ _ _ _ (ap (limited _ _) (Heads.parts_at _ _ _ _ _ _ _ _ c.in-Try.is)) (c.evaluate_try.ensures.meant fits)
+on_parts::evaluate_on_parts-returns-in-Try-clause-meant g t c fits = ends_so _ _ _ _ _ _ (ap (watched _ _ _) (Heads.parts_at _ _ _ _ _ _ _ _ c.in-Try.is)) (c.evaluate_try.ensures.meant fits)
 
 pub on_parts::evaluate_on_parts-returns-in-AsContract-clause-meant : goal.on_parts::evaluate_on_parts-returns-in-AsContract-clause-meant
-on_parts::evaluate_on_parts-returns-in-AsContract-clause-meant t c fits =
-    ends_so _ _ _ _ _ (ap (limited _ _) (Heads.parts_at _ _ _ _ _ _ _ _ c.in-AsContract.is)) (c.evaluate_as_contract.ensures.meant fits)
+on_parts::evaluate_on_parts-returns-in-AsContract-clause-meant g t c fits = ends_so _ _ _ _ _ _ (ap (watched _ _ _) (Heads.parts_at _ _ _ _ _ _ _ _ c.in-AsContract.is)) (c.evaluate_as_contract.ensures.meant fits)
 
 pub on_parts::evaluate_on_parts-returns-in-Print-clause-meant : goal.on_parts::evaluate_on_parts-returns-in-Print-clause-meant
-on_parts::evaluate_on_parts-returns-in-Print-clause-meant t c fits =
-    ends_so _ _ _ _ _ (ap (limited _ _) (Heads.parts_at _ _ _ _ _ _ _ _ c.in-Print.is)) (c.evaluate_print.ensures.meant fits)
+on_parts::evaluate_on_parts-returns-in-Print-clause-meant g t c fits = ends_so _ _ _ _ _ _ (ap (watched _ _ _) (Heads.parts_at _ _ _ _ _ _ _ _ c.in-Print.is)) (c.evaluate_print.ensures.meant fits)
 
 pub on_names::evaluate_on_name-returns-in-Nothing-clause-meant : goal.on_names::evaluate_on_name-returns-in-Nothing-clause-meant
-on_names::evaluate_on_name-returns-in-Nothing-clause-meant t c fits =
-    ends_so _ _ _ _ _ (ap (limited _ _) (Heads.nothing_at _ _ _ _ _ _ _ _ (sym c.in-Nothing.is ∙ c.taking_of.ensures) c.requires.fit)) c.with_nothing.ensures.meant
+on_names::evaluate_on_name-returns-in-Nothing-clause-meant g t c fits = ends_so _ _ _ _ _ _ (ap (watched _ _ _) (Heads.nothing_at _ _ _ _ _ _ _ _ (sym c.in-Nothing.is ∙ c.taking_of.ensures) c.requires.fit)) (unseen_ends _ _ _ _ _ _ _ (nothing_unseen c.args.native (scope c.args.context.now c.args.names.now) c.args.name.now.name c.args.world.now.stack.top _ _) c.with_nothing.ensures.meant)
 
 pub on_names::evaluate_on_name-returns-in_err-value-in-One-clause-meant : goal.on_names::evaluate_on_name-returns-in_err-value-in-One-clause-meant
-on_names::evaluate_on_name-returns-in_err-value-in-One-clause-meant t c fits =
-    part_fails _ _ c.in_err-value-in-One.field-0.0 _ _ _ _ _ _ (err_from_is_err_and c.from_residual.result c.from_residual.ensures.1) (ap (limited _ _) (Heads.one_at _ _ _ _ _ _ _ _ _ (sym c.in-One.is ∙ c.taking_of.ensures) (Heads.is_one _ _ (sym c.in-One.is ∙ c.taking_of.ensures) c.requires.fit) c.index-codes-0.is)) (c.in_err-value-in-One.ensures.meant fits)
+on_names::evaluate_on_name-returns-in_err-value-in-One-clause-meant g t c fits =
+    part_fails _ _ c.in_err-value-in-One.field-0.0 _ _ _ _ _ _ _ _ (err_from_is_err_and c.from_residual.result c.from_residual.ensures.1) (ap (watched _ _ _) (Heads.one_at _ _ _ _ _ _ _ _ _ (sym c.in-One.is ∙ c.taking_of.ensures) (Heads.is_one _ _ (sym c.in-One.is ∙ c.taking_of.ensures) c.requires.fit) c.index-codes-0.is)) (c.in_err-value-in-One.ensures.meant fits)
 
 pub on_names::evaluate_on_name-returns-in_ok-value-in-One-clause-meant : goal.on_names::evaluate_on_name-returns-in_ok-value-in-One-clause-meant
-on_names::evaluate_on_name-returns-in_ok-value-in-One-clause-meant t c fits =
-    ends_so _ _ _ _ _ (ap (limited _ _) (Heads.one_at _ _ _ _ _ _ _ _ _ (sym c.in-One.is ∙ c.taking_of.ensures) (Heads.is_one _ _ (sym c.in-One.is ∙ c.taking_of.ensures) c.requires.fit) c.index-codes-0.is) ∙ then_gave _ _ _ _ _ _ _ (c.in_ok-value-in-One.ensures.meant fits)) (c.with_one.ensures.meant fits)
+on_names::evaluate_on_name-returns-in_ok-value-in-One-clause-meant g t c fits = ends_so _ _ _ _ _ _ (ap (watched _ _ _) (Heads.one_at _ _ _ _ _ _ _ _ _ (sym c.in-One.is ∙ c.taking_of.ensures) (Heads.is_one _ _ (sym c.in-One.is ∙ c.taking_of.ensures) c.requires.fit) c.index-codes-0.is) ∙ then_gave _ _ _ _ _ _ _ _ _ (c.in_ok-value-in-One.ensures.meant fits)) (unseen_ends _ _ _ _ _ _ _ (one_unseen c.args.native (scope c.args.context.now c.args.names.now) c.args.name.now.name _ _ _ _) (c.with_one.ensures.meant fits))
 
 pub on_names::evaluate_on_name-returns-in_err-values-in-All-clause-meant : goal.on_names::evaluate_on_name-returns-in_err-values-in-All-clause-meant
-on_names::evaluate_on_name-returns-in_err-values-in-All-clause-meant t c fits =
-    part_fails _ _ c.in_err-values-in-All.field-0.0 _ _ _ _ _ _ (err_from_is_err_and c.from_residual-in_err-values-in-All.result c.from_residual-in_err-values-in-All.ensures.1) (ap (limited _ _) (Heads.all_at _ _ _ _ _ _ _ _ (sym c.in-All.is ∙ c.taking_of.ensures))) (c.in_err-values-in-All.ensures.meant fits)
+on_names::evaluate_on_name-returns-in_err-values-in-All-clause-meant g t c fits =
+    part_fails _ _ c.in_err-values-in-All.field-0.0 _ _ _ _ _ _ _ _ (err_from_is_err_and c.from_residual-in_err-values-in-All.result c.from_residual-in_err-values-in-All.ensures.1) (ap (watched _ _ _) (Heads.all_at _ _ _ _ _ _ _ _ (sym c.in-All.is ∙ c.taking_of.ensures))) (c.in_err-values-in-All.ensures.meant fits)
 
 pub on_names::evaluate_on_name-returns-in_ok-values-in-All-clause-meant : goal.on_names::evaluate_on_name-returns-in_ok-values-in-All-clause-meant
-on_names::evaluate_on_name-returns-in_ok-values-in-All-clause-meant t c fits =
-    ends_so _ _ _ _ _ (ap (limited _ _) (Heads.all_at _ _ _ _ _ _ _ _ (sym c.in-All.is ∙ c.taking_of.ensures)) ∙ then_gave _ _ _ _ _ _ _ (c.in_ok-values-in-All.ensures.meant fits)) (c.with_all.ensures.meant fits)
+on_names::evaluate_on_name-returns-in_ok-values-in-All-clause-meant g t c fits = ends_so _ _ _ _ _ _ (ap (watched _ _ _) (Heads.all_at _ _ _ _ _ _ _ _ (sym c.in-All.is ∙ c.taking_of.ensures)) ∙ then_gave _ _ _ _ _ _ _ _ _ (c.in_ok-values-in-All.ensures.meant fits)) (unseen_ends _ _ _ _ _ _ _ (all_unseen c.args.native (scope c.args.context.now c.args.names.now) c.args.name.now.name _ _ _ _) (c.with_all.ensures.meant fits))
 
 pub evaluate::evaluate_parts-returns-in_err-value-clause-meant : goal.evaluate::evaluate_parts-returns-in_err-value-clause-meant
-evaluate::evaluate_parts-returns-in_err-value-clause-meant t c fits =
+evaluate::evaluate_parts-returns-in_err-value-clause-meant g t c fits =
     let here : c.loop-code.code-index < length c.args.codes.now = omega arith in
-    hands_on_all _ _ c.in_err-value.field-0.0 _ _ (err_from_is_err_and c.from_residual.result c.from_residual.ensures.1)
-    (stops_eq _ _ _ _ _ (c.loop-code.invariant.so_far fits) (parts_turn_stop _ _ _ _ _ _ _ _ _ _ _ _ here c.code-item.is (c.in_err-value.ensures.meant fits)))
+    hands_on_all _ _ c.in_err-value.field-0.0 _ _ _ (err_from_is_err_and c.from_residual.result c.from_residual.ensures.1)
+    (stops_eq _ _ _ _ _ _ (c.loop-code.invariant.so_far fits) (parts_turn_stop _ _ _ _ _ _ _ _ _ _ _ _ _ _ here c.code-item.is (c.in_err-value.ensures.meant fits)))
 
 pub evaluate::evaluate_parts-loop-code-preserved : goal.evaluate::evaluate_parts-loop-code-preserved
-evaluate::evaluate_parts-loop-code-preserved t c = record {
+evaluate::evaluate_parts-loop-code-preserved g t c = record {
   so_far = λ fits.
       let here : c.loop-code.code-index < length c.args.codes.now = omega arith in
       c.loop-code.invariant.so_far fits
-      ∙ parts_turn _ _ _ _ _ _ _ _ _ _ _ _ _ here c.code-item.is c.in_ok-push.ensures.items (c.in_ok-value.ensures.meant fits);
+      ∙ parts_turn _ _ _ _ _ _ _ _ _ _ _ _ _ _ _ here c.code-item.is c.in_ok-push.ensures.items (c.in_ok-value.ensures.meant fits);
   below = c.in_ok-value.ensures.below ∙ c.loop-code.invariant.below;
+  grew = omega (arith, c.in_ok-value.ensures.grew, c.loop-code.invariant.grew);
   count = omega (arith, c.loop-code.invariant.count, c.in_ok-push.ensures.len);
 }
 
 pub evaluate::evaluate_parts-returns-clause-meant : goal.evaluate::evaluate_parts-returns-clause-meant
-evaluate::evaluate_parts-returns-clause-meant t c fits =
+evaluate::evaluate_parts-returns-clause-meant g t c fits =
     let past : length c.args.codes.now ≤ c.loop-code.code-index = omega arith in
-    c.loop-code.invariant.so_far fits ∙ parts_end _ _ _ _ _ _ _ _ past
+    c.loop-code.invariant.so_far fits ∙ parts_end _ _ _ _ _ _ _ _ _ past
 
 pub evaluate::evaluate_native-returns-in_err-values-clause-meant : goal.evaluate::evaluate_native-returns-in_err-values-clause-meant
-evaluate::evaluate_native-returns-in_err-values-clause-meant t c fits =
-    part_fails _ _ c.in_err-values.field-0.0 _ _ _ _ _ _ (err_from_is_err_and c.from_residual.result c.from_residual.ensures.1) (ap (limited _ _) (strict_at _ _ _ _ _ _)) (c.in_err-values.ensures.meant fits)
+evaluate::evaluate_native-returns-in_err-values-clause-meant g t c fits = part_fails _ _ c.in_err-values.field-0.0 _ _ _ _ _ _ _ _ (err_from_is_err_and c.from_residual.result c.from_residual.ensures.1) (ap (watched _ _ _) (strict_at _ _ _ _ _ _)) (c.in_err-values.ensures.meant fits)
 
 pub evaluate::evaluate_native-returns-clause-meant : goal.evaluate::evaluate_native-returns-clause-meant
-evaluate::evaluate_native-returns-clause-meant t c fits =
-    ends_so _ _ _ _ _ (ap (limited _ _) (strict_at _ _ _ _ _ _) ∙ then_gave _ _ _ _ _ _ _ (c.in_ok-values.ensures.meant fits)) (c.native_on.ensures _)
+evaluate::evaluate_native-returns-clause-meant g t c fits = ends_so _ _ _ _ _ _ (ap (watched _ _ _) (strict_at _ _ _ _ _ _) ∙ then_gave _ _ _ _ _ _ _ _ _ (c.in_ok-values.ensures.meant fits)) (unseen_ends _ _ _ _ _ _ _ (values_unseen _ _ _ _ _ _) (c.native_on.ensures _))
 
 pub evaluate::evaluate_truth-returns-in_err-value-clause-meant : goal.evaluate::evaluate_truth-returns-in_err-value-clause-meant
-evaluate::evaluate_truth-returns-in_err-value-clause-meant t c fits =
-    hands_on _ _ c.in_err-value.field-0.0 _ _ (err_from_is_err_and c.from_residual.result c.from_residual.ensures.1) (truth_stops _ _ _ _ (c.in_err-value.ensures.meant fits))
+evaluate::evaluate_truth-returns-in_err-value-clause-meant g t c fits = hands_on _ _ c.in_err-value.field-0.0 _ _ _ (err_from_is_err_and c.from_residual.result c.from_residual.ensures.1) (truth_stops _ _ _ _ _ (c.in_err-value.ensures.meant fits))
 
 pub evaluate::evaluate_truth-returns-clause-meant : goal.evaluate::evaluate_truth-returns-clause-meant
-evaluate::evaluate_truth-returns-clause-meant t c fits =
-    ends_so _ _ _ _ _ (ap truthful (c.in_ok-value.ensures.meant fits)) (c.truth.ensures _ _)
+evaluate::evaluate_truth-returns-clause-meant g t c fits = ends_so _ _ _ _ _ _ (ap truthful (c.in_ok-value.ensures.meant fits)) (truth_ends _ _ _ _ _ (c.truth.ensures _ _))
 
 pub evaluate::evaluate_thrown-returns-in_err-value-clause-meant : goal.evaluate::evaluate_thrown-returns-in_err-value-clause-meant
-evaluate::evaluate_thrown-returns-in_err-value-clause-meant t c fits =
-    part_fails _ _ c.in_err-value.field-0.0 _ _ _ _ _ _ (err_from_is_err_and c.from_residual.result c.from_residual.ensures.1) refl (c.in_err-value.ensures.meant fits)
+evaluate::evaluate_thrown-returns-in_err-value-clause-meant g t c fits = part_fails _ _ c.in_err-value.field-0.0 _ _ _ _ _ _ _ _ (err_from_is_err_and c.from_residual.result c.from_residual.ensures.1) refl (c.in_err-value.ensures.meant fits)
 
 pub evaluate::evaluate_thrown-returns-clause-meant : goal.evaluate::evaluate_thrown-returns-clause-meant
-evaluate::evaluate_thrown-returns-clause-meant t c fits =
-    then_gave _ _ _ _ _ _ _ (c.in_ok-value.ensures.meant fits) ∙ limited-stop _ _ _ _
+evaluate::evaluate_thrown-returns-clause-meant g t c fits = then_gave _ _ _ _ _ _ _ _ _ (c.in_ok-value.ensures.meant fits) ∙ watched-stop _ _ _ _ _
 
 pub control::evaluate_if-returns-in_err-pay-clause-meant : goal.control::evaluate_if-returns-in_err-pay-clause-meant
-control::evaluate_if-returns-in_err-pay-clause-meant t c fits =
-    pay_fails _ _ c.in_err-pay.field-0.0 _ _ _ _ _ _ _ (err_from_is_err_and c.from_residual.result c.from_residual.ensures.1) (ap (limited _ _) (Forms.if_at _ _ _ _ c.requires _ c.index-codes-0.is _ c.index-codes-1.is _ c.index-codes-2.is)) c.in_err-pay.ensures
+control::evaluate_if-returns-in_err-pay-clause-meant g t c fits = pay_fails _ _ c.in_err-pay.field-0.0 _ _ _ _ _ _ _ _ (err_from_is_err_and c.from_residual.result c.from_residual.ensures.1) (ap (watched _ _ _) (Forms.if_at _ _ _ _ c.requires _ c.index-codes-0.is _ c.index-codes-1.is _ c.index-codes-2.is)) c.in_err-pay.ensures
 
 pub control::evaluate_if-returns-in_err-holds-clause-meant : goal.control::evaluate_if-returns-in_err-holds-clause-meant
-control::evaluate_if-returns-in_err-holds-clause-meant t c fits =
-    hands_on _ _ c.in_err-holds.field-0.0 _ _ (err_from_is_err_and c.from_residual-in_err-holds.result c.from_residual-in_err-holds.ensures.1)
-    (stops_eq _ _ _ _ _ (ap (limited _ _) (Forms.if_at _ _ _ _ c.requires _ c.index-codes-0.is _ c.index-codes-1.is _ c.index-codes-2.is) ∙ charge_within _ _ _ _ _ _ c.in_ok-pay.ensures) (choice_stops _ _ _ _ _ _ _ _ (c.in_err-holds.ensures.meant fits)))
+control::evaluate_if-returns-in_err-holds-clause-meant g t c fits =
+    hands_on _ _ c.in_err-holds.field-0.0 _ _ _ (err_from_is_err_and c.from_residual-in_err-holds.result c.from_residual-in_err-holds.ensures.1)
+    (stops_eq _ _ _ _ _ _ (ap (watched _ _ _) (Forms.if_at _ _ _ _ c.requires _ c.index-codes-0.is _ c.index-codes-1.is _ c.index-codes-2.is) ∙ charge_within _ _ _ _ _ _ _ c.in_ok-pay.ensures) (choice_stops _ _ _ _ _ _ _ _ _ _ (c.in_err-holds.ensures.meant fits)))
 
 pub control::evaluate_if-returns-then-holds-clause-meant : goal.control::evaluate_if-returns-then-holds-clause-meant
-control::evaluate_if-returns-then-holds-clause-meant t c fits =
-    ends_so _ _ _ _ _ (ap (limited _ _) (Forms.if_at _ _ _ _ c.requires _ c.index-codes-0.is _ c.index-codes-1.is _ c.index-codes-2.is) ∙ charge_within _ _ _ _ _ _ c.in_ok-pay.ensures ∙ chose_first _ _ _ _ _ _ _ _ (c.in_ok-holds.ensures.meant fits) c.if-holds.true) (c.evaluate.ensures.meant fits)
+control::evaluate_if-returns-then-holds-clause-meant g t c fits = ends_so _ _ _ _ _ _ (ap (watched _ _ _) (Forms.if_at _ _ _ _ c.requires _ c.index-codes-0.is _ c.index-codes-1.is _ c.index-codes-2.is) ∙ charge_within _ _ _ _ _ _ _ c.in_ok-pay.ensures ∙ chose_first _ _ _ _ _ _ _ _ _ _ (c.in_ok-holds.ensures.meant fits) c.if-holds.true) (c.evaluate.ensures.meant fits)
 
 pub control::evaluate_if-returns-else-holds-clause-meant : goal.control::evaluate_if-returns-else-holds-clause-meant
-control::evaluate_if-returns-else-holds-clause-meant t c fits =
-    ends_so _ _ _ _ _ (ap (limited _ _) (Forms.if_at _ _ _ _ c.requires _ c.index-codes-0.is _ c.index-codes-1.is _ c.index-codes-2.is) ∙ charge_within _ _ _ _ _ _ c.in_ok-pay.ensures ∙ chose_second _ _ _ _ _ _ _ _ (c.in_ok-holds.ensures.meant fits) c.if-holds.false) (c.evaluate-else-holds.ensures.meant fits)
+control::evaluate_if-returns-else-holds-clause-meant g t c fits = ends_so _ _ _ _ _ _ (ap (watched _ _ _) (Forms.if_at _ _ _ _ c.requires _ c.index-codes-0.is _ c.index-codes-1.is _ c.index-codes-2.is) ∙ charge_within _ _ _ _ _ _ _ c.in_ok-pay.ensures ∙ chose_second _ _ _ _ _ _ _ _ _ _ (c.in_ok-holds.ensures.meant fits) c.if-holds.false) (c.evaluate-else-holds.ensures.meant fits)
 
 pub control::evaluate_asserts-returns-in_err-pay-clause-meant : goal.control::evaluate_asserts-returns-in_err-pay-clause-meant
-control::evaluate_asserts-returns-in_err-pay-clause-meant t c fits =
-    pay_fails _ _ c.in_err-pay.field-0.0 _ _ _ _ _ _ _ (err_from_is_err_and c.from_residual.result c.from_residual.ensures.1) (ap (limited _ _) (Forms.asserts_at _ _ _ _ c.requires _ c.index-codes-0.is _ c.index-codes-1.is)) c.in_err-pay.ensures
+control::evaluate_asserts-returns-in_err-pay-clause-meant g t c fits = pay_fails _ _ c.in_err-pay.field-0.0 _ _ _ _ _ _ _ _ (err_from_is_err_and c.from_residual.result c.from_residual.ensures.1) (ap (watched _ _ _) (Forms.asserts_at _ _ _ _ c.requires _ c.index-codes-0.is _ c.index-codes-1.is)) c.in_err-pay.ensures
 
 pub control::evaluate_asserts-returns-in_err-holds-clause-meant : goal.control::evaluate_asserts-returns-in_err-holds-clause-meant
-control::evaluate_asserts-returns-in_err-holds-clause-meant t c fits =
-    hands_on _ _ c.in_err-holds.field-0.0 _ _ (err_from_is_err_and c.from_residual-in_err-holds.result c.from_residual-in_err-holds.ensures.1)
-    (stops_eq _ _ _ _ _ (ap (limited _ _) (Forms.asserts_at _ _ _ _ c.requires _ c.index-codes-0.is _ c.index-codes-1.is) ∙ charge_within _ _ _ _ _ _ c.in_ok-pay.ensures) (choice_stops _ _ _ _ _ _ _ _ (c.in_err-holds.ensures.meant fits)))
+control::evaluate_asserts-returns-in_err-holds-clause-meant g t c fits =
+    hands_on _ _ c.in_err-holds.field-0.0 _ _ _ (err_from_is_err_and c.from_residual-in_err-holds.result c.from_residual-in_err-holds.ensures.1)
+    (stops_eq _ _ _ _ _ _ (ap (watched _ _ _) (Forms.asserts_at _ _ _ _ c.requires _ c.index-codes-0.is _ c.index-codes-1.is) ∙ charge_within _ _ _ _ _ _ _ c.in_ok-pay.ensures) (choice_stops _ _ _ _ _ _ _ _ _ _ (c.in_err-holds.ensures.meant fits)))
 
 pub control::evaluate_asserts-returns-then-holds-clause-meant : goal.control::evaluate_asserts-returns-then-holds-clause-meant
-control::evaluate_asserts-returns-then-holds-clause-meant t c fits =
-    ap (limited _ _) (Forms.asserts_at _ _ _ _ c.requires _ c.index-codes-0.is _ c.index-codes-1.is) ∙ charge_within _ _ _ _ _ _ c.in_ok-pay.ensures ∙ chose_first _ _ _ _ _ _ _ _ (c.in_ok-holds.ensures.meant fits) c.if-holds.true ∙ gives _ _ _ _ _ _ c.bool_value.ensures refl
+control::evaluate_asserts-returns-then-holds-clause-meant g t c fits = ap (watched _ _ _) (Forms.asserts_at _ _ _ _ c.requires _ c.index-codes-0.is _ c.index-codes-1.is) ∙ charge_within _ _ _ _ _ _ _ c.in_ok-pay.ensures ∙ chose_first _ _ _ _ _ _ _ _ _ _ (c.in_ok-holds.ensures.meant fits) c.if-holds.true ∙ gives _ _ _ _ _ _ _ c.bool_value.ensures refl
 
 pub control::evaluate_asserts-returns-else-holds-clause-meant : goal.control::evaluate_asserts-returns-else-holds-clause-meant
-control::evaluate_asserts-returns-else-holds-clause-meant t c fits =
-    ends_so _ _ _ _ _ (ap (limited _ _) (Forms.asserts_at _ _ _ _ c.requires _ c.index-codes-0.is _ c.index-codes-1.is) ∙ charge_within _ _ _ _ _ _ c.in_ok-pay.ensures ∙ chose_second _ _ _ _ _ _ _ _ (c.in_ok-holds.ensures.meant fits) c.if-holds.false) (c.evaluate_thrown.ensures.meant fits)
+control::evaluate_asserts-returns-else-holds-clause-meant g t c fits = ends_so _ _ _ _ _ _ (ap (watched _ _ _) (Forms.asserts_at _ _ _ _ c.requires _ c.index-codes-0.is _ c.index-codes-1.is) ∙ charge_within _ _ _ _ _ _ _ c.in_ok-pay.ensures ∙ chose_second _ _ _ _ _ _ _ _ _ _ (c.in_ok-holds.ensures.meant fits) c.if-holds.false) (c.evaluate_thrown.ensures.meant fits)
 
 pub control::evaluate_unwrap-returns-in_err-pay-clause-meant : goal.control::evaluate_unwrap-returns-in_err-pay-clause-meant
-control::evaluate_unwrap-returns-in_err-pay-clause-meant t c fits =
-    pay_fails _ _ c.in_err-pay.field-0.0 _ _ _ _ _ _ _ (err_from_is_err_and c.from_residual.result c.from_residual.ensures.1) (ap (limited _ _) (Forms.unwrap_at _ _ _ _ c.requires _ c.index-codes-0.is _ c.index-codes-1.is)) c.in_err-pay.ensures
+control::evaluate_unwrap-returns-in_err-pay-clause-meant g t c fits = pay_fails _ _ c.in_err-pay.field-0.0 _ _ _ _ _ _ _ _ (err_from_is_err_and c.from_residual.result c.from_residual.ensures.1) (ap (watched _ _ _) (Forms.unwrap_at _ _ _ _ c.requires _ c.index-codes-0.is _ c.index-codes-1.is)) c.in_err-pay.ensures
 
 pub control::evaluate_unwrap-returns-in_err-value-clause-meant : goal.control::evaluate_unwrap-returns-in_err-value-clause-meant
-control::evaluate_unwrap-returns-in_err-value-clause-meant t c fits =
-    part_fails _ _ c.in_err-value.field-0.0 _ _ _ _ _ _ (err_from_is_err_and c.from_residual-in_err-value.result c.from_residual-in_err-value.ensures.1) (ap (limited _ _) (Forms.unwrap_at _ _ _ _ c.requires _ c.index-codes-0.is _ c.index-codes-1.is) ∙ charge_within _ _ _ _ _ _ c.in_ok-pay.ensures) (c.in_err-value.ensures.meant fits)
+control::evaluate_unwrap-returns-in_err-value-clause-meant g t c fits =
+    part_fails _ _ c.in_err-value.field-0.0 _ _ _ _ _ _ _ _ (err_from_is_err_and c.from_residual-in_err-value.result c.from_residual-in_err-value.ensures.1) (ap (watched _ _ _) (Forms.unwrap_at _ _ _ _ c.requires _ c.index-codes-0.is _ c.index-codes-1.is) ∙ charge_within _ _ _ _ _ _ _ c.in_ok-pay.ensures) (c.in_err-value.ensures.meant fits)
 
 pub control::evaluate_unwrap-returns-in-Good-clause-meant : goal.control::evaluate_unwrap-returns-in-Good-clause-meant
-control::evaluate_unwrap-returns-in-Good-clause-meant t c fits =
-    ap (limited _ _) (Forms.unwrap_at _ _ _ _ c.requires _ c.index-codes-0.is _ c.index-codes-1.is) ∙ charge_within _ _ _ _ _ _ c.in_ok-pay.ensures ∙ then_gave _ _ _ _ _ _ _ (c.in_ok-value.ensures.meant fits) ∙ ap (limited _ _) (wanted_good _ _ _ (sym c.in-Good.is ∙ c.way_of.ensures)) ∙ gives _ _ _ _ _ _ c.into_content.ensures refl
+control::evaluate_unwrap-returns-in-Good-clause-meant g t c fits =
+    ap (watched _ _ _) (Forms.unwrap_at _ _ _ _ c.requires _ c.index-codes-0.is _ c.index-codes-1.is) ∙ charge_within _ _ _ _ _ _ _ c.in_ok-pay.ensures ∙ then_gave _ _ _ _ _ _ _ _ _ (c.in_ok-value.ensures.meant fits) ∙ ap (watched _ _ _) (wanted_good _ _ _ (sym c.in-Good.is ∙ c.way_of.ensures)) ∙ gives _ _ _ _ _ _ _ c.into_content.ensures refl
 
 pub control::evaluate_unwrap-returns-in-Bad-clause-meant : goal.control::evaluate_unwrap-returns-in-Bad-clause-meant
-control::evaluate_unwrap-returns-in-Bad-clause-meant t c fits =
-    ends_so _ _ _ _ _ (ap (limited _ _) (Forms.unwrap_at _ _ _ _ c.requires _ c.index-codes-0.is _ c.index-codes-1.is) ∙ charge_within _ _ _ _ _ _ c.in_ok-pay.ensures ∙ then_gave _ _ _ _ _ _ _ (c.in_ok-value.ensures.meant fits) ∙ ap (limited _ _) (wanted_bad _ _ _ (sym c.in-Bad.is ∙ c.way_of.ensures))) (c.evaluate_thrown.ensures.meant fits)
+control::evaluate_unwrap-returns-in-Bad-clause-meant g t c fits =
+    ends_so _ _ _ _ _ _ (ap (watched _ _ _) (Forms.unwrap_at _ _ _ _ c.requires _ c.index-codes-0.is _ c.index-codes-1.is) ∙ charge_within _ _ _ _ _ _ _ c.in_ok-pay.ensures ∙ then_gave _ _ _ _ _ _ _ _ _ (c.in_ok-value.ensures.meant fits) ∙ ap (watched _ _ _) (wanted_bad _ _ _ (sym c.in-Bad.is ∙ c.way_of.ensures))) (c.evaluate_thrown.ensures.meant fits)
 
 pub control::evaluate_unwrap-returns-in-Neither-clause-meant : goal.control::evaluate_unwrap-returns-in-Neither-clause-meant
-control::evaluate_unwrap-returns-in-Neither-clause-meant t c fits =
-    ap (limited _ _) (Forms.unwrap_at _ _ _ _ c.requires _ c.index-codes-0.is _ c.index-codes-1.is) ∙ charge_within _ _ _ _ _ _ c.in_ok-pay.ensures ∙ then_gave _ _ _ _ _ _ _ (c.in_ok-value.ensures.meant fits) ∙ ap (limited _ _) (wanted_neither _ _ _ (sym c.in-Neither.is ∙ c.way_of.ensures)) ∙ limited-stop _ _ _ _
+control::evaluate_unwrap-returns-in-Neither-clause-meant g t c fits = ap (watched _ _ _) (Forms.unwrap_at _ _ _ _ c.requires _ c.index-codes-0.is _ c.index-codes-1.is) ∙ charge_within _ _ _ _ _ _ _ c.in_ok-pay.ensures ∙ then_gave _ _ _ _ _ _ _ _ _ (c.in_ok-value.ensures.meant fits) ∙ ap (watched _ _ _) (wanted_neither _ _ _ (sym c.in-Neither.is ∙ c.way_of.ensures)) ∙ watched-stop _ _ _ _ _
 
 pub control::evaluate_unwrap_err-returns-in_err-pay-clause-meant : goal.control::evaluate_unwrap_err-returns-in_err-pay-clause-meant
-control::evaluate_unwrap_err-returns-in_err-pay-clause-meant t c fits =
-    pay_fails _ _ c.in_err-pay.field-0.0 _ _ _ _ _ _ _ (err_from_is_err_and c.from_residual.result c.from_residual.ensures.1) (ap (limited _ _) (Forms.unwrap_err_at _ _ _ _ c.requires _ c.index-codes-0.is _ c.index-codes-1.is)) c.in_err-pay.ensures
+control::evaluate_unwrap_err-returns-in_err-pay-clause-meant g t c fits = pay_fails _ _ c.in_err-pay.field-0.0 _ _ _ _ _ _ _ _ (err_from_is_err_and c.from_residual.result c.from_residual.ensures.1) (ap (watched _ _ _) (Forms.unwrap_err_at _ _ _ _ c.requires _ c.index-codes-0.is _ c.index-codes-1.is)) c.in_err-pay.ensures
 
 pub control::evaluate_unwrap_err-returns-in_err-value-clause-meant : goal.control::evaluate_unwrap_err-returns-in_err-value-clause-meant
-control::evaluate_unwrap_err-returns-in_err-value-clause-meant t c fits =
-    part_fails _ _ c.in_err-value.field-0.0 _ _ _ _ _ _ (err_from_is_err_and c.from_residual-in_err-value.result c.from_residual-in_err-value.ensures.1) (ap (limited _ _) (Forms.unwrap_err_at _ _ _ _ c.requires _ c.index-codes-0.is _ c.index-codes-1.is) ∙ charge_within _ _ _ _ _ _ c.in_ok-pay.ensures) (c.in_err-value.ensures.meant fits)
+control::evaluate_unwrap_err-returns-in_err-value-clause-meant g t c fits =
+    part_fails _ _ c.in_err-value.field-0.0 _ _ _ _ _ _ _ _ (err_from_is_err_and c.from_residual-in_err-value.result c.from_residual-in_err-value.ensures.1) (ap (watched _ _ _) (Forms.unwrap_err_at _ _ _ _ c.requires _ c.index-codes-0.is _ c.index-codes-1.is) ∙ charge_within _ _ _ _ _ _ _ c.in_ok-pay.ensures) (c.in_err-value.ensures.meant fits)
 
 pub control::evaluate_unwrap_err-returns-in-Good-clause-meant : goal.control::evaluate_unwrap_err-returns-in-Good-clause-meant
-control::evaluate_unwrap_err-returns-in-Good-clause-meant t c fits =
-    ap (limited _ _) (Forms.unwrap_err_at _ _ _ _ c.requires _ c.index-codes-0.is _ c.index-codes-1.is) ∙ charge_within _ _ _ _ _ _ c.in_ok-pay.ensures ∙ then_gave _ _ _ _ _ _ _ (c.in_ok-value.ensures.meant fits) ∙ ap (limited _ _) (err_good _ _ _ (sym c.in-Good.is ∙ c.err_way_of.ensures)) ∙ gives _ _ _ _ _ _ c.into_content.ensures refl
+control::evaluate_unwrap_err-returns-in-Good-clause-meant g t c fits =
+    ap (watched _ _ _) (Forms.unwrap_err_at _ _ _ _ c.requires _ c.index-codes-0.is _ c.index-codes-1.is) ∙ charge_within _ _ _ _ _ _ _ c.in_ok-pay.ensures ∙ then_gave _ _ _ _ _ _ _ _ _ (c.in_ok-value.ensures.meant fits) ∙ ap (watched _ _ _) (err_good _ _ _ (sym c.in-Good.is ∙ c.err_way_of.ensures)) ∙ gives _ _ _ _ _ _ _ c.into_content.ensures refl
 
 pub control::evaluate_unwrap_err-returns-in-Bad-clause-meant : goal.control::evaluate_unwrap_err-returns-in-Bad-clause-meant
-control::evaluate_unwrap_err-returns-in-Bad-clause-meant t c fits =
-    ends_so _ _ _ _ _ (ap (limited _ _) (Forms.unwrap_err_at _ _ _ _ c.requires _ c.index-codes-0.is _ c.index-codes-1.is) ∙ charge_within _ _ _ _ _ _ c.in_ok-pay.ensures ∙ then_gave _ _ _ _ _ _ _ (c.in_ok-value.ensures.meant fits) ∙ ap (limited _ _) (err_bad _ _ _ (sym c.in-Bad.is ∙ c.err_way_of.ensures))) (c.evaluate_thrown.ensures.meant fits)
+control::evaluate_unwrap_err-returns-in-Bad-clause-meant g t c fits =
+    ends_so _ _ _ _ _ _ (ap (watched _ _ _) (Forms.unwrap_err_at _ _ _ _ c.requires _ c.index-codes-0.is _ c.index-codes-1.is) ∙ charge_within _ _ _ _ _ _ _ c.in_ok-pay.ensures ∙ then_gave _ _ _ _ _ _ _ _ _ (c.in_ok-value.ensures.meant fits) ∙ ap (watched _ _ _) (err_bad _ _ _ (sym c.in-Bad.is ∙ c.err_way_of.ensures))) (c.evaluate_thrown.ensures.meant fits)
 
 pub control::evaluate_unwrap_err-returns-in-Neither-clause-meant : goal.control::evaluate_unwrap_err-returns-in-Neither-clause-meant
-control::evaluate_unwrap_err-returns-in-Neither-clause-meant t c fits =
-    ap (limited _ _) (Forms.unwrap_err_at _ _ _ _ c.requires _ c.index-codes-0.is _ c.index-codes-1.is) ∙ charge_within _ _ _ _ _ _ c.in_ok-pay.ensures ∙ then_gave _ _ _ _ _ _ _ (c.in_ok-value.ensures.meant fits) ∙ ap (limited _ _) (err_neither _ _ _ (sym c.in-Neither.is ∙ c.err_way_of.ensures)) ∙ limited-stop _ _ _ _
+control::evaluate_unwrap_err-returns-in-Neither-clause-meant g t c fits =
+    ap (watched _ _ _) (Forms.unwrap_err_at _ _ _ _ c.requires _ c.index-codes-0.is _ c.index-codes-1.is) ∙ charge_within _ _ _ _ _ _ _ c.in_ok-pay.ensures ∙ then_gave _ _ _ _ _ _ _ _ _ (c.in_ok-value.ensures.meant fits) ∙ ap (watched _ _ _) (err_neither _ _ _ (sym c.in-Neither.is ∙ c.err_way_of.ensures)) ∙ watched-stop _ _ _ _ _
 
 pub control::evaluate_try-returns-in_err-pay-clause-meant : goal.control::evaluate_try-returns-in_err-pay-clause-meant
-control::evaluate_try-returns-in_err-pay-clause-meant t c fits =
-    pay_fails _ _ c.in_err-pay.field-0.0 _ _ _ _ _ _ _ (err_from_is_err_and c.from_residual.result c.from_residual.ensures.1) (ap (limited _ _) (Forms.try_at _ _ _ _ c.requires _ c.index-codes-0.is)) c.in_err-pay.ensures
+control::evaluate_try-returns-in_err-pay-clause-meant g t c fits = pay_fails _ _ c.in_err-pay.field-0.0 _ _ _ _ _ _ _ _ (err_from_is_err_and c.from_residual.result c.from_residual.ensures.1) (ap (watched _ _ _) (Forms.try_at _ _ _ _ c.requires _ c.index-codes-0.is)) c.in_err-pay.ensures
 
 pub control::evaluate_try-returns-in_err-value-clause-meant : goal.control::evaluate_try-returns-in_err-value-clause-meant
-control::evaluate_try-returns-in_err-value-clause-meant t c fits =
-    part_fails _ _ c.in_err-value.field-0.0 _ _ _ _ _ _ (err_from_is_err_and c.from_residual-in_err-value.result c.from_residual-in_err-value.ensures.1) (ap (limited _ _) (Forms.try_at _ _ _ _ c.requires _ c.index-codes-0.is) ∙ charge_within _ _ _ _ _ _ c.in_ok-pay.ensures) (c.in_err-value.ensures.meant fits)
+control::evaluate_try-returns-in_err-value-clause-meant g t c fits = part_fails _ _ c.in_err-value.field-0.0 _ _ _ _ _ _ _ _ (err_from_is_err_and c.from_residual-in_err-value.result c.from_residual-in_err-value.ensures.1) (ap (watched _ _ _) (Forms.try_at _ _ _ _ c.requires _ c.index-codes-0.is) ∙ charge_within _ _ _ _ _ _ _ c.in_ok-pay.ensures) (c.in_err-value.ensures.meant fits)
 
 pub control::evaluate_try-returns-clause-meant : goal.control::evaluate_try-returns-clause-meant
-control::evaluate_try-returns-clause-meant t c fits =
-    ends_so _ _ _ _ _ (ap (limited _ _) (Forms.try_at _ _ _ _ c.requires _ c.index-codes-0.is) ∙ charge_within _ _ _ _ _ _ c.in_ok-pay.ensures ∙ then_gave _ _ _ _ _ _ _ (c.in_ok-value.ensures.meant fits)) (c.tried.ensures _ _ _)
+control::evaluate_try-returns-clause-meant g t c fits = ends_so _ _ _ _ _ _ (ap (watched _ _ _) (Forms.try_at _ _ _ _ c.requires _ c.index-codes-0.is) ∙ charge_within _ _ _ _ _ _ _ c.in_ok-pay.ensures ∙ then_gave _ _ _ _ _ _ _ _ _ (c.in_ok-value.ensures.meant fits)) (unseen_ends _ _ _ _ _ _ _ (tried_unseen _ _ _ _) (c.tried.ensures _ _ _))
 
 pub control::evaluate_as_contract-returns-in_err-pay-clause-meant : goal.control::evaluate_as_contract-returns-in_err-pay-clause-meant
-control::evaluate_as_contract-returns-in_err-pay-clause-meant t c fits =
-    pay_fails _ _ c.in_err-pay.field-0.0 _ _ _ _ _ _ _ (err_from_is_err_and c.from_residual.result c.from_residual.ensures.1) (ap (limited _ _) (Forms.as_contract_at _ _ _ _ c.requires _ c.index-codes-0.is)) c.in_err-pay.ensures
+control::evaluate_as_contract-returns-in_err-pay-clause-meant g t c fits = pay_fails _ _ c.in_err-pay.field-0.0 _ _ _ _ _ _ _ _ (err_from_is_err_and c.from_residual.result c.from_residual.ensures.1) (ap (watched _ _ _) (Forms.as_contract_at _ _ _ _ c.requires _ c.index-codes-0.is)) c.in_err-pay.ensures
 
 pub control::evaluate_as_contract-returns-clause-meant : goal.control::evaluate_as_contract-returns-clause-meant
-control::evaluate_as_contract-returns-clause-meant t c fits =
-    ends_so _ _ _ _ _ (ap (limited _ _) (Forms.as_contract_at _ _ _ _ c.requires _ c.index-codes-0.is) ∙ charge_within _ _ _ _ _ _ c.in_ok-pay.ensures ∙ Loops.in_another (costs_of c.args.context.now) c.pay.new.meter c.args.below (scope c.args.context.now c.args.names.now) (as_contract (frame_seen c.args.context.now.frame.now)) (frame_seen c.as_contract-frame.result) _ _ c.as_contract-frame.ensures) (c.evaluate.ensures.meant (Loops.same_home _ _ _ _ _ (ap (λ (F : Frame). F.contract) c.as_contract-frame.ensures) fits))
+control::evaluate_as_contract-returns-clause-meant g t c fits =
+    ends_so _ _ _ _ _ _ (ap (watched _ _ _) (Forms.as_contract_at _ _ _ _ c.requires _ c.index-codes-0.is) ∙ charge_within _ _ _ _ _ _ _ c.in_ok-pay.ensures ∙ Loops.in_another (costs_of c.args.context.now) c.pay.new.meter (g.W.Watch.seen c.args.watch.now) c.args.below (scope c.args.context.now c.args.names.now) (as_contract (frame_seen c.args.context.now.frame.now)) (frame_seen c.as_contract-frame.result) _ _ c.as_contract-frame.ensures) (c.evaluate.ensures.meant (Loops.same_home _ _ _ _ _ (ap (λ (F : Frame). F.contract) c.as_contract-frame.ensures) fits))
 
 pub control::evaluate_print-returns-in_err-value-clause-meant : goal.control::evaluate_print-returns-in_err-value-clause-meant
-control::evaluate_print-returns-in_err-value-clause-meant t c fits =
-    part_fails _ _ c.in_err-value.field-0.0 _ _ _ _ _ _ (err_from_is_err_and c.from_residual.result c.from_residual.ensures.1) (ap (limited _ _) (Forms.print_at _ _ _ _ c.requires _ c.index-codes-0.is)) (c.in_err-value.ensures.meant fits)
+control::evaluate_print-returns-in_err-value-clause-meant g t c fits = part_fails _ _ c.in_err-value.field-0.0 _ _ _ _ _ _ _ _ (err_from_is_err_and c.from_residual.result c.from_residual.ensures.1) (ap (watched _ _ _) (Forms.print_at _ _ _ _ c.requires _ c.index-codes-0.is)) (c.in_err-value.ensures.meant fits)
 
 pub control::evaluate_print-returns-clause-meant : goal.control::evaluate_print-returns-clause-meant
-control::evaluate_print-returns-clause-meant t c fits =
-    ends_so _ _ _ _ _ (ap (limited _ _) (Forms.print_at _ _ _ _ c.requires _ c.index-codes-0.is) ∙ then_gave _ _ _ _ _ _ _ (c.in_ok-value.ensures.meant fits)) c.print.ensures.meant
+control::evaluate_print-returns-clause-meant g t c fits = ends_so _ _ _ _ _ _ (ap (watched _ _ _) (Forms.print_at _ _ _ _ c.requires _ c.index-codes-0.is) ∙ then_gave _ _ _ _ _ _ _ _ _ (c.in_ok-value.ensures.meant fits)) (unseen_ends _ _ _ _ _ _ _ (printed_unseen (frame_seen c.args.context.now.frame.now) _ _ _ _) c.print.ensures.meant)
 
 pub control::evaluate_begin-returns-in_err-pay-clause-meant : goal.control::evaluate_begin-returns-in_err-pay-clause-meant
-control::evaluate_begin-returns-in_err-pay-clause-meant t c fits =
-    pay_fails _ _ c.in_err-pay.field-0.0 _ _ _ _ _ _ _ (err_from_is_err_and c.from_residual.result c.from_residual.ensures.1) (ap (limited _ _) (begin_at _ _ _ _ _ refl)) c.in_err-pay.ensures
+control::evaluate_begin-returns-in_err-pay-clause-meant g t c fits = pay_fails _ _ c.in_err-pay.field-0.0 _ _ _ _ _ _ _ _ (err_from_is_err_and c.from_residual.result c.from_residual.ensures.1) (ap (watched _ _ _) (begin_at _ _ _ _ _ refl)) c.in_err-pay.ensures
 
 pub control::evaluate_begin-returns-in_err-values-clause-meant : goal.control::evaluate_begin-returns-in_err-values-clause-meant
-control::evaluate_begin-returns-in_err-values-clause-meant t c fits =
-    part_fails _ _ c.in_err-values.field-0.0 _ _ _ _ _ _ (err_from_is_err_and c.from_residual-in_err-values.result c.from_residual-in_err-values.ensures.1) (ap (limited _ _) (begin_at _ _ _ _ _ refl) ∙ charge_within _ _ _ _ _ _ c.in_ok-pay.ensures) (c.in_err-values.ensures.meant fits)
+control::evaluate_begin-returns-in_err-values-clause-meant g t c fits = part_fails _ _ c.in_err-values.field-0.0 _ _ _ _ _ _ _ _ (err_from_is_err_and c.from_residual-in_err-values.result c.from_residual-in_err-values.ensures.1) (ap (watched _ _ _) (begin_at _ _ _ _ _ refl) ∙ charge_within _ _ _ _ _ _ _ c.in_ok-pay.ensures) (c.in_err-values.ensures.meant fits)
 
 pub control::evaluate_begin-returns-clause-meant : goal.control::evaluate_begin-returns-clause-meant
-control::evaluate_begin-returns-clause-meant t c fits =
-    ends_so _ _ _ _ _ (ap (limited _ _) (begin_at _ _ _ _ _ refl) ∙ charge_within _ _ _ _ _ _ c.in_ok-pay.ensures ∙ then_gave _ _ _ _ _ _ _ (c.in_ok-values.ensures.meant fits)) (c.last.ensures _ _ _)
+control::evaluate_begin-returns-clause-meant g t c fits = ends_so _ _ _ _ _ _ (ap (watched _ _ _) (begin_at _ _ _ _ _ refl) ∙ charge_within _ _ _ _ _ _ _ c.in_ok-pay.ensures ∙ then_gave _ _ _ _ _ _ _ _ _ (c.in_ok-values.ensures.meant fits)) (unseen_ends (costs_of c.args.context.now) c.evaluate_parts.new.meter _ _ _ _ c.evaluate_parts.new.world.stack.top (last_unseen c.in_ok-values.values.items c.evaluate_parts.new.world.stack.top _ _) (c.last.ensures (costs_of c.args.context.now) c.evaluate_parts.new.meter c.evaluate_parts.new.world.stack.top))
 
 pub control::evaluate_and-returns-in_err-pay-clause-meant : goal.control::evaluate_and-returns-in_err-pay-clause-meant
-control::evaluate_and-returns-in_err-pay-clause-meant t c fits =
+control::evaluate_and-returns-in_err-pay-clause-meant g t c fits =
     let some : length c.args.codes.now ≢ 0 = omega (arith, c.requires.some) in
-    pay_fails _ _ c.in_err-pay.field-0.0 _ _ _ _ _ _ _ (err_from_is_err_and c.from_residual.result c.from_residual.ensures.1) (ap (limited _ _) (Forms.and_at _ _ c.args.codes.now _ _ some refl)) c.in_err-pay.ensures
+    pay_fails _ _ c.in_err-pay.field-0.0 _ _ _ _ _ _ _ _ (err_from_is_err_and c.from_residual.result c.from_residual.ensures.1) (ap (watched _ _ _) (Forms.and_at _ _ c.args.codes.now _ _ some refl)) c.in_err-pay.ensures
 
 pub control::evaluate_and-returns-clause-meant : goal.control::evaluate_and-returns-clause-meant
-control::evaluate_and-returns-clause-meant t c fits =
+control::evaluate_and-returns-clause-meant g t c fits =
     let some : length c.args.codes.now ≢ 0 = omega (arith, c.requires.some) in
-    ends_so _ _ _ _ _ (ap (limited _ _) (Forms.and_at _ _ c.args.codes.now _ _ some refl) ∙ charge_within _ _ _ _ _ _ c.in_ok-pay.ensures) (c.and_parts.ensures.meant fits)
+    ends_so _ _ _ _ _ _ (ap (watched _ _ _) (Forms.and_at _ _ c.args.codes.now _ _ some refl) ∙ charge_within _ _ _ _ _ _ _ c.in_ok-pay.ensures) (c.and_parts.ensures.meant fits)
 
 pub control::and_parts-returns-in_err-holds-clause-meant : goal.control::and_parts-returns-in_err-holds-clause-meant
-control::and_parts-returns-in_err-holds-clause-meant t c fits =
+control::and_parts-returns-in_err-holds-clause-meant g t c fits =
     let here : c.loop-code.code-index < length c.args.codes.now = omega arith in
-    hands_on _ _ c.in_err-holds.field-0.0 _ _ (err_from_is_err_and c.from_residual.result c.from_residual.ensures.1)
-    (stops_eq _ _ _ _ _ (c.loop-code.invariant.so_far fits ∙ Loops.and_next _ _ _ _ _ _ _ _ here c.code-item.is) (choice_stops _ _ _ _ _ _ _ _ (c.in_err-holds.ensures.meant fits)))
+    hands_on _ _ c.in_err-holds.field-0.0 _ _ _ (err_from_is_err_and c.from_residual.result c.from_residual.ensures.1)
+    (stops_eq _ _ _ _ _ _ (c.loop-code.invariant.so_far fits ∙ Loops.and_next _ _ _ _ _ _ _ _ _ here c.code-item.is) (choice_stops _ _ _ _ _ _ _ _ _ _ (c.in_err-holds.ensures.meant fits)))
 
 pub control::and_parts-returns-then-not-holds-clause-meant : goal.control::and_parts-returns-then-not-holds-clause-meant
-control::and_parts-returns-then-not-holds-clause-meant t c fits =
+control::and_parts-returns-then-not-holds-clause-meant g t c fits =
     let here : c.loop-code.code-index < length c.args.codes.now = omega arith in
-    c.loop-code.invariant.so_far fits ∙ Loops.and_next _ _ _ _ _ _ _ _ here c.code-item.is
-    ∙ chose_second _ _ _ _ _ _ _ _ (c.in_ok-holds.ensures.meant fits) c.if-not-holds.true ∙ gives _ _ _ _ _ _ c.bool_value.ensures refl
+    c.loop-code.invariant.so_far fits ∙ Loops.and_next _ _ _ _ _ _ _ _ _ here c.code-item.is
+    ∙ chose_second _ _ _ _ _ _ _ _ _ _ (c.in_ok-holds.ensures.meant fits) c.if-not-holds.true ∙ gives _ _ _ _ _ _ _ c.bool_value.ensures refl
 
 pub control::and_parts-loop-code-preserved : goal.control::and_parts-loop-code-preserved
-control::and_parts-loop-code-preserved t c = record {
+control::and_parts-loop-code-preserved g t c = record {
   so_far = λ fits.
       let here : c.loop-code.code-index < length c.args.codes.now = omega arith in
-      c.loop-code.invariant.so_far fits ∙ Loops.and_next _ _ _ _ _ _ _ _ here c.code-item.is
-      ∙ chose_first _ _ _ _ _ _ _ _ (c.in_ok-holds.ensures.meant fits) c.if-not-holds.false;
+      c.loop-code.invariant.so_far fits ∙ Loops.and_next _ _ _ _ _ _ _ _ _ here c.code-item.is
+      ∙ chose_first _ _ _ _ _ _ _ _ _ _ (c.in_ok-holds.ensures.meant fits) c.if-not-holds.false;
   below = c.in_ok-holds.ensures.below ∙ c.loop-code.invariant.below;
+  grew = omega (arith, c.in_ok-holds.ensures.grew, c.loop-code.invariant.grew);
 }
 
 pub control::and_parts-returns-clause-meant : goal.control::and_parts-returns-clause-meant
-control::and_parts-returns-clause-meant t c fits =
+control::and_parts-returns-clause-meant g t c fits =
     let past : length c.args.codes.now ≤ c.loop-code.code-index = omega arith in
-    c.loop-code.invariant.so_far fits ∙ Loops.and_end _ _ _ _ _ _ _ past ∙ gives _ _ _ _ _ _ c.bool_value-2.ensures refl
+    c.loop-code.invariant.so_far fits ∙ Loops.and_end _ _ _ _ _ _ _ _ past ∙ gives _ _ _ _ _ _ _ c.bool_value-2.ensures refl
 
 pub control::evaluate_or-returns-in_err-pay-clause-meant : goal.control::evaluate_or-returns-in_err-pay-clause-meant
-control::evaluate_or-returns-in_err-pay-clause-meant t c fits =
+control::evaluate_or-returns-in_err-pay-clause-meant g t c fits =
     let some : length c.args.codes.now ≢ 0 = omega (arith, c.requires.some) in
-    pay_fails _ _ c.in_err-pay.field-0.0 _ _ _ _ _ _ _ (err_from_is_err_and c.from_residual.result c.from_residual.ensures.1) (ap (limited _ _) (Forms.or_at _ _ c.args.codes.now _ _ some refl)) c.in_err-pay.ensures
+    pay_fails _ _ c.in_err-pay.field-0.0 _ _ _ _ _ _ _ _ (err_from_is_err_and c.from_residual.result c.from_residual.ensures.1) (ap (watched _ _ _) (Forms.or_at _ _ c.args.codes.now _ _ some refl)) c.in_err-pay.ensures
 
 pub control::evaluate_or-returns-clause-meant : goal.control::evaluate_or-returns-clause-meant
-control::evaluate_or-returns-clause-meant t c fits =
+control::evaluate_or-returns-clause-meant g t c fits =
     let some : length c.args.codes.now ≢ 0 = omega (arith, c.requires.some) in
-    ends_so _ _ _ _ _ (ap (limited _ _) (Forms.or_at _ _ c.args.codes.now _ _ some refl) ∙ charge_within _ _ _ _ _ _ c.in_ok-pay.ensures) (c.or_parts.ensures.meant fits)
+    ends_so _ _ _ _ _ _ (ap (watched _ _ _) (Forms.or_at _ _ c.args.codes.now _ _ some refl) ∙ charge_within _ _ _ _ _ _ _ c.in_ok-pay.ensures) (c.or_parts.ensures.meant fits)
 
 pub control::or_parts-returns-in_err-holds-clause-meant : goal.control::or_parts-returns-in_err-holds-clause-meant
-control::or_parts-returns-in_err-holds-clause-meant t c fits =
+control::or_parts-returns-in_err-holds-clause-meant g t c fits =
     let here : c.loop-code.code-index < length c.args.codes.now = omega arith in
-    hands_on _ _ c.in_err-holds.field-0.0 _ _ (err_from_is_err_and c.from_residual.result c.from_residual.ensures.1)
-    (stops_eq _ _ _ _ _ (c.loop-code.invariant.so_far fits ∙ Loops.or_next _ _ _ _ _ _ _ _ here c.code-item.is) (choice_stops _ _ _ _ _ _ _ _ (c.in_err-holds.ensures.meant fits)))
+    hands_on _ _ c.in_err-holds.field-0.0 _ _ _ (err_from_is_err_and c.from_residual.result c.from_residual.ensures.1)
+    (stops_eq _ _ _ _ _ _ (c.loop-code.invariant.so_far fits ∙ Loops.or_next _ _ _ _ _ _ _ _ _ here c.code-item.is) (choice_stops _ _ _ _ _ _ _ _ _ _ (c.in_err-holds.ensures.meant fits)))
 
 pub control::or_parts-returns-then-holds-clause-meant : goal.control::or_parts-returns-then-holds-clause-meant
-control::or_parts-returns-then-holds-clause-meant t c fits =
+control::or_parts-returns-then-holds-clause-meant g t c fits =
     let here : c.loop-code.code-index < length c.args.codes.now = omega arith in
-    c.loop-code.invariant.so_far fits ∙ Loops.or_next _ _ _ _ _ _ _ _ here c.code-item.is
-    ∙ chose_first _ _ _ _ _ _ _ _ (c.in_ok-holds.ensures.meant fits) c.if-holds.true ∙ gives _ _ _ _ _ _ c.bool_value.ensures refl
+    c.loop-code.invariant.so_far fits ∙ Loops.or_next _ _ _ _ _ _ _ _ _ here c.code-item.is
+    ∙ chose_first _ _ _ _ _ _ _ _ _ _ (c.in_ok-holds.ensures.meant fits) c.if-holds.true ∙ gives _ _ _ _ _ _ _ c.bool_value.ensures refl
 
 pub control::or_parts-loop-code-preserved : goal.control::or_parts-loop-code-preserved
-control::or_parts-loop-code-preserved t c = record {
+control::or_parts-loop-code-preserved g t c = record {
   so_far = λ fits.
       let here : c.loop-code.code-index < length c.args.codes.now = omega arith in
-      c.loop-code.invariant.so_far fits ∙ Loops.or_next _ _ _ _ _ _ _ _ here c.code-item.is
-      ∙ chose_second _ _ _ _ _ _ _ _ (c.in_ok-holds.ensures.meant fits) c.if-holds.false;
+      c.loop-code.invariant.so_far fits ∙ Loops.or_next _ _ _ _ _ _ _ _ _ here c.code-item.is
+      ∙ chose_second _ _ _ _ _ _ _ _ _ _ (c.in_ok-holds.ensures.meant fits) c.if-holds.false;
   below = c.in_ok-holds.ensures.below ∙ c.loop-code.invariant.below;
+  grew = omega (arith, c.in_ok-holds.ensures.grew, c.loop-code.invariant.grew);
 }
 
 pub control::or_parts-returns-clause-meant : goal.control::or_parts-returns-clause-meant
-control::or_parts-returns-clause-meant t c fits =
+control::or_parts-returns-clause-meant g t c fits =
     let past : length c.args.codes.now ≤ c.loop-code.code-index = omega arith in
-    c.loop-code.invariant.so_far fits ∙ Loops.or_end _ _ _ _ _ _ _ past ∙ gives _ _ _ _ _ _ c.bool_value-2.ensures refl
+    c.loop-code.invariant.so_far fits ∙ Loops.or_end _ _ _ _ _ _ _ _ past ∙ gives _ _ _ _ _ _ _ c.bool_value-2.ensures refl
 
 pub scopes::evaluate_match_optional-returns-in_err-pay-clause-meant : goal.scopes::evaluate_match_optional-returns-in_err-pay-clause-meant
-scopes::evaluate_match_optional-returns-in_err-pay-clause-meant t c fits =
-    pay_fails _ _ c.in_err-pay.field-0.0 _ _ _ _ _ _ _ (err_from_is_err_and c.from_residual.result c.from_residual.ensures.1) (ap (limited _ _) (Lets.optional_at _ _ _ _ _ c.requires _ c.index-codes-0.is _ c.index-codes-1.is _ c.index-codes-2.is)) c.in_err-pay.ensures
+scopes::evaluate_match_optional-returns-in_err-pay-clause-meant g t c fits = pay_fails _ _ c.in_err-pay.field-0.0 _ _ _ _ _ _ _ _ (err_from_is_err_and c.from_residual.result c.from_residual.ensures.1) (ap (watched _ _ _) (Lets.optional_at _ _ _ _ _ c.requires _ c.index-codes-0.is _ c.index-codes-1.is _ c.index-codes-2.is)) c.in_err-pay.ensures
 
 pub scopes::evaluate_match_optional-returns-in_err-value-clause-meant : goal.scopes::evaluate_match_optional-returns-in_err-value-clause-meant
-scopes::evaluate_match_optional-returns-in_err-value-clause-meant t c fits =
-    part_fails _ _ c.in_err-value.field-0.0 _ _ _ _ _ _ (err_from_is_err_and c.from_residual-in_err-value.result c.from_residual-in_err-value.ensures.1) (ap (limited _ _) (Lets.optional_at _ _ _ _ _ c.requires _ c.index-codes-0.is _ c.index-codes-1.is _ c.index-codes-2.is) ∙ charge_within _ _ _ _ _ _ c.in_ok-pay.ensures) (c.in_err-value.ensures.meant fits)
+scopes::evaluate_match_optional-returns-in_err-value-clause-meant g t c fits =
+    part_fails _ _ c.in_err-value.field-0.0 _ _ _ _ _ _ _ _ (err_from_is_err_and c.from_residual-in_err-value.result c.from_residual-in_err-value.ensures.1) (ap (watched _ _ _) (Lets.optional_at _ _ _ _ _ c.requires _ c.index-codes-0.is _ c.index-codes-1.is _ c.index-codes-2.is) ∙ charge_within _ _ _ _ _ _ _ c.in_ok-pay.ensures) (c.in_err-value.ensures.meant fits)
 
 pub scopes::evaluate_match_optional-returns-in-Good-clause-meant : goal.scopes::evaluate_match_optional-returns-in-Good-clause-meant
-scopes::evaluate_match_optional-returns-in-Good-clause-meant t c fits =
-    ends_so _ _ _ _ _ (ap (limited _ _) (Lets.optional_at _ _ _ _ _ c.requires _ c.index-codes-0.is _ c.index-codes-1.is _ c.index-codes-2.is) ∙ charge_within _ _ _ _ _ _ c.in_ok-pay.ensures ∙ then_gave _ _ _ _ _ _ _ (c.in_ok-value.ensures.meant fits) ∙ ap (limited _ _) (Lets.some_branch (means c.args.below) (scope c.args.context.now c.args.names.now) c.args.part.now.name (expression_of c.index-codes-1.result) (expression_of c.index-codes-2.result) _ _ _ (sym c.in-Good.is ∙ c.optional_way_of.ensures) c.into_content-inner.ensures)) (c.evaluate_with.ensures.meant fits)
+scopes::evaluate_match_optional-returns-in-Good-clause-meant g t c fits =
+    ends_so _ _ _ _ _ _ (ap (watched _ _ _) (Lets.optional_at _ _ _ _ _ c.requires _ c.index-codes-0.is _ c.index-codes-1.is _ c.index-codes-2.is) ∙ charge_within _ _ _ _ _ _ _ c.in_ok-pay.ensures ∙ then_gave _ _ _ _ _ _ _ _ _ (c.in_ok-value.ensures.meant fits) ∙ ap (watched _ _ _) (Lets.some_branch (means c.args.below) (scope c.args.context.now c.args.names.now) c.args.part.now.name (expression_of c.index-codes-1.result) (expression_of c.index-codes-2.result) _ _ _ (sym c.in-Good.is ∙ c.optional_way_of.ensures) c.into_content-inner.ensures)) (c.evaluate_with.ensures.meant fits)
 
 pub scopes::evaluate_match_optional-returns-in-Bad-clause-meant : goal.scopes::evaluate_match_optional-returns-in-Bad-clause-meant
-scopes::evaluate_match_optional-returns-in-Bad-clause-meant t c fits =
-    ends_so _ _ _ _ _ (ap (limited _ _) (Lets.optional_at _ _ _ _ _ c.requires _ c.index-codes-0.is _ c.index-codes-1.is _ c.index-codes-2.is) ∙ charge_within _ _ _ _ _ _ c.in_ok-pay.ensures ∙ then_gave _ _ _ _ _ _ _ (c.in_ok-value.ensures.meant fits) ∙ ap (limited _ _) (Lets.none_branch (means c.args.below) (scope c.args.context.now c.args.names.now) c.args.part.now.name (expression_of c.index-codes-1.result) (expression_of c.index-codes-2.result) _ _ (sym c.in-Bad.is ∙ c.optional_way_of.ensures))) (c.evaluate-in-Bad.ensures.meant fits)
+scopes::evaluate_match_optional-returns-in-Bad-clause-meant g t c fits =
+    ends_so _ _ _ _ _ _ (ap (watched _ _ _) (Lets.optional_at _ _ _ _ _ c.requires _ c.index-codes-0.is _ c.index-codes-1.is _ c.index-codes-2.is) ∙ charge_within _ _ _ _ _ _ _ c.in_ok-pay.ensures ∙ then_gave _ _ _ _ _ _ _ _ _ (c.in_ok-value.ensures.meant fits) ∙ ap (watched _ _ _) (Lets.none_branch (means c.args.below) (scope c.args.context.now c.args.names.now) c.args.part.now.name (expression_of c.index-codes-1.result) (expression_of c.index-codes-2.result) _ _ (sym c.in-Bad.is ∙ c.optional_way_of.ensures))) (c.evaluate-in-Bad.ensures.meant fits)
 
 pub scopes::evaluate_match_optional-returns-in-Neither-clause-meant : goal.scopes::evaluate_match_optional-returns-in-Neither-clause-meant
-scopes::evaluate_match_optional-returns-in-Neither-clause-meant t c fits =
-    ap (limited _ _) (Lets.optional_at _ _ _ _ _ c.requires _ c.index-codes-0.is _ c.index-codes-1.is _ c.index-codes-2.is) ∙ charge_within _ _ _ _ _ _ c.in_ok-pay.ensures ∙ then_gave _ _ _ _ _ _ _ (c.in_ok-value.ensures.meant fits) ∙ ap (limited _ _) (Lets.no_optional (means c.args.below) (scope c.args.context.now c.args.names.now) c.args.part.now.name (expression_of c.index-codes-1.result) (expression_of c.index-codes-2.result) _ _ (sym c.in-Neither.is ∙ c.optional_way_of.ensures)) ∙ limited-stop _ _ _ _
+scopes::evaluate_match_optional-returns-in-Neither-clause-meant g t c fits =
+    ap (watched _ _ _) (Lets.optional_at _ _ _ _ _ c.requires _ c.index-codes-0.is _ c.index-codes-1.is _ c.index-codes-2.is) ∙ charge_within _ _ _ _ _ _ _ c.in_ok-pay.ensures ∙ then_gave _ _ _ _ _ _ _ _ _ (c.in_ok-value.ensures.meant fits) ∙ ap (watched _ _ _) (Lets.no_optional (means c.args.below) (scope c.args.context.now c.args.names.now) c.args.part.now.name (expression_of c.index-codes-1.result) (expression_of c.index-codes-2.result) _ _ (sym c.in-Neither.is ∙ c.optional_way_of.ensures)) ∙ watched-stop _ _ _ _ _
 
 pub scopes::evaluate_match_response-returns-in_err-pay-clause-meant : goal.scopes::evaluate_match_response-returns-in_err-pay-clause-meant
-scopes::evaluate_match_response-returns-in_err-pay-clause-meant t c fits =
-    pay_fails _ _ c.in_err-pay.field-0.0 _ _ _ _ _ _ _ (err_from_is_err_and c.from_residual.result c.from_residual.ensures.1) (ap (limited _ _) (Lets.response_at _ _ _ _ _ _ c.requires _ c.index-codes-0.is _ c.index-codes-1.is _ c.index-codes-2.is)) c.in_err-pay.ensures
+scopes::evaluate_match_response-returns-in_err-pay-clause-meant g t c fits = pay_fails _ _ c.in_err-pay.field-0.0 _ _ _ _ _ _ _ _ (err_from_is_err_and c.from_residual.result c.from_residual.ensures.1) (ap (watched _ _ _) (Lets.response_at _ _ _ _ _ _ c.requires _ c.index-codes-0.is _ c.index-codes-1.is _ c.index-codes-2.is)) c.in_err-pay.ensures
 
 pub scopes::evaluate_match_response-returns-in_err-value-clause-meant : goal.scopes::evaluate_match_response-returns-in_err-value-clause-meant
-scopes::evaluate_match_response-returns-in_err-value-clause-meant t c fits =
-    part_fails _ _ c.in_err-value.field-0.0 _ _ _ _ _ _ (err_from_is_err_and c.from_residual-in_err-value.result c.from_residual-in_err-value.ensures.1) (ap (limited _ _) (Lets.response_at _ _ _ _ _ _ c.requires _ c.index-codes-0.is _ c.index-codes-1.is _ c.index-codes-2.is) ∙ charge_within _ _ _ _ _ _ c.in_ok-pay.ensures) (c.in_err-value.ensures.meant fits)
+scopes::evaluate_match_response-returns-in_err-value-clause-meant g t c fits =
+    part_fails _ _ c.in_err-value.field-0.0 _ _ _ _ _ _ _ _ (err_from_is_err_and c.from_residual-in_err-value.result c.from_residual-in_err-value.ensures.1) (ap (watched _ _ _) (Lets.response_at _ _ _ _ _ _ c.requires _ c.index-codes-0.is _ c.index-codes-1.is _ c.index-codes-2.is) ∙ charge_within _ _ _ _ _ _ _ c.in_ok-pay.ensures) (c.in_err-value.ensures.meant fits)
 
 pub scopes::evaluate_match_response-returns-in-Good-clause-meant : goal.scopes::evaluate_match_response-returns-in-Good-clause-meant
-scopes::evaluate_match_response-returns-in-Good-clause-meant t c fits =
-    ends_so _ _ _ _ _ (ap (limited _ _) (Lets.response_at _ _ _ _ _ _ c.requires _ c.index-codes-0.is _ c.index-codes-1.is _ c.index-codes-2.is) ∙ charge_within _ _ _ _ _ _ c.in_ok-pay.ensures ∙ then_gave _ _ _ _ _ _ _ (c.in_ok-value.ensures.meant fits) ∙ ap (limited _ _) (Lets.ok_branch (means c.args.below) (scope c.args.context.now c.args.names.now) c.args.good.now.name (expression_of c.index-codes-1.result) c.args.bad.now.name (expression_of c.index-codes-2.result) _ _ _ (sym c.in-Good.is ∙ c.response_way_of.ensures) c.into_content-inner.ensures)) (c.evaluate_with.ensures.meant fits)
+scopes::evaluate_match_response-returns-in-Good-clause-meant g t c fits =
+    ends_so _ _ _ _ _ _ (ap (watched _ _ _) (Lets.response_at _ _ _ _ _ _ c.requires _ c.index-codes-0.is _ c.index-codes-1.is _ c.index-codes-2.is) ∙ charge_within _ _ _ _ _ _ _ c.in_ok-pay.ensures ∙ then_gave _ _ _ _ _ _ _ _ _ (c.in_ok-value.ensures.meant fits) ∙ ap (watched _ _ _) (Lets.ok_branch (means c.args.below) (scope c.args.context.now c.args.names.now) c.args.good.now.name (expression_of c.index-codes-1.result) c.args.bad.now.name (expression_of c.index-codes-2.result) _ _ _ (sym c.in-Good.is ∙ c.response_way_of.ensures) c.into_content-inner.ensures)) (c.evaluate_with.ensures.meant fits)
 
 pub scopes::evaluate_match_response-returns-in-Bad-clause-meant : goal.scopes::evaluate_match_response-returns-in-Bad-clause-meant
-scopes::evaluate_match_response-returns-in-Bad-clause-meant t c fits =
-    ends_so _ _ _ _ _ (ap (limited _ _) (Lets.response_at _ _ _ _ _ _ c.requires _ c.index-codes-0.is _ c.index-codes-1.is _ c.index-codes-2.is) ∙ charge_within _ _ _ _ _ _ c.in_ok-pay.ensures ∙ then_gave _ _ _ _ _ _ _ (c.in_ok-value.ensures.meant fits) ∙ ap (limited _ _) (Lets.err_branch (means c.args.below) (scope c.args.context.now c.args.names.now) c.args.good.now.name (expression_of c.index-codes-1.result) c.args.bad.now.name (expression_of c.index-codes-2.result) _ _ _ (sym c.in-Bad.is ∙ c.response_way_of.ensures) c.into_content-inner-in-Bad.ensures)) (c.evaluate_with-in-Bad.ensures.meant fits)
+scopes::evaluate_match_response-returns-in-Bad-clause-meant g t c fits =
+    ends_so _ _ _ _ _ _ (ap (watched _ _ _) (Lets.response_at _ _ _ _ _ _ c.requires _ c.index-codes-0.is _ c.index-codes-1.is _ c.index-codes-2.is) ∙ charge_within _ _ _ _ _ _ _ c.in_ok-pay.ensures ∙ then_gave _ _ _ _ _ _ _ _ _ (c.in_ok-value.ensures.meant fits) ∙ ap (watched _ _ _) (Lets.err_branch (means c.args.below) (scope c.args.context.now c.args.names.now) c.args.good.now.name (expression_of c.index-codes-1.result) c.args.bad.now.name (expression_of c.index-codes-2.result) _ _ _ (sym c.in-Bad.is ∙ c.response_way_of.ensures) c.into_content-inner-in-Bad.ensures)) (c.evaluate_with-in-Bad.ensures.meant fits)
 
 pub scopes::evaluate_match_response-returns-in-Neither-clause-meant : goal.scopes::evaluate_match_response-returns-in-Neither-clause-meant
-scopes::evaluate_match_response-returns-in-Neither-clause-meant t c fits =
-    ap (limited _ _) (Lets.response_at _ _ _ _ _ _ c.requires _ c.index-codes-0.is _ c.index-codes-1.is _ c.index-codes-2.is) ∙ charge_within _ _ _ _ _ _ c.in_ok-pay.ensures ∙ then_gave _ _ _ _ _ _ _ (c.in_ok-value.ensures.meant fits) ∙ ap (limited _ _) (Lets.no_response (means c.args.below) (scope c.args.context.now c.args.names.now) c.args.good.now.name (expression_of c.index-codes-1.result) c.args.bad.now.name (expression_of c.index-codes-2.result) _ _ (sym c.in-Neither.is ∙ c.response_way_of.ensures)) ∙ limited-stop _ _ _ _
+scopes::evaluate_match_response-returns-in-Neither-clause-meant g t c fits =
+    ap (watched _ _ _) (Lets.response_at _ _ _ _ _ _ c.requires _ c.index-codes-0.is _ c.index-codes-1.is _ c.index-codes-2.is) ∙ charge_within _ _ _ _ _ _ _ c.in_ok-pay.ensures ∙ then_gave _ _ _ _ _ _ _ _ _ (c.in_ok-value.ensures.meant fits) ∙ ap (watched _ _ _) (Lets.no_response (means c.args.below) (scope c.args.context.now c.args.names.now) c.args.good.now.name (expression_of c.index-codes-1.result) c.args.bad.now.name (expression_of c.index-codes-2.result) _ _ (sym c.in-Neither.is ∙ c.response_way_of.ensures)) ∙ watched-stop _ _ _ _ _
 
 pub scopes::evaluate_with-returns-in_err-pay_for-clause-meant : goal.scopes::evaluate_with-returns-in_err-pay_for-clause-meant
-scopes::evaluate_with-returns-in_err-pay_for-clause-meant t c fits =
-    pay_fails _ _ c.in_err-pay_for.field-0.0 _ _ _ _ _ _ _ (err_from_is_err_and c.from_residual.result c.from_residual.ensures.1) refl c.in_err-pay_for.ensures
+scopes::evaluate_with-returns-in_err-pay_for-clause-meant g t c fits = pay_fails _ _ c.in_err-pay_for.field-0.0 _ _ _ _ _ _ _ _ (err_from_is_err_and c.from_residual.result c.from_residual.ensures.1) refl c.in_err-pay_for.ensures
 
 pub scopes::evaluate_with-returns-clause-meant : goal.scopes::evaluate_with-returns-clause-meant
-scopes::evaluate_with-returns-clause-meant t c fits =
-    ends_so _ _ _ _ _ (charge_within _ _ _ _ _ _ c.in_ok-pay_for.ensures ∙ Lets.bound_in (costs_of c.args.context.now) _ (means c.args.below) (scope c.args.context.now c.args.names.now) c.args.names.now.values _ _ _ _ _ _ _ refl c.deref.ensures.value (c.in_ok-push.ensures.items ∙ ap (λ l. l ++ (c.args.name.now.name, c.args.value) ∷ []) c.new-own.ensures.items)) (c.evaluate_in.ensures.meant fits)
+scopes::evaluate_with-returns-clause-meant g t c fits =
+    ends_so _ _ _ _ _ _ (charge_within _ _ _ _ _ _ _ c.in_ok-pay_for.ensures ∙ Lets.bound_in (costs_of c.args.context.now) _ _ (means c.args.below) (scope c.args.context.now c.args.names.now) c.args.names.now.values _ _ _ _ _ _ _ refl c.deref.ensures.value (c.in_ok-push.ensures.items ∙ ap (λ l. l ++ (c.args.name.now.name, c.args.value) ∷ []) c.new-own.ensures.items)) (c.evaluate_in.ensures.meant fits)
 
 pub scopes::evaluate_in-returns-clause-meant : goal.scopes::evaluate_in-returns-clause-meant
-scopes::evaluate_in-returns-clause-meant t c fits =
-    ends_so _ _ _ _ _ (ap (λ b. limited (costs_of c.args.context.now) c.args.meter.now (means c.args.below (scope_of c.args.context.now b) (expression_of c.args.code.now) c.args.world.now.stack.top)) (sym c.within-inner.ensures)) (c.evaluate.ensures.meant fits)
+scopes::evaluate_in-returns-clause-meant g t c fits = ends_so _ _ _ _ _ _ (ap (λ b. watched (costs_of c.args.context.now) c.args.meter.now (g.W.Watch.seen c.args.watch.now) (means c.args.below (scope_of c.args.context.now b) (expression_of c.args.code.now) c.args.world.now.stack.top)) (sym c.within-inner.ensures)) (c.evaluate.ensures.meant fits)
 
 pub scopes::evaluate_let-returns-in_err-pay-clause-meant : goal.scopes::evaluate_let-returns-in_err-pay-clause-meant
-scopes::evaluate_let-returns-in_err-pay-clause-meant t c at fits =
+scopes::evaluate_let-returns-in_err-pay-clause-meant g t c at fits =
     let few : length c.args.bindings.now < length c.args.codes.now = c.requires.fit in
-    pay_fails _ _ c.in_err-pay.field-0.0 _ _ _ _ _ _ _ (err_from_is_err_and c.from_residual.result c.from_residual.ensures.1) (ap (limited _ _) (Lets.let_at _ _ c.args.bindings.now c.args.codes.now at _ _ few (omega arith))) c.in_err-pay.ensures
+    pay_fails _ _ c.in_err-pay.field-0.0 _ _ _ _ _ _ _ _ (err_from_is_err_and c.from_residual.result c.from_residual.ensures.1) (ap (watched _ _ _) (Lets.let_at _ _ c.args.bindings.now c.args.codes.now at _ _ few (omega arith))) c.in_err-pay.ensures
 
 pub scopes::evaluate_let-returns-in_err-own-clause-meant : goal.scopes::evaluate_let-returns-in_err-own-clause-meant
-scopes::evaluate_let-returns-in_err-own-clause-meant t c at fits =
+scopes::evaluate_let-returns-in_err-own-clause-meant g t c at fits =
     let few : length c.args.bindings.now < length c.args.codes.now = c.requires.fit in
-    hands_on _ _ c.in_err-own.field-0.0 _ _ (err_from_is_err_and c.from_residual-in_err-own.result c.from_residual-in_err-own.ensures.1) (stops_eq _ _ _ _ _ (ap (limited _ _) (Lets.let_at _ _ c.args.bindings.now c.args.codes.now at _ _ few (omega arith)) ∙ charge_within _ _ _ _ _ _ c.in_ok-pay.ensures) (c.in_err-own.ensures.meant _ fits))
+    hands_on _ _ c.in_err-own.field-0.0 _ _ _ (err_from_is_err_and c.from_residual-in_err-own.result c.from_residual-in_err-own.ensures.1) (stops_eq _ _ _ _ _ _ (ap (watched _ _ _) (Lets.let_at _ _ c.args.bindings.now c.args.codes.now at _ _ few (omega arith)) ∙ charge_within _ _ _ _ _ _ _ c.in_ok-pay.ensures) (c.in_err-own.ensures.meant _ fits))
 
 pub scopes::evaluate_let-returns-in_err-values-clause-meant : goal.scopes::evaluate_let-returns-in_err-values-clause-meant
-scopes::evaluate_let-returns-in_err-values-clause-meant t c at fits =
+scopes::evaluate_let-returns-in_err-values-clause-meant g t c at fits =
     let few : length c.args.bindings.now < length c.args.codes.now = c.requires.fit in
-    part_fails _ _ c.in_err-values.field-0.0 _ _ _ _ _ _ (err_from_is_err_and c.from_residual-in_err-values.result c.from_residual-in_err-values.ensures.1) (ap (limited _ _) (Lets.let_at _ _ c.args.bindings.now c.args.codes.now at _ _ few (omega arith)) ∙ charge_within _ _ _ _ _ _ c.in_ok-pay.ensures ∙ c.in_ok-own.ensures.meant _ fits ∙ Lets.let_rest _ _ (means c.args.below) (scope c.args.context.now c.args.names.now) c.args.names.now.values (length c.args.bindings.now) c.args.codes.now _ _ _ _ c.within-inner.ensures c.deref.ensures.value) (c.in_err-values.ensures.meant fits)
+    part_fails _ _ c.in_err-values.field-0.0 _ _ _ _ _ _ _ _ (err_from_is_err_and c.from_residual-in_err-values.result c.from_residual-in_err-values.ensures.1) (ap (watched _ _ _) (Lets.let_at _ _ c.args.bindings.now c.args.codes.now at _ _ few (omega arith)) ∙ charge_within _ _ _ _ _ _ _ c.in_ok-pay.ensures ∙ c.in_ok-own.ensures.meant _ fits ∙ Lets.let_rest _ _ _ (means c.args.below) (scope c.args.context.now c.args.names.now) c.args.names.now.values (length c.args.bindings.now) c.args.codes.now _ _ _ _ c.within-inner.ensures c.deref.ensures.value) (c.in_err-values.ensures.meant fits)
 
 pub scopes::evaluate_let-returns-clause-meant : goal.scopes::evaluate_let-returns-clause-meant
-scopes::evaluate_let-returns-clause-meant t c at fits =
+scopes::evaluate_let-returns-clause-meant g t c at fits =
     let few : length c.args.bindings.now < length c.args.codes.now = c.requires.fit in
-    ends_so _ _ _ _ _ (ap (limited _ _) (Lets.let_at _ _ c.args.bindings.now c.args.codes.now at _ _ few (omega arith)) ∙ charge_within _ _ _ _ _ _ c.in_ok-pay.ensures ∙ c.in_ok-own.ensures.meant _ fits ∙ Lets.let_rest _ _ (means c.args.below) (scope c.args.context.now c.args.names.now) c.args.names.now.values (length c.args.bindings.now) c.args.codes.now _ _ _ _ c.within-inner.ensures c.deref.ensures.value ∙ then_gave _ _ _ _ _ _ _ (c.in_ok-values.ensures.meant fits)) (c.last.ensures _ _ _)
+    ends_so _ _ _ _ _ _ (ap (watched _ _ _) (Lets.let_at _ _ c.args.bindings.now c.args.codes.now at _ _ few (omega arith)) ∙ charge_within _ _ _ _ _ _ _ c.in_ok-pay.ensures ∙ c.in_ok-own.ensures.meant _ fits ∙ Lets.let_rest _ _ _ (means c.args.below) (scope c.args.context.now c.args.names.now) c.args.names.now.values (length c.args.bindings.now) c.args.codes.now _ _ _ _ c.within-inner.ensures c.deref.ensures.value ∙ then_gave _ _ _ _ _ _ _ _ _ (c.in_ok-values.ensures.meant fits)) (unseen_ends (costs_of c.args.context.now) c.evaluate_parts.new.meter _ _ _ _ c.evaluate_parts.new.world.stack.top (last_unseen c.in_ok-values.values.items c.evaluate_parts.new.world.stack.top _ _) (c.last.ensures (costs_of c.args.context.now) c.evaluate_parts.new.meter c.evaluate_parts.new.world.stack.top))
 
 pub scopes::evaluate_bindings-returns-in_err-value-clause-meant : goal.scopes::evaluate_bindings-returns-in_err-value-clause-meant
-scopes::evaluate_bindings-returns-in_err-value-clause-meant t c body fits =
+scopes::evaluate_bindings-returns-in_err-value-clause-meant g t c body fits =
     let here : c.loop-binding.binding-index < length c.args.bindings.now = omega arith in
-    Lets.binds_not _ _ _ (λ own. scope_of c.args.context.now (c.args.names.now.values ++ own)) _ _ c.in_err-value.field-0.0 _ _ (err_from_is_err_and c.from_residual.result c.from_residual.ensures.1) (stops_eq _ _ _ _ _ (c.loop-binding.invariant.so_far body fits ∙ Lets.let_next (costs_of c.args.context.now) c.loop-binding.meter (means c.args.below) body (scope c.args.context.now c.args.names.now) c.args.names.now.values c.args.bindings.now c.args.codes.now c.loop-binding.binding-index c.loop-binding.place _ _ c.loop-binding.world.stack.top c.loop-binding.own.items _ _ refl c.deref.ensures.value c.loop-binding.invariant.at here c.requires c.binding-item.is c.index-codes-place.is) (stops_then _ _ _ _ _ _ _ (c.in_err-value.ensures.meant fits)))
+    Lets.binds_not _ _ _ (λ own. scope_of c.args.context.now (c.args.names.now.values ++ own)) _ _ c.in_err-value.field-0.0 _ _ _ (err_from_is_err_and c.from_residual.result c.from_residual.ensures.1) (stops_eq _ _ _ _ _ _ (c.loop-binding.invariant.so_far body fits ∙ Lets.let_next (costs_of c.args.context.now) c.loop-binding.meter (g.W.Watch.seen c.loop-binding.watch) (means c.args.below) body (scope c.args.context.now c.args.names.now) c.args.names.now.values c.args.bindings.now c.args.codes.now c.loop-binding.binding-index c.loop-binding.place _ _ c.loop-binding.world.stack.top c.loop-binding.own.items _ _ refl c.deref.ensures.value c.loop-binding.invariant.at here c.requires c.binding-item.is c.index-codes-place.is) (stops_then _ _ _ _ _ _ _ _ _ (c.in_err-value.ensures.meant fits)))
 
 pub scopes::evaluate_bindings-returns-in_err-pay_for-clause-meant : goal.scopes::evaluate_bindings-returns-in_err-pay_for-clause-meant
-scopes::evaluate_bindings-returns-in_err-pay_for-clause-meant t c body fits =
+scopes::evaluate_bindings-returns-in_err-pay_for-clause-meant g t c body fits =
     let here : c.loop-binding.binding-index < length c.args.bindings.now = omega arith in
-    Lets.binds_not _ _ _ (λ own. scope_of c.args.context.now (c.args.names.now.values ++ own)) _ _ c.in_err-pay_for.field-0.0 _ _ (err_from_is_err_and c.from_residual-in_err-pay_for.result c.from_residual-in_err-pay_for.ensures.1) (stops_eq _ _ _ _ _ (c.loop-binding.invariant.so_far body fits ∙ Lets.let_next (costs_of c.args.context.now) c.loop-binding.meter (means c.args.below) body (scope c.args.context.now c.args.names.now) c.args.names.now.values c.args.bindings.now c.args.codes.now c.loop-binding.binding-index c.loop-binding.place _ _ c.loop-binding.world.stack.top c.loop-binding.own.items _ _ refl c.deref.ensures.value c.loop-binding.invariant.at here c.requires c.binding-item.is c.index-codes-place.is ∙ then_gave _ _ _ _ _ _ _ (c.in_ok-value.ensures.meant fits)) (charge_stops _ _ _ _ _ _ _ _ c.in_err-pay_for.ensures))
+    Lets.binds_not _ _ _ (λ own. scope_of c.args.context.now (c.args.names.now.values ++ own)) _ _ c.in_err-pay_for.field-0.0 _ _ _ (err_from_is_err_and c.from_residual-in_err-pay_for.result c.from_residual-in_err-pay_for.ensures.1) (stops_eq _ _ _ _ _ _ (c.loop-binding.invariant.so_far body fits ∙ Lets.let_next (costs_of c.args.context.now) c.loop-binding.meter (g.W.Watch.seen c.loop-binding.watch) (means c.args.below) body (scope c.args.context.now c.args.names.now) c.args.names.now.values c.args.bindings.now c.args.codes.now c.loop-binding.binding-index c.loop-binding.place _ _ c.loop-binding.world.stack.top c.loop-binding.own.items _ _ refl c.deref.ensures.value c.loop-binding.invariant.at here c.requires c.binding-item.is c.index-codes-place.is ∙ then_gave _ _ _ _ _ _ _ _ _ (c.in_ok-value.ensures.meant fits)) (charge_stops _ _ _ _ _ _ _ _ _ c.in_err-pay_for.ensures))
 
 pub scopes::evaluate_bindings-loop-binding-preserved : goal.scopes::evaluate_bindings-loop-binding-preserved
-scopes::evaluate_bindings-loop-binding-preserved t c = record {
+scopes::evaluate_bindings-loop-binding-preserved g t c = record {
   so_far = λ body fits.
       let here : c.loop-binding.binding-index < length c.args.bindings.now = omega arith in
-      c.loop-binding.invariant.so_far body fits ∙ Lets.let_next (costs_of c.args.context.now) c.loop-binding.meter (means c.args.below) body (scope c.args.context.now c.args.names.now) c.args.names.now.values c.args.bindings.now c.args.codes.now c.loop-binding.binding-index c.loop-binding.place _ _ c.loop-binding.world.stack.top c.loop-binding.own.items _ _ refl c.deref.ensures.value c.loop-binding.invariant.at here c.requires c.binding-item.is c.index-codes-place.is ∙ then_gave _ _ _ _ _ _ _ (c.in_ok-value.ensures.meant fits) ∙ charge_within _ _ _ _ _ _ c.in_ok-pay_for.ensures ∙ Lets.let_bound _ _ (means c.args.below) body (scope c.args.context.now c.args.names.now) c.args.names.now.values _ _ _ _ _ _ c.in_ok-push.ensures.items;
+      c.loop-binding.invariant.so_far body fits ∙ Lets.let_next (costs_of c.args.context.now) c.loop-binding.meter (g.W.Watch.seen c.loop-binding.watch) (means c.args.below) body (scope c.args.context.now c.args.names.now) c.args.names.now.values c.args.bindings.now c.args.codes.now c.loop-binding.binding-index c.loop-binding.place _ _ c.loop-binding.world.stack.top c.loop-binding.own.items _ _ refl c.deref.ensures.value c.loop-binding.invariant.at here c.requires c.binding-item.is c.index-codes-place.is ∙ then_gave _ _ _ _ _ _ _ _ _ (c.in_ok-value.ensures.meant fits) ∙ charge_within _ _ _ _ _ _ _ c.in_ok-pay_for.ensures ∙ Lets.let_bound _ _ _ (means c.args.below) body (scope c.args.context.now c.args.names.now) c.args.names.now.values _ _ _ _ _ _ c.in_ok-push.ensures.items;
   below = c.in_ok-value.ensures.below ∙ c.loop-binding.invariant.below;
+  grew = omega (arith, c.in_ok-value.ensures.grew, c.loop-binding.invariant.grew);
   at = omega (arith, c.loop-binding.invariant.at);
 }
 
 pub scopes::evaluate_bindings-loop-binding-init : goal.scopes::evaluate_bindings-loop-binding-init
-scopes::evaluate_bindings-loop-binding-init t c = record {
-  so_far = λ body fits. Lets.let_start _ _ (means c.args.below) body (scope c.args.context.now c.args.names.now) c.args.names.now.values _ _ _ c.new-own.ensures.items;
+scopes::evaluate_bindings-loop-binding-init g t c = record {
+  so_far = λ body fits. Lets.let_start _ _ _ (means c.args.below) body (scope c.args.context.now c.args.names.now) c.args.names.now.values _ _ _ c.new-own.ensures.items;
   below = refl;
+  grew = omega arith;
   at = refl;
 }
 
 pub scopes::evaluate_bindings-returns-clause-meant : goal.scopes::evaluate_bindings-returns-clause-meant
-scopes::evaluate_bindings-returns-clause-meant t c body fits =
+scopes::evaluate_bindings-returns-clause-meant g t c body fits =
     let past : length c.args.bindings.now ≤ c.loop-binding.binding-index = omega arith in
-    c.loop-binding.invariant.so_far body fits ∙ Lets.let_end _ _ _ _ _ c.args.bindings.now _ _ _ past
+    c.loop-binding.invariant.so_far body fits ∙ Lets.let_end _ _ _ _ _ _ c.args.bindings.now _ _ _ past
 
 pub calls::evaluate_call-returns-in_err-values-clause-meant : goal.calls::evaluate_call-returns-in_err-values-clause-meant
-calls::evaluate_call-returns-in_err-values-clause-meant t c fits =
-    part_fails _ _ c.in_err-values.field-0.0 _ _ _ _ _ _ (err_from_is_err_and c.from_residual.result c.from_residual.ensures.1) (ap (limited _ _) (call_at _ _ _ _ _ _)) (c.in_err-values.ensures.meant fits)
+calls::evaluate_call-returns-in_err-values-clause-meant g t c fits = part_fails _ _ c.in_err-values.field-0.0 _ _ _ _ _ _ _ _ (err_from_is_err_and c.from_residual.result c.from_residual.ensures.1) (ap (watched _ _ _) (call_at _ _ _ _ _ _)) (c.in_err-values.ensures.meant fits)
 
 pub calls::evaluate_call-returns-in-Some-clause-meant : goal.calls::evaluate_call-returns-in-Some-clause-meant
-calls::evaluate_call-returns-in-Some-clause-meant t c fits =
-    ends_so _ _ _ _ _ (ap (limited _ _) (call_at _ _ _ _ _ _) ∙ then_gave _ _ _ _ _ _ _ (c.in_ok-values.ensures.meant fits) ∙ known_some _ _ _ _ _ _ (sym (c.own_function.ensures c.args.names.now.values fits) ∙ ap (option_map (λ f. function_seen f.now)) c.in-Some.is)) (c.enter.ensures.meant _ fits)
+calls::evaluate_call-returns-in-Some-clause-meant g t c fits = ends_so _ _ _ _ _ _ (ap (watched _ _ _) (call_at _ _ _ _ _ _) ∙ then_gave _ _ _ _ _ _ _ _ _ (c.in_ok-values.ensures.meant fits) ∙ known_some _ _ _ _ _ _ _ (sym (c.own_function.ensures c.args.names.now.values fits) ∙ ap (option_map (λ f. function_seen f.now)) c.in-Some.is)) (c.enter.ensures.meant _ fits)
 
 pub calls::evaluate_call-returns-in-None-clause-meant : goal.calls::evaluate_call-returns-in-None-clause-meant
-calls::evaluate_call-returns-in-None-clause-meant t c fits =
-    ap (limited _ _) (call_at _ _ _ _ _ _) ∙ then_gave _ _ _ _ _ _ _ (c.in_ok-values.ensures.meant fits) ∙ known_none _ _ _ _ _ (sym (c.own_function.ensures c.args.names.now.values fits) ∙ ap (option_map (λ f. function_seen f.now)) c.in-None.is)
+calls::evaluate_call-returns-in-None-clause-meant g t c fits = ap (watched _ _ _) (call_at _ _ _ _ _ _) ∙ then_gave _ _ _ _ _ _ _ _ _ (c.in_ok-values.ensures.meant fits) ∙ known_none _ _ _ _ _ _ (sym (c.own_function.ensures c.args.names.now.values fits) ∙ ap (option_map (λ f. function_seen f.now)) c.in-None.is)
 
 pub calls::enter-returns-then-depth-eq0-clause-meant : goal.calls::enter-returns-then-depth-eq0-clause-meant
-calls::enter-returns-then-depth-eq0-clause-meant t c outer fits =
-    applied_none _ _ _ _ _ _ _ c.if-depth-eq0.true
+calls::enter-returns-then-depth-eq0-clause-meant g t c outer fits = applied_none _ _ _ _ _ _ _ _ c.if-depth-eq0.true
 
 pub calls::enter-returns-in_err-pay-clause-meant : goal.calls::enter-returns-in_err-pay-clause-meant
-calls::enter-returns-in_err-pay-clause-meant t c outer fits =
-    pay_fails _ _ c.in_err-pay.field-0.0 _ _ _ _ _ _ _ (err_from_is_err_and c.from_residual.result c.from_residual.ensures.1) (ap (limited _ _) (applied_down _ _ _ _ _ _ (omega arith) (omega (arith, c.args.values.ok.0)))) c.in_err-pay.ensures
+calls::enter-returns-in_err-pay-clause-meant g t c outer fits = pay_fails _ _ c.in_err-pay.field-0.0 _ _ _ _ _ _ _ _ (err_from_is_err_and c.from_residual.result c.from_residual.ensures.1) (ap (watched _ _ _) (applied_down _ _ _ _ _ _ (omega arith) (omega (arith, c.args.values.ok.0)))) c.in_err-pay.ensures
 
 pub calls::enter-returns-in_err-bound-clause-meant : goal.calls::enter-returns-in_err-bound-clause-meant
-calls::enter-returns-in_err-bound-clause-meant t c outer fits =
-    hands_on _ _ c.in_err-bound.field-0.0 _ _ (err_from_is_err_and c.from_residual-in_err-bound.result c.from_residual-in_err-bound.ensures.1) (stops_eq _ _ _ _ _ (ap (limited _ _) (applied_down _ _ _ _ _ _ (omega arith) (omega (arith, c.args.values.ok.0))) ∙ charge_within _ _ _ _ _ _ c.in_ok-pay.ensures) (c.in_err-bound.ensures _ _))
+calls::enter-returns-in_err-bound-clause-meant g t c outer fits =
+    hands_on _ _ c.in_err-bound.field-0.0 _ _ _ (err_from_is_err_and c.from_residual-in_err-bound.result c.from_residual-in_err-bound.ensures.1) (stops_eq _ _ _ _ _ _ (ap (watched _ _ _) (applied_down _ _ _ _ _ _ (omega arith) (omega (arith, c.args.values.ok.0))) ∙ charge_within _ _ _ _ _ _ _ c.in_ok-pay.ensures) (c.in_err-bound.ensures _ _ _))
 
 pub calls::enter-returns-clause-meant : goal.calls::enter-returns-clause-meant
-calls::enter-returns-clause-meant t c outer fits =
-    ends_so _ _ _ _ _ (ap (limited _ _) (applied_down _ _ _ _ _ _ (omega arith) (omega (arith, c.args.values.ok.0))) ∙ charge_within _ _ _ _ _ _ c.in_ok-pay.ensures ∙ c.in_ok-bound.ensures _ _ ∙ Lets.body_bound _ _ (means (c.args.depth - 1)) (scope_of c.args.context.now outer) (function_seen c.args.function.now) _ _ _ _ c.alone-names.ensures c.deref.ensures.value) (c.evaluate_body.ensures.meant outer fits)
+calls::enter-returns-clause-meant g t c outer fits =
+    ends_so _ _ _ _ _ _ (ap (watched _ _ _) (applied_down _ _ _ _ _ _ (omega arith) (omega (arith, c.args.values.ok.0))) ∙ charge_within _ _ _ _ _ _ _ c.in_ok-pay.ensures ∙ c.in_ok-bound.ensures _ _ _ ∙ Lets.body_bound _ _ _ (means (c.args.depth - 1)) (scope_of c.args.context.now outer) (function_seen c.args.function.now) _ _ _ _ c.alone-names.ensures c.deref.ensures.value) (c.evaluate_body.ensures.meant outer fits)
 
 pub calls::evaluate_body-returns-in_ok-push_layer-clause-meant : goal.calls::evaluate_body-returns-in_ok-push_layer-clause-meant
-calls::evaluate_body-returns-in_ok-push_layer-clause-meant t c outer fits =
+calls::evaluate_body-returns-in_ok-push_layer-clause-meant g t c outer fits =
     let top = ap (λ (s : Stack). s.top) c.in_ok-push_layer.ensures.done in
     let below = c.evaluate-answer.ensures.below ∙ ap (λ (s : Stack). s.below) c.in_ok-push_layer.ensures.done in
     let public = public_one c.args.function.now.access (sym c.is_public.ensures ∙ c.if-is_public.true) in
-    ends_so _ _ _ _ _
-    (ap (λ a. limited (costs_of c.args.context.now) c.args.meter.now (and_then (returning (means c.args.below (scope_of c.args.context.now c.args.names.now.values) (expression_of c.args.function.now.body) c.args.world.now.stack.top)) (closing a c.args.world.now.stack.top))) public)
-    (public_ends _ _ _ _ _ _ _ _ _ _
-    (returning_ends _ _ _ _ _ _ _ c.returned.ensures (ends_so _ _ _ _ _ (ap (λ s. limited (costs_of c.args.context.now) c.args.meter.now (means c.args.below (scope_of c.args.context.now c.args.names.now.values) (expression_of c.args.function.now.body) s)) (sym top)) (c.evaluate-answer.ensures.meant fits)))
+    ends_so _ _ _ _ _ _
+    (ap (λ a. watched (costs_of c.args.context.now) c.args.meter.now (g.W.Watch.seen c.args.watch.now) (and_then (returning (means c.args.below (scope_of c.args.context.now c.args.names.now.values) (expression_of c.args.function.now.body) c.args.world.now.stack.top)) (closing a c.args.world.now.stack.top))) public)
+    (public_ends _ _ _ _ _ _ _ _ _ _ _ _
+    (returning_ends _ _ _ _ _ _ _ _ _ c.returned.ensures (ends_so _ _ _ _ _ _ (ap (λ s. watched (costs_of c.args.context.now) c.args.meter.now (g.W.Watch.seen c.args.watch.now) (means c.args.below (scope_of c.args.context.now c.args.names.now.values) (expression_of c.args.function.now.body) s)) (sym top)) (c.evaluate-answer.ensures.meant fits)))
     below c.close.ensures)
 
 pub calls::evaluate_body-returns-in_ok-push_layer-clause-below : goal.calls::evaluate_body-returns-in_ok-push_layer-clause-below
-calls::evaluate_body-returns-in_ok-push_layer-clause-below t c =
+calls::evaluate_body-returns-in_ok-push_layer-clause-below g t c =
     let below = c.evaluate-answer.ensures.below ∙ ap (λ (s : Stack). s.below) c.in_ok-push_layer.ensures.done in
     closes_below (costs_of c.args.context.now) c.args.meter.now _ _ _ _ _ _ below c.close.ensures
 
 pub calls::evaluate_body-returns-else-is_public-clause-meant : goal.calls::evaluate_body-returns-else-is_public-clause-meant
-calls::evaluate_body-returns-else-is_public-clause-meant t c outer fits =
-    ends_so _ _ _ _ _ (other_ends _ _ _ _ _ (sym c.is_public.ensures ∙ c.if-is_public.false)) (returning_ends _ _ _ _ _ _ _ c.returned-else-is_public.ensures (c.evaluate.ensures.meant fits))
+calls::evaluate_body-returns-else-is_public-clause-meant g t c outer fits = ends_so _ _ _ _ _ _ (other_ends _ _ _ _ _ _ (sym c.is_public.ensures ∙ c.if-is_public.false)) (returning_ends _ _ _ _ _ _ _ _ _ c.returned-else-is_public.ensures (c.evaluate.ensures.meant fits))
 
 pub tuples::evaluate_as_max_len-returns-in_err-value-clause-meant : goal.tuples::evaluate_as_max_len-returns-in_err-value-clause-meant
-tuples::evaluate_as_max_len-returns-in_err-value-clause-meant t c at fits =
-    part_fails _ _ c.in_err-value.field-0.0 _ _ _ _ _ _ (err_from_is_err_and c.from_residual.result c.from_residual.ensures.1) (ap (limited _ _) (Forms.max_len_at _ _ _ _ _ _ c.requires _ c.index-codes-0.is)) (c.in_err-value.ensures.meant fits)
+tuples::evaluate_as_max_len-returns-in_err-value-clause-meant g t c at fits = part_fails _ _ c.in_err-value.field-0.0 _ _ _ _ _ _ _ _ (err_from_is_err_and c.from_residual.result c.from_residual.ensures.1) (ap (watched _ _ _) (Forms.max_len_at _ _ _ _ _ _ c.requires _ c.index-codes-0.is)) (c.in_err-value.ensures.meant fits)
 
 pub tuples::evaluate_as_max_len-returns-clause-meant : goal.tuples::evaluate_as_max_len-returns-clause-meant
-tuples::evaluate_as_max_len-returns-clause-meant t c at fits =
-    ends_so _ _ _ _ _ (ap (limited _ _) (Forms.max_len_at _ _ _ _ _ _ c.requires _ c.index-codes-0.is) ∙ then_gave _ _ _ _ _ _ _ (c.in_ok-value.ensures.meant fits)) (c.shorten.ensures _)
+tuples::evaluate_as_max_len-returns-clause-meant g t c at fits = ends_so _ _ _ _ _ _ (ap (watched _ _ _) (Forms.max_len_at _ _ _ _ _ _ c.requires _ c.index-codes-0.is) ∙ then_gave _ _ _ _ _ _ _ _ _ (c.in_ok-value.ensures.meant fits)) (unseen_ends _ _ _ _ _ _ _ (shortened_unseen _ _ _ _ _) (c.shorten.ensures _))
 
 pub evaluate::evaluate_node-returns-in-AsMaxLen-clause-meant : goal.evaluate::evaluate_node-returns-in-AsMaxLen-clause-meant
-evaluate::evaluate_node-returns-in-AsMaxLen-clause-meant t c fits =
-    ends_so _ _ _ _ _ (ap (limited _ _) (node_is _ _ _ _ _ _ _ _ _ _ _ c.code.view_is c.code.invariant.named c.in-AsMaxLen.is c.as_slice-parts.ensures.value)) (c.evaluate_as_max_len.ensures.meant _ fits)
+evaluate::evaluate_node-returns-in-AsMaxLen-clause-meant g t c fits = ends_so _ _ _ _ _ _ (ap (watched _ _ _) (node_is _ _ _ _ _ _ _ _ _ _ _ c.code.view_is c.code.invariant.named c.in-AsMaxLen.is c.as_slice-parts.ensures.value)) (c.evaluate_as_max_len.ensures.meant _ fits)
 
 pub evaluate::evaluate_node-returns-in-ContractCall-clause-meant : goal.evaluate::evaluate_node-returns-in-ContractCall-clause-meant
-evaluate::evaluate_node-returns-in-ContractCall-clause-meant t c fits =
-    ends_so _ _ _ _ _ (ap (limited _ _) (node_is _ _ _ _ _ _ _ _ _ _ _ c.code.view_is c.code.invariant.named c.in-ContractCall.is c.as_slice-parts.ensures.value)) (c.evaluate_contract_call.ensures.meant fits)
+evaluate::evaluate_node-returns-in-ContractCall-clause-meant g t c fits = ends_so _ _ _ _ _ _ (ap (watched _ _ _) (node_is _ _ _ _ _ _ _ _ _ _ _ c.code.view_is c.code.invariant.named c.in-ContractCall.is c.as_slice-parts.ensures.value)) (c.evaluate_contract_call.ensures.meant fits)
 
 pub across::evaluate_contract_call-returns-in_err-values-clause-meant : goal.across::evaluate_contract_call-returns-in_err-values-clause-meant
-across::evaluate_contract_call-returns-in_err-values-clause-meant t c fits =
-    part_fails _ _ c.in_err-values.field-0.0 _ _ _ _ _ _ (err_from_is_err_and c.from_residual.result c.from_residual.ensures.1) (ap (limited _ _) (Forms.contract_call_at _ _ _ _ _ _ _)) (c.in_err-values.ensures.meant fits)
+across::evaluate_contract_call-returns-in_err-values-clause-meant g t c fits = part_fails _ _ c.in_err-values.field-0.0 _ _ _ _ _ _ _ _ (err_from_is_err_and c.from_residual.result c.from_residual.ensures.1) (ap (watched _ _ _) (Forms.contract_call_at _ _ _ _ _ _ _)) (c.in_err-values.ensures.meant fits)
 
 pub across::evaluate_contract_call-returns-then-same-clause-meant : goal.across::evaluate_contract_call-returns-then-same-clause-meant
-across::evaluate_contract_call-returns-then-same-clause-meant t c fits =
-    ap (limited _ _) (Forms.contract_call_at _ _ _ _ _ _ _) ∙ then_gave _ _ _ _ _ _ _ (c.in_ok-values.ensures.meant fits) ∙ known_none _ _ _ _ _ (HomeLaws.no_other (scope c.args.context.now c.args.names.now) c.args.literal.now _ c.principal_of-principal.ensures (sym c.same.ensures ∙ c.if-same.true))
+across::evaluate_contract_call-returns-then-same-clause-meant g t c fits = ap (watched _ _ _) (Forms.contract_call_at _ _ _ _ _ _ _) ∙ then_gave _ _ _ _ _ _ _ _ _ (c.in_ok-values.ensures.meant fits) ∙ known_none _ _ _ _ _ _ (HomeLaws.no_other (scope c.args.context.now c.args.names.now) c.args.literal.now _ c.principal_of-principal.ensures (sym c.same.ensures ∙ c.if-same.true))
 
 pub across::evaluate_contract_call-returns-in-Some-clause-meant : goal.across::evaluate_contract_call-returns-in-Some-clause-meant
-across::evaluate_contract_call-returns-in-Some-clause-meant t c fits =
-    ends_so _ _ _ _ _ (ap (limited _ _) (Forms.contract_call_at _ _ _ _ _ _ _) ∙ then_gave _ _ _ _ _ _ _ (c.in_ok-values.ensures.meant fits) ∙ known_some _ _ _ _ _ _ (HomeLaws.another (scope c.args.context.now c.args.names.now) c.args.literal.now _ _ c.principal_of-principal.ensures (sym c.same.ensures ∙ c.if-same.false) (sym (c.contract_there.ensures.found fits.all) ∙ ap (option_map home_seen) c.in-Some.is))) (c.enter_there.ensures.meant c.args.names.now.values fits (HomeLaws.is_at _ _ _ (sym (c.contract_there.ensures.found fits.all) ∙ ap (option_map home_seen) c.in-Some.is) (HomeLaws.one_indexed _ _ c.in-Some.is (c.contract_there.ensures.indexed fits.all fits.opened))))
+across::evaluate_contract_call-returns-in-Some-clause-meant g t c fits =
+    ends_so _ _ _ _ _ _ (ap (watched _ _ _) (Forms.contract_call_at _ _ _ _ _ _ _) ∙ then_gave _ _ _ _ _ _ _ _ _ (c.in_ok-values.ensures.meant fits) ∙ known_some _ _ _ _ _ _ _ (HomeLaws.another (scope c.args.context.now c.args.names.now) c.args.literal.now _ _ c.principal_of-principal.ensures (sym c.same.ensures ∙ c.if-same.false) (sym (c.contract_there.ensures.found fits.all) ∙ ap (option_map home_seen) c.in-Some.is))) (c.enter_there.ensures.meant c.args.names.now.values fits (HomeLaws.is_at _ _ _ (sym (c.contract_there.ensures.found fits.all) ∙ ap (option_map home_seen) c.in-Some.is) (HomeLaws.one_indexed _ _ c.in-Some.is (c.contract_there.ensures.indexed fits.all fits.opened))))
 
 pub across::evaluate_contract_call-returns-in-None-clause-meant : goal.across::evaluate_contract_call-returns-in-None-clause-meant
-across::evaluate_contract_call-returns-in-None-clause-meant t c fits =
-    ap (limited _ _) (Forms.contract_call_at _ _ _ _ _ _ _) ∙ then_gave _ _ _ _ _ _ _ (c.in_ok-values.ensures.meant fits) ∙ known_none _ _ _ _ _ (HomeLaws.another (scope c.args.context.now c.args.names.now) c.args.literal.now _ _ c.principal_of-principal.ensures (sym c.same.ensures ∙ c.if-same.false) (sym (c.contract_there.ensures.found fits.all) ∙ ap (option_map home_seen) c.in-None.is))
+across::evaluate_contract_call-returns-in-None-clause-meant g t c fits =
+    ap (watched _ _ _) (Forms.contract_call_at _ _ _ _ _ _ _) ∙ then_gave _ _ _ _ _ _ _ _ _ (c.in_ok-values.ensures.meant fits) ∙ known_none _ _ _ _ _ _ (HomeLaws.another (scope c.args.context.now c.args.names.now) c.args.literal.now _ _ c.principal_of-principal.ensures (sym c.same.ensures ∙ c.if-same.false) (sym (c.contract_there.ensures.found fits.all) ∙ ap (option_map home_seen) c.in-None.is))
 
 pub across::enter_there-returns-in_err-pay-clause-meant : goal.across::enter_there-returns-in_err-pay-clause-meant
-across::enter_there-returns-in_err-pay-clause-meant t c bound fits at =
-    Steps.pay_fails_at _ _ c.in_err-pay.field-0.0 _ _ _ _ _ _ _ _ (err_from_is_err_and c.from_residual.result c.from_residual.ensures.1) c.from-length.ensures refl c.in_err-pay.ensures
+across::enter_there-returns-in_err-pay-clause-meant g t c bound fits at = pay_fails_at _ _ c.in_err-pay.field-0.0 _ _ _ _ _ _ _ _ _ (err_from_is_err_and c.from_residual.result c.from_residual.ensures.1) c.from-length.ensures refl c.in_err-pay.ensures
 
 pub across::enter_there-returns-in-Some-clause-meant : goal.across::enter_there-returns-in-Some-clause-meant
-across::enter_there-returns-in-Some-clause-meant t c bound fits at =
-    ends_so _ _ _ _ _ (Steps.charge_spent _ _ _ _ _ _ _ c.from-length.ensures c.in_ok-pay.ensures ∙ known_some _ _ _ _ _ _ (sym (c.callable.ensures at.indexed) ∙ ap (option_map (λ f. function_seen f.now)) c.in-Some.is) ∙ ap (λ F. limited (costs_of c.args.context.now) c.pay.new.meter (applied c.args.below (in_frame F (scope_of c.args.context.now bound)) (OwnFunction (function_seen c.in-Some.function.now)) c.args.values.items c.args.world.now.stack.top)) (sym c.called-frame.ensures)) (c.enter.ensures.meant bound (HomeLaws.fits_there c.args.context.now c.args.home.now _ (ap (λ (F : Frame). F.contract) c.called-frame.ensures) at fits))
+across::enter_there-returns-in-Some-clause-meant g t c bound fits at =
+    ends_so _ _ _ _ _ _ (charge_spent _ _ _ _ _ _ _ _ c.from-length.ensures c.in_ok-pay.ensures ∙ known_some _ _ _ _ _ _ _ (sym (c.callable.ensures at.indexed) ∙ ap (option_map (λ f. function_seen f.now)) c.in-Some.is) ∙ ap (λ F. watched (costs_of c.args.context.now) c.pay.new.meter (g.W.Watch.seen c.args.watch.now) (applied c.args.below (in_frame F (scope_of c.args.context.now bound)) (OwnFunction (function_seen c.in-Some.function.now)) c.args.values.items c.args.world.now.stack.top)) (sym c.called-frame.ensures)) (c.enter.ensures.meant bound (HomeLaws.fits_there c.args.context.now c.args.home.now _ (ap (λ (F : Frame). F.contract) c.called-frame.ensures) at fits))
 
 pub across::enter_there-returns-in-None-clause-meant : goal.across::enter_there-returns-in-None-clause-meant
-across::enter_there-returns-in-None-clause-meant t c bound fits at =
-    Steps.charge_spent _ _ _ _ _ _ _ c.from-length.ensures c.in_ok-pay.ensures ∙ known_none _ _ _ _ _ (sym (c.callable.ensures at.indexed) ∙ ap (option_map (λ f. function_seen f.now)) c.in-None.is)
+across::enter_there-returns-in-None-clause-meant g t c bound fits at = charge_spent _ _ _ _ _ _ _ _ c.from-length.ensures c.in_ok-pay.ensures ∙ known_none _ _ _ _ _ _ (sym (c.callable.ensures at.indexed) ∙ ap (option_map (λ f. function_seen f.now)) c.in-None.is)
 
 pub evaluate::evaluate_node-named-requires : goal.evaluate::evaluate_node-named-requires
-evaluate::evaluate_node-named-requires t c =
-    Nodes.no_keyword _ _ c.code.invariant.named c.in-Bound.is
+evaluate::evaluate_node-named-requires g t c = Nodes.no_keyword _ _ c.code.invariant.named c.in-Bound.is
 
 pub evaluate::evaluate_node-named-requires-in-Constant : goal.evaluate::evaluate_node-named-requires-in-Constant
-evaluate::evaluate_node-named-requires-in-Constant t c =
-    Nodes.no_keyword_constant _ _ c.code.invariant.named c.in-Constant.is
+evaluate::evaluate_node-named-requires-in-Constant g t c = Nodes.no_keyword_constant _ _ c.code.invariant.named c.in-Constant.is
 
 pub evaluate::evaluate_node-returns-in-Tuple-clause-meant : goal.evaluate::evaluate_node-returns-in-Tuple-clause-meant
-evaluate::evaluate_node-returns-in-Tuple-clause-meant t c fits =
-    ends_so _ _ _ _ _ (ap (limited _ _) (node_is _ _ _ _ _ _ _ _ _ _ _ c.code.view_is c.code.invariant.named c.in-Tuple.is c.as_slice-parts.ensures.value) ∙ TupleLaws.keys_are _ _ _ _ _ _ _ _ c.deref-in-Tuple.ensures.value) (c.evaluate_tuple.ensures.meant fits)
+evaluate::evaluate_node-returns-in-Tuple-clause-meant g t c fits = ends_so _ _ _ _ _ _ (ap (watched _ _ _) (node_is _ _ _ _ _ _ _ _ _ _ _ c.code.view_is c.code.invariant.named c.in-Tuple.is c.as_slice-parts.ensures.value) ∙ TupleLaws.keys_are _ _ _ _ _ _ _ _ _ c.deref-in-Tuple.ensures.value) (c.evaluate_tuple.ensures.meant fits)
 
 pub evaluate::evaluate_node-returns-in-TupleOf-clause-meant : goal.evaluate::evaluate_node-returns-in-TupleOf-clause-meant
-evaluate::evaluate_node-returns-in-TupleOf-clause-meant t c fits =
-    ends_so _ _ _ _ _ (ap (limited _ _) (node_is _ _ _ _ _ _ _ _ _ _ _ c.code.view_is c.code.invariant.named c.in-TupleOf.is c.as_slice-parts.ensures.value) ∙ TupleLaws.pairs_are _ _ _ _ _ _ _ _ c.deref-in-TupleOf.ensures.value) (c.evaluate_tuple_of.ensures.meant fits)
+evaluate::evaluate_node-returns-in-TupleOf-clause-meant g t c fits = ends_so _ _ _ _ _ _ (ap (watched _ _ _) (node_is _ _ _ _ _ _ _ _ _ _ _ c.code.view_is c.code.invariant.named c.in-TupleOf.is c.as_slice-parts.ensures.value) ∙ TupleLaws.pairs_are _ _ _ _ _ _ _ _ _ c.deref-in-TupleOf.ensures.value) (c.evaluate_tuple_of.ensures.meant fits)
 
 pub evaluate::evaluate_node-evaluate_tuple-requires : goal.evaluate::evaluate_node-evaluate_tuple-requires
-evaluate::evaluate_node-evaluate_tuple-requires t c = (
+evaluate::evaluate_node-evaluate_tuple-requires g t c = λ κs alive. (
   omega (arith, c.decreases),
   (
-    omega (arith, c.code.invariant.few, ap (λ (l : List Typed). length l) c.as_slice-parts.ensures.value),
+    alive,
     (
-      Nodes.tuple_counts _ _ _ _ _ c.code.invariant.fit c.in-Tuple.is c.deref-in-Tuple.ensures.value c.as_slice-parts.ensures.value,
-      Nodes.own_keys _ _ _ c.code.invariant.named c.in-Tuple.is c.deref-in-Tuple.ensures.value,
+      omega (arith, c.code.invariant.few, ap (λ (l : List Typed). length l) c.as_slice-parts.ensures.value),
+      (
+        Nodes.tuple_counts _ _ _ _ _ c.code.invariant.fit c.in-Tuple.is c.deref-in-Tuple.ensures.value c.as_slice-parts.ensures.value,
+        Nodes.own_keys _ _ _ c.code.invariant.named c.in-Tuple.is c.deref-in-Tuple.ensures.value,
+      ),
     ),
   ),
 )
 
 pub evaluate::evaluate_node-evaluate_tuple_of-requires : goal.evaluate::evaluate_node-evaluate_tuple_of-requires
-evaluate::evaluate_node-evaluate_tuple_of-requires t c = (
+evaluate::evaluate_node-evaluate_tuple_of-requires g t c = λ κs alive. (
   omega (arith, c.decreases),
   (
-    omega (arith, c.code.invariant.few, ap (λ (l : List Typed). length l) c.as_slice-parts.ensures.value),
+    alive,
     (
-      Nodes.pair_counts _ _ _ _ _ _ c.code.invariant.fit c.in-TupleOf.is c.deref-in-TupleOf.ensures.value c.as_slice-parts.ensures.value,
-      Nodes.own_keys_of _ _ _ _ c.code.invariant.named c.in-TupleOf.is c.deref-in-TupleOf.ensures.value,
+      omega (arith, c.code.invariant.few, ap (λ (l : List Typed). length l) c.as_slice-parts.ensures.value),
+      (
+        Nodes.pair_counts _ _ _ _ _ _ c.code.invariant.fit c.in-TupleOf.is c.deref-in-TupleOf.ensures.value c.as_slice-parts.ensures.value,
+        Nodes.own_keys_of _ _ _ _ c.code.invariant.named c.in-TupleOf.is c.deref-in-TupleOf.ensures.value,
+      ),
     ),
   ),
 )
 
 pub tuples::evaluate_tuple-returns-then-codes-eq0-clause-meant : goal.tuples::evaluate_tuple-returns-then-codes-eq0-clause-meant
-tuples::evaluate_tuple-returns-then-codes-eq0-clause-meant t c fits =
+tuples::evaluate_tuple-returns-then-codes-eq0-clause-meant g t c fits =
     let none : length c.args.codes.now ≡ 0 = omega (arith, c.if-codes-eq0.true) in
-    TupleLaws.no_tuple _ _ _ _ _ _ _ none
+    TupleLaws.no_tuple _ _ _ _ _ _ _ _ none
 
 pub tuples::evaluate_tuple-returns-in_err-values-clause-meant : goal.tuples::evaluate_tuple-returns-in_err-values-clause-meant
-tuples::evaluate_tuple-returns-in_err-values-clause-meant t c fits =
+tuples::evaluate_tuple-returns-in_err-values-clause-meant g t c fits =
     let some : length c.args.codes.now ≢ 0 = omega (arith, c.if-codes-eq0.false) in
-    part_fails _ _ c.in_err-values.field-0.0 _ _ _ _ _ _ (err_from_is_err_and c.from_residual.result c.from_residual.ensures.1) (ap (limited _ _) (TupleLaws.tuple_at _ _ _ _ _ some c.requires.fit)) (c.in_err-values.ensures.meant fits)
+    part_fails _ _ c.in_err-values.field-0.0 _ _ _ _ _ _ _ _ (err_from_is_err_and c.from_residual.result c.from_residual.ensures.1) (ap (watched _ _ _) (TupleLaws.tuple_at _ _ _ _ _ some c.requires.fit)) (c.in_err-values.ensures.meant fits)
 
 pub tuples::evaluate_tuple-returns-clause-meant : goal.tuples::evaluate_tuple-returns-clause-meant
-tuples::evaluate_tuple-returns-clause-meant t c fits =
+tuples::evaluate_tuple-returns-clause-meant g t c fits =
     let some : length c.args.codes.now ≢ 0 = omega (arith, c.if-codes-eq0.false) in
-    ends_so _ _ _ _ _ (ap (limited _ _) (TupleLaws.tuple_at _ _ _ _ _ some c.requires.fit) ∙ then_gave _ _ _ _ _ _ _ (c.in_ok-values.ensures.meant fits)) (c.make_tuple.ensures _)
+    ends_so _ _ _ _ _ _ (ap (watched _ _ _) (TupleLaws.tuple_at _ _ _ _ _ some c.requires.fit) ∙ then_gave _ _ _ _ _ _ _ _ _ (c.in_ok-values.ensures.meant fits)) (unseen_ends (costs_of c.args.context.now) c.evaluate_parts.new.meter _ _ _ _ c.evaluate_parts.new.world.stack.top (tuple_unseen c.args.keys.now c.in_ok-values.values.items c.evaluate_parts.new.world.stack.top _ _) (c.make_tuple.ensures c.evaluate_parts.new.world.stack.top))
 
 pub tuples::evaluate_tuple_of-returns-clause-meant : goal.tuples::evaluate_tuple_of-returns-clause-meant
-tuples::evaluate_tuple_of-returns-clause-meant t c fits =
-    ends_so _ _ _ _ _ (TupleLaws.bound_keys _ _ _ _ _ _ _ _ _ c.in_ok-keys.ensures c.deref.ensures.value) (c.evaluate_tuple.ensures.meant fits)
+tuples::evaluate_tuple_of-returns-clause-meant g t c fits = ends_so _ _ _ _ _ _ (TupleLaws.bound_keys _ _ _ _ _ _ _ _ _ _ c.in_ok-keys.ensures c.deref.ensures.value) (c.evaluate_tuple.ensures.meant fits)
 
 pub on_parts::evaluate_on_parts-returns-in-StxBalance-clause-meant : goal.on_parts::evaluate_on_parts-returns-in-StxBalance-clause-meant
-on_parts::evaluate_on_parts-returns-in-StxBalance-clause-meant t c fits =
-    ends_so _ _ _ _ _ (ap (limited _ _) (Heads.parts_at _ _ _ _ _ _ _ _ c.in-StxBalance.is)) (c.evaluate_stx.ensures.meant fits)
+on_parts::evaluate_on_parts-returns-in-StxBalance-clause-meant g t c fits = ends_so _ _ _ _ _ _ (ap (watched _ _ _) (Heads.parts_at _ _ _ _ _ _ _ _ c.in-StxBalance.is)) (c.evaluate_stx.ensures.meant fits)
 
 pub on_parts::evaluate_on_parts-returns-in-SendStx-clause-meant : goal.on_parts::evaluate_on_parts-returns-in-SendStx-clause-meant
-on_parts::evaluate_on_parts-returns-in-SendStx-clause-meant t c fits =
-    ends_so _ _ _ _ _ (ap (limited _ _) (Heads.parts_at _ _ _ _ _ _ _ _ c.in-SendStx.is)) (c.evaluate_send_stx.ensures.meant fits)
+on_parts::evaluate_on_parts-returns-in-SendStx-clause-meant g t c fits = ends_so _ _ _ _ _ _ (ap (watched _ _ _) (Heads.parts_at _ _ _ _ _ _ _ _ c.in-SendStx.is)) (c.evaluate_send_stx.ensures.meant fits)
 
 pub on_parts::evaluate_on_parts-returns-in-BurnStx-clause-meant : goal.on_parts::evaluate_on_parts-returns-in-BurnStx-clause-meant
-on_parts::evaluate_on_parts-returns-in-BurnStx-clause-meant t c fits =
-    ends_so _ _ _ _ _ (ap (limited _ _) (Heads.parts_at _ _ _ _ _ _ _ _ c.in-BurnStx.is)) (c.evaluate_burn_stx.ensures.meant fits)
+on_parts::evaluate_on_parts-returns-in-BurnStx-clause-meant g t c fits = ends_so _ _ _ _ _ _ (ap (watched _ _ _) (Heads.parts_at _ _ _ _ _ _ _ _ c.in-BurnStx.is)) (c.evaluate_burn_stx.ensures.meant fits)
 
 pub stx::evaluate_stx-returns-in_err-value-clause-meant : goal.stx::evaluate_stx-returns-in_err-value-clause-meant
-stx::evaluate_stx-returns-in_err-value-clause-meant t c fits =
-    part_fails _ _ c.in_err-value.field-0.0 _ _ _ _ _ _ (err_from_is_err_and c.from_residual.result c.from_residual.ensures.1) (ap (limited _ _) (Forms.stx_at _ _ _ _ c.requires _ c.index-codes-0.is)) (c.in_err-value.ensures.meant fits)
+stx::evaluate_stx-returns-in_err-value-clause-meant g t c fits = part_fails _ _ c.in_err-value.field-0.0 _ _ _ _ _ _ _ _ (err_from_is_err_and c.from_residual.result c.from_residual.ensures.1) (ap (watched _ _ _) (Forms.stx_at _ _ _ _ c.requires _ c.index-codes-0.is)) (c.in_err-value.ensures.meant fits)
 
 pub stx::evaluate_stx-returns-clause-meant : goal.stx::evaluate_stx-returns-clause-meant
-stx::evaluate_stx-returns-clause-meant t c fits =
-    ends_so _ _ _ _ _ (ap (limited _ _) (Forms.stx_at _ _ _ _ c.requires _ c.index-codes-0.is) ∙ then_gave _ _ _ _ _ _ _ (c.in_ok-value.ensures.meant fits)) c.read_stx.ensures
+stx::evaluate_stx-returns-clause-meant g t c fits = ends_so _ _ _ _ _ _ (ap (watched _ _ _) (Forms.stx_at _ _ _ _ c.requires _ c.index-codes-0.is) ∙ then_gave _ _ _ _ _ _ _ _ _ (c.in_ok-value.ensures.meant fits)) (unseen_ends _ _ _ _ _ _ _ (stx_unseen _ _ _ _) c.read_stx.ensures)
 
 pub stx::evaluate_send_stx-returns-in_err-values-clause-meant : goal.stx::evaluate_send_stx-returns-in_err-values-clause-meant
-stx::evaluate_send_stx-returns-in_err-values-clause-meant t c fits =
-    part_fails _ _ c.in_err-values.field-0.0 _ _ _ _ _ _ (err_from_is_err_and c.from_residual.result c.from_residual.ensures.1) (ap (limited _ _) (Forms.send_stx_at _ _ _ _)) (c.in_err-values.ensures.meant fits)
+stx::evaluate_send_stx-returns-in_err-values-clause-meant g t c fits = part_fails _ _ c.in_err-values.field-0.0 _ _ _ _ _ _ _ _ (err_from_is_err_and c.from_residual.result c.from_residual.ensures.1) (ap (watched _ _ _) (Forms.send_stx_at _ _ _ _)) (c.in_err-values.ensures.meant fits)
 
 pub stx::evaluate_send_stx-returns-clause-meant : goal.stx::evaluate_send_stx-returns-clause-meant
-stx::evaluate_send_stx-returns-clause-meant t c fits =
-    ends_so _ _ _ _ _ (ap (limited _ _) (Forms.send_stx_at _ _ _ _) ∙ then_gave _ _ _ _ _ _ _ (c.in_ok-values.ensures.meant fits)) c.transfer_stx.ensures.meant
+stx::evaluate_send_stx-returns-clause-meant g t c fits = ends_so _ _ _ _ _ _ (ap (watched _ _ _) (Forms.send_stx_at _ _ _ _) ∙ then_gave _ _ _ _ _ _ _ _ _ (c.in_ok-values.ensures.meant fits)) (unseen_ends _ _ _ _ _ _ _ (token_unseen natives.SendStx (scope c.args.context.now c.args.names.now) [] _ _ _ _) c.transfer_stx.ensures.meant)
 
 pub stx::evaluate_burn_stx-returns-in_err-values-clause-meant : goal.stx::evaluate_burn_stx-returns-in_err-values-clause-meant
-stx::evaluate_burn_stx-returns-in_err-values-clause-meant t c fits =
-    part_fails _ _ c.in_err-values.field-0.0 _ _ _ _ _ _ (err_from_is_err_and c.from_residual.result c.from_residual.ensures.1) (ap (limited _ _) (Forms.burn_stx_at _ _ _ _)) (c.in_err-values.ensures.meant fits)
+stx::evaluate_burn_stx-returns-in_err-values-clause-meant g t c fits = part_fails _ _ c.in_err-values.field-0.0 _ _ _ _ _ _ _ _ (err_from_is_err_and c.from_residual.result c.from_residual.ensures.1) (ap (watched _ _ _) (Forms.burn_stx_at _ _ _ _)) (c.in_err-values.ensures.meant fits)
 
 pub stx::evaluate_burn_stx-returns-clause-meant : goal.stx::evaluate_burn_stx-returns-clause-meant
-stx::evaluate_burn_stx-returns-clause-meant t c fits =
-    ends_so _ _ _ _ _ (ap (limited _ _) (Forms.burn_stx_at _ _ _ _) ∙ then_gave _ _ _ _ _ _ _ (c.in_ok-values.ensures.meant fits)) c.destroy_stx.ensures.meant
+stx::evaluate_burn_stx-returns-clause-meant g t c fits = ends_so _ _ _ _ _ _ (ap (watched _ _ _) (Forms.burn_stx_at _ _ _ _) ∙ then_gave _ _ _ _ _ _ _ _ _ (c.in_ok-values.ensures.meant fits)) (unseen_ends _ _ _ _ _ _ _ (token_unseen natives.BurnStx (scope c.args.context.now c.args.names.now) [] _ _ _ _) c.destroy_stx.ensures.meant)
 
 pub iterate::evaluate_iteration-returns-in-Map-clause-meant : goal.iterate::evaluate_iteration-returns-in-Map-clause-meant
-iterate::evaluate_iteration-returns-in-Map-clause-meant t c fits =
-    ends_so _ _ _ _ _ (ap (limited _ _) (IterateLaws.iteration_at _ _ _ _ _ _ _ _ c.in-Map.is ∙ IterateLaws.map_head _ _ _ _ _ _)) (c.evaluate_map.ensures.meant fits)
+iterate::evaluate_iteration-returns-in-Map-clause-meant g t c fits = ends_so _ _ _ _ _ _ (ap (watched _ _ _) (IterateLaws.iteration_at _ _ _ _ _ _ _ _ c.in-Map.is ∙ IterateLaws.map_head _ _ _ _ _ _)) (c.evaluate_map.ensures.meant fits)
 
 pub iterate::evaluate_iteration-returns-in-Filter-clause-meant : goal.iterate::evaluate_iteration-returns-in-Filter-clause-meant
-iterate::evaluate_iteration-returns-in-Filter-clause-meant t c fits =
-    ends_so _ _ _ _ _ (ap (limited _ _) (IterateLaws.iteration_at _ _ _ _ _ _ _ _ c.in-Filter.is ∙ IterateLaws.filter_head _ _ _ _ _ _)) (c.evaluate_filter.ensures.meant fits)
+iterate::evaluate_iteration-returns-in-Filter-clause-meant g t c fits = ends_so _ _ _ _ _ _ (ap (watched _ _ _) (IterateLaws.iteration_at _ _ _ _ _ _ _ _ c.in-Filter.is ∙ IterateLaws.filter_head _ _ _ _ _ _)) (c.evaluate_filter.ensures.meant fits)
 
 pub iterate::evaluate_iteration-returns-in-Fold-clause-meant : goal.iterate::evaluate_iteration-returns-in-Fold-clause-meant
-iterate::evaluate_iteration-returns-in-Fold-clause-meant t c fits =
-    ends_so _ _ _ _ _ (ap (limited _ _) (IterateLaws.iteration_at _ _ _ _ _ _ _ _ c.in-Fold.is ∙ IterateLaws.fold_head _ _ _ _ _ _)) (c.evaluate_fold.ensures.meant fits)
+iterate::evaluate_iteration-returns-in-Fold-clause-meant g t c fits = ends_so _ _ _ _ _ _ (ap (watched _ _ _) (IterateLaws.iteration_at _ _ _ _ _ _ _ _ c.in-Fold.is ∙ IterateLaws.fold_head _ _ _ _ _ _)) (c.evaluate_fold.ensures.meant fits)
 
 pub evaluate::evaluate_node-returns-in-Iterate-clause-meant : goal.evaluate::evaluate_node-returns-in-Iterate-clause-meant
-evaluate::evaluate_node-returns-in-Iterate-clause-meant t c fits =
-    ends_so _ _ _ _ _ (ap (limited _ _) (node_is _ _ _ _ _ _ _ _ _ _ _ c.code.view_is c.code.invariant.named c.in-Iterate.is c.as_slice-parts.ensures.value)) (c.evaluate_iteration.ensures.meant fits)
+evaluate::evaluate_node-returns-in-Iterate-clause-meant g t c fits = ends_so _ _ _ _ _ _ (ap (watched _ _ _) (node_is _ _ _ _ _ _ _ _ _ _ _ c.code.view_is c.code.invariant.named c.in-Iterate.is c.as_slice-parts.ensures.value)) (c.evaluate_iteration.ensures.meant fits)
 
 pub iterate::evaluate_fold-returns-in_err-sequence-clause-meant : goal.iterate::evaluate_fold-returns-in_err-sequence-clause-meant
-iterate::evaluate_fold-returns-in_err-sequence-clause-meant t c fits =
-    part_fails _ _ c.in_err-sequence.field-0.0 _ _ _ _ _ _ (err_from_is_err_and c.from_residual.result c.from_residual.ensures.1) (ap (limited _ _) (IterateLaws.fold_at _ _ _ _ _ _ c.requires.fit _ c.index-codes-0.is _ c.index-codes-1.is)) (c.in_err-sequence.ensures.meant fits)
+iterate::evaluate_fold-returns-in_err-sequence-clause-meant g t c fits = part_fails _ _ c.in_err-sequence.field-0.0 _ _ _ _ _ _ _ _ (err_from_is_err_and c.from_residual.result c.from_residual.ensures.1) (ap (watched _ _ _) (IterateLaws.fold_at _ _ _ _ _ _ c.requires.fit _ c.index-codes-0.is _ c.index-codes-1.is)) (c.in_err-sequence.ensures.meant fits)
 
 pub iterate::evaluate_fold-returns-in_err-start-clause-meant : goal.iterate::evaluate_fold-returns-in_err-start-clause-meant
-iterate::evaluate_fold-returns-in_err-start-clause-meant t c fits =
-    part_fails _ _ c.in_err-start.field-0.0 _ _ _ _ _ _ (err_from_is_err_and c.from_residual-in_err-start.result c.from_residual-in_err-start.ensures.1) (ap (limited _ _) (IterateLaws.fold_at _ _ _ _ _ _ c.requires.fit _ c.index-codes-0.is _ c.index-codes-1.is) ∙ then_gave _ _ _ _ _ _ _ (c.in_ok-sequence.ensures.meant fits)) (c.in_err-start.ensures.meant fits)
+iterate::evaluate_fold-returns-in_err-start-clause-meant g t c fits =
+    part_fails _ _ c.in_err-start.field-0.0 _ _ _ _ _ _ _ _ (err_from_is_err_and c.from_residual-in_err-start.result c.from_residual-in_err-start.ensures.1) (ap (watched _ _ _) (IterateLaws.fold_at _ _ _ _ _ _ c.requires.fit _ c.index-codes-0.is _ c.index-codes-1.is) ∙ then_gave _ _ _ _ _ _ _ _ _ (c.in_ok-sequence.ensures.meant fits)) (c.in_err-start.ensures.meant fits)
 
 pub iterate::evaluate_fold-returns-in_err-pay-clause-meant : goal.iterate::evaluate_fold-returns-in_err-pay-clause-meant
-iterate::evaluate_fold-returns-in_err-pay-clause-meant t c fits =
-    Steps.pay_fails_at _ _ c.in_err-pay.field-0.0 _ _ _ _ _ _ _ _ (err_from_is_err_and c.from_residual-in_err-pay.result c.from_residual-in_err-pay.ensures.1) (omega arith) (ap (limited _ _) (IterateLaws.fold_at _ _ _ _ _ _ c.requires.fit _ c.index-codes-0.is _ c.index-codes-1.is) ∙ then_gave _ _ _ _ _ _ _ (c.in_ok-sequence.ensures.meant fits) ∙ then_gave _ _ _ _ _ _ _ (c.in_ok-start.ensures.meant fits)) c.in_err-pay.ensures
+iterate::evaluate_fold-returns-in_err-pay-clause-meant g t c fits =
+    pay_fails_at _ _ c.in_err-pay.field-0.0 _ _ _ _ _ _ _ _ _ (err_from_is_err_and c.from_residual-in_err-pay.result c.from_residual-in_err-pay.ensures.1) (omega arith) (ap (watched _ _ _) (IterateLaws.fold_at _ _ _ _ _ _ c.requires.fit _ c.index-codes-0.is _ c.index-codes-1.is) ∙ then_gave _ _ _ _ _ _ _ _ _ (c.in_ok-sequence.ensures.meant fits) ∙ then_gave _ _ _ _ _ _ _ _ _ (c.in_ok-start.ensures.meant fits)) c.in_err-pay.ensures
 
 pub iterate::evaluate_fold-returns-in-Some-clause-meant : goal.iterate::evaluate_fold-returns-in-Some-clause-meant
-iterate::evaluate_fold-returns-in-Some-clause-meant t c fits =
-    ends_so _ _ _ _ _ (ap (limited _ _) (IterateLaws.fold_at _ _ _ _ _ _ c.requires.fit _ c.index-codes-0.is _ c.index-codes-1.is) ∙ then_gave _ _ _ _ _ _ _ (c.in_ok-sequence.ensures.meant fits) ∙ then_gave _ _ _ _ _ _ _ (c.in_ok-start.ensures.meant fits) ∙ Steps.charge_spent _ _ _ _ _ _ _ (omega arith) c.in_ok-pay.ensures ∙ known_some _ _ _ _ _ _ (sym (c.callee_named.ensures c.args.names.now.values fits) ∙ ap (option_map (λ f. callee_seen f)) c.in-Some.is)) (c.fold.ensures.meant _ fits)
+iterate::evaluate_fold-returns-in-Some-clause-meant g t c fits =
+    ends_so _ _ _ _ _ _ (ap (watched _ _ _) (IterateLaws.fold_at _ _ _ _ _ _ c.requires.fit _ c.index-codes-0.is _ c.index-codes-1.is) ∙ then_gave _ _ _ _ _ _ _ _ _ (c.in_ok-sequence.ensures.meant fits) ∙ then_gave _ _ _ _ _ _ _ _ _ (c.in_ok-start.ensures.meant fits) ∙ charge_spent _ _ _ _ _ _ _ _ (omega arith) c.in_ok-pay.ensures ∙ known_some _ _ _ _ _ _ _ (sym (c.callee_named.ensures c.args.names.now.values fits) ∙ ap (option_map (λ f. callee_seen f)) c.in-Some.is)) (c.fold.ensures.meant _ fits)
 
 pub iterate::evaluate_fold-returns-clause-meant : goal.iterate::evaluate_fold-returns-clause-meant
-iterate::evaluate_fold-returns-clause-meant t c fits =
-    ap (limited _ _) (IterateLaws.fold_at _ _ _ _ _ _ c.requires.fit _ c.index-codes-0.is _ c.index-codes-1.is) ∙ then_gave _ _ _ _ _ _ _ (c.in_ok-sequence.ensures.meant fits) ∙ then_gave _ _ _ _ _ _ _ (c.in_ok-start.ensures.meant fits) ∙ Steps.charge_spent _ _ _ _ _ _ _ (omega arith) c.in_ok-pay.ensures ∙ known_none _ _ _ _ _ (sym (c.callee_named.ensures c.args.names.now.values fits) ∙ ap (option_map (λ f. callee_seen f)) c.in-None.is)
+iterate::evaluate_fold-returns-clause-meant g t c fits =
+    ap (watched _ _ _) (IterateLaws.fold_at _ _ _ _ _ _ c.requires.fit _ c.index-codes-0.is _ c.index-codes-1.is) ∙ then_gave _ _ _ _ _ _ _ _ _ (c.in_ok-sequence.ensures.meant fits) ∙ then_gave _ _ _ _ _ _ _ _ _ (c.in_ok-start.ensures.meant fits) ∙ charge_spent _ _ _ _ _ _ _ _ (omega arith) c.in_ok-pay.ensures ∙ known_none _ _ _ _ _ _ (sym (c.callee_named.ensures c.args.names.now.values fits) ∙ ap (option_map (λ f. callee_seen f)) c.in-None.is)
 
 pub iterate::evaluate_map-returns-in_err-values-clause-meant : goal.iterate::evaluate_map-returns-in_err-values-clause-meant
-iterate::evaluate_map-returns-in_err-values-clause-meant t c fits =
-    part_fails _ _ c.in_err-values.field-0.0 _ _ _ _ _ _ (err_from_is_err_and c.from_residual.result c.from_residual.ensures.1) (ap (limited _ _) (IterateLaws.map_at _ _ _ _ _ _)) (c.in_err-values.ensures.meant fits)
+iterate::evaluate_map-returns-in_err-values-clause-meant g t c fits = part_fails _ _ c.in_err-values.field-0.0 _ _ _ _ _ _ _ _ (err_from_is_err_and c.from_residual.result c.from_residual.ensures.1) (ap (watched _ _ _) (IterateLaws.map_at _ _ _ _ _ _)) (c.in_err-values.ensures.meant fits)
 
 pub iterate::evaluate_map-returns-in_err-pay_for_all-clause-meant : goal.iterate::evaluate_map-returns-in_err-pay_for_all-clause-meant
-iterate::evaluate_map-returns-in_err-pay_for_all-clause-meant t c fits =
-    Steps.pay_fails_at _ _ c.in_err-pay_for_all.field-0.0 _ _ _ _ _ _ _ _ (err_from_is_err_and c.from_residual-in_err-pay_for_all.result c.from_residual-in_err-pay_for_all.ensures.1) (ap sizes c.deref.ensures.value) (ap (limited _ _) (IterateLaws.map_at _ _ _ _ _ _) ∙ then_gave _ _ _ _ _ _ _ (c.in_ok-values.ensures.meant fits)) c.in_err-pay_for_all.ensures
+iterate::evaluate_map-returns-in_err-pay_for_all-clause-meant g t c fits =
+    pay_fails_at _ _ c.in_err-pay_for_all.field-0.0 _ _ _ _ _ _ _ _ _ (err_from_is_err_and c.from_residual-in_err-pay_for_all.result c.from_residual-in_err-pay_for_all.ensures.1) (ap sizes c.deref.ensures.value) (ap (watched _ _ _) (IterateLaws.map_at _ _ _ _ _ _) ∙ then_gave _ _ _ _ _ _ _ _ _ (c.in_ok-values.ensures.meant fits)) c.in_err-pay_for_all.ensures
 
 pub iterate::evaluate_map-returns-in-Some-clause-meant : goal.iterate::evaluate_map-returns-in-Some-clause-meant
-iterate::evaluate_map-returns-in-Some-clause-meant t c fits =
-    ends_so _ _ _ _ _ (ap (limited _ _) (IterateLaws.map_at _ _ _ _ _ _) ∙ then_gave _ _ _ _ _ _ _ (c.in_ok-values.ensures.meant fits) ∙ Steps.charge_spent _ _ _ _ _ _ _ (ap sizes c.deref.ensures.value) c.in_ok-pay_for_all.ensures ∙ known_some _ _ _ _ _ _ (sym (c.callee_named.ensures c.args.names.now.values fits) ∙ ap (option_map (λ f. callee_seen f)) c.in-Some.is) ∙ Iterating.mapped_as (costs_of c.args.context.now) _ (applied c.args.below) (scope c.args.context.now c.args.names.now) _ c.in_ok-values.values.items (callee_seen c.in-Some.callee) _ c.deref-in-Some.ensures.value) (c.map_rows.ensures.meant _ fits)
+iterate::evaluate_map-returns-in-Some-clause-meant g t c fits =
+    ends_so _ _ _ _ _ _ (ap (watched _ _ _) (IterateLaws.map_at _ _ _ _ _ _) ∙ then_gave _ _ _ _ _ _ _ _ _ (c.in_ok-values.ensures.meant fits) ∙ charge_spent _ _ _ _ _ _ _ _ (ap sizes c.deref.ensures.value) c.in_ok-pay_for_all.ensures ∙ known_some _ _ _ _ _ _ _ (sym (c.callee_named.ensures c.args.names.now.values fits) ∙ ap (option_map (λ f. callee_seen f)) c.in-Some.is) ∙ Iterating.mapped_as (costs_of c.args.context.now) _ _ (applied c.args.below) (scope c.args.context.now c.args.names.now) _ c.in_ok-values.values.items (callee_seen c.in-Some.callee) _ c.deref-in-Some.ensures.value) (c.map_rows.ensures.meant _ fits)
 
 pub iterate::evaluate_map-returns-clause-meant : goal.iterate::evaluate_map-returns-clause-meant
-iterate::evaluate_map-returns-clause-meant t c fits =
-    ap (limited _ _) (IterateLaws.map_at _ _ _ _ _ _) ∙ then_gave _ _ _ _ _ _ _ (c.in_ok-values.ensures.meant fits) ∙ Steps.charge_spent _ _ _ _ _ _ _ (ap sizes c.deref.ensures.value) c.in_ok-pay_for_all.ensures ∙ known_none _ _ _ _ _ (sym (c.callee_named.ensures c.args.names.now.values fits) ∙ ap (option_map (λ f. callee_seen f)) c.in-None.is)
+iterate::evaluate_map-returns-clause-meant g t c fits =
+    ap (watched _ _ _) (IterateLaws.map_at _ _ _ _ _ _) ∙ then_gave _ _ _ _ _ _ _ _ _ (c.in_ok-values.ensures.meant fits) ∙ charge_spent _ _ _ _ _ _ _ _ (ap sizes c.deref.ensures.value) c.in_ok-pay_for_all.ensures ∙ known_none _ _ _ _ _ _ (sym (c.callee_named.ensures c.args.names.now.values fits) ∙ ap (option_map (λ f. callee_seen f)) c.in-None.is)
 
 pub iterate::evaluate_filter-returns-in_err-sequence-clause-meant : goal.iterate::evaluate_filter-returns-in_err-sequence-clause-meant
-iterate::evaluate_filter-returns-in_err-sequence-clause-meant t c fits =
-    part_fails _ _ c.in_err-sequence.field-0.0 _ _ _ _ _ _ (err_from_is_err_and c.from_residual.result c.from_residual.ensures.1) (ap (limited _ _) (IterateLaws.filter_at _ _ _ _ _ _ c.requires.fit _ c.index-codes-0.is)) (c.in_err-sequence.ensures.meant fits)
+iterate::evaluate_filter-returns-in_err-sequence-clause-meant g t c fits = part_fails _ _ c.in_err-sequence.field-0.0 _ _ _ _ _ _ _ _ (err_from_is_err_and c.from_residual.result c.from_residual.ensures.1) (ap (watched _ _ _) (IterateLaws.filter_at _ _ _ _ _ _ c.requires.fit _ c.index-codes-0.is)) (c.in_err-sequence.ensures.meant fits)
 
 pub iterate::evaluate_filter-returns-in_err-pay_for-clause-meant : goal.iterate::evaluate_filter-returns-in_err-pay_for-clause-meant
-iterate::evaluate_filter-returns-in_err-pay_for-clause-meant t c fits =
-    pay_fails _ _ c.in_err-pay_for.field-0.0 _ _ _ _ _ _ _ (err_from_is_err_and c.from_residual-in_err-pay_for.result c.from_residual-in_err-pay_for.ensures.1) (ap (limited _ _) (IterateLaws.filter_at _ _ _ _ _ _ c.requires.fit _ c.index-codes-0.is) ∙ then_gave _ _ _ _ _ _ _ (c.in_ok-sequence.ensures.meant fits)) c.in_err-pay_for.ensures
+iterate::evaluate_filter-returns-in_err-pay_for-clause-meant g t c fits =
+    pay_fails _ _ c.in_err-pay_for.field-0.0 _ _ _ _ _ _ _ _ (err_from_is_err_and c.from_residual-in_err-pay_for.result c.from_residual-in_err-pay_for.ensures.1) (ap (watched _ _ _) (IterateLaws.filter_at _ _ _ _ _ _ c.requires.fit _ c.index-codes-0.is) ∙ then_gave _ _ _ _ _ _ _ _ _ (c.in_ok-sequence.ensures.meant fits)) c.in_err-pay_for.ensures
 
 pub iterate::evaluate_filter-returns-in-Some-clause-meant : goal.iterate::evaluate_filter-returns-in-Some-clause-meant
-iterate::evaluate_filter-returns-in-Some-clause-meant t c fits =
-    ends_so _ _ _ _ _ (ap (limited _ _) (IterateLaws.filter_at _ _ _ _ _ _ c.requires.fit _ c.index-codes-0.is) ∙ then_gave _ _ _ _ _ _ _ (c.in_ok-sequence.ensures.meant fits) ∙ charge_within _ _ _ _ _ _ c.in_ok-pay_for.ensures ∙ known_some _ _ _ _ _ _ (sym (c.callee_named.ensures c.args.names.now.values fits) ∙ ap (option_map (λ f. callee_seen f)) c.in-Some.is)) (c.filter.ensures.meant _ fits)
+iterate::evaluate_filter-returns-in-Some-clause-meant g t c fits =
+    ends_so _ _ _ _ _ _ (ap (watched _ _ _) (IterateLaws.filter_at _ _ _ _ _ _ c.requires.fit _ c.index-codes-0.is) ∙ then_gave _ _ _ _ _ _ _ _ _ (c.in_ok-sequence.ensures.meant fits) ∙ charge_within _ _ _ _ _ _ _ c.in_ok-pay_for.ensures ∙ known_some _ _ _ _ _ _ _ (sym (c.callee_named.ensures c.args.names.now.values fits) ∙ ap (option_map (λ f. callee_seen f)) c.in-Some.is)) (c.filter.ensures.meant _ fits)
 
 pub iterate::evaluate_filter-returns-in-None-clause-meant : goal.iterate::evaluate_filter-returns-in-None-clause-meant
-iterate::evaluate_filter-returns-in-None-clause-meant t c fits =
-    ap (limited _ _) (IterateLaws.filter_at _ _ _ _ _ _ c.requires.fit _ c.index-codes-0.is) ∙ then_gave _ _ _ _ _ _ _ (c.in_ok-sequence.ensures.meant fits) ∙ charge_within _ _ _ _ _ _ c.in_ok-pay_for.ensures ∙ known_none _ _ _ _ _ (sym (c.callee_named.ensures c.args.names.now.values fits) ∙ ap (option_map (λ f. callee_seen f)) c.in-None.is)
+iterate::evaluate_filter-returns-in-None-clause-meant g t c fits =
+    ap (watched _ _ _) (IterateLaws.filter_at _ _ _ _ _ _ c.requires.fit _ c.index-codes-0.is) ∙ then_gave _ _ _ _ _ _ _ _ _ (c.in_ok-sequence.ensures.meant fits) ∙ charge_within _ _ _ _ _ _ _ c.in_ok-pay_for.ensures ∙ known_none _ _ _ _ _ _ (sym (c.callee_named.ensures c.args.names.now.values fits) ∙ ap (option_map (λ f. callee_seen f)) c.in-None.is)
 
 pub iterate::apply-returns-in-Function-clause-meant : goal.iterate::apply-returns-in-Function-clause-meant
-iterate::apply-returns-in-Function-clause-meant t c bound fits =
-    ends_so _ _ _ _ _ (ap (λ f. limited (costs_of c.args.context.now) c.args.meter.now (applied c.args.depth (scope_of c.args.context.now bound) (callee_seen f) c.args.values.items c.args.world.now.stack.top)) c.in-Function.is) (c.enter.ensures.meant bound fits)
+iterate::apply-returns-in-Function-clause-meant g t c bound fits = ends_so _ _ _ _ _ _ (ap (λ f. watched (costs_of c.args.context.now) c.args.meter.now (g.W.Watch.seen c.args.watch.now) (applied c.args.depth (scope_of c.args.context.now bound) (callee_seen f) c.args.values.items c.args.world.now.stack.top)) c.in-Function.is) (c.enter.ensures.meant bound fits)
 
 pub iterate::apply-returns-in-Native-clause-meant : goal.iterate::apply-returns-in-Native-clause-meant
-iterate::apply-returns-in-Native-clause-meant t c bound fits =
-    ends_so _ _ _ _ _ (ap (λ f. limited (costs_of c.args.context.now) c.args.meter.now (applied c.args.depth (scope_of c.args.context.now bound) (callee_seen f) c.args.values.items c.args.world.now.stack.top)) c.in-Native.is) (c.apply_by_name.ensures bound c.args.world.now.stack.top)
+iterate::apply-returns-in-Native-clause-meant g t c bound fits = ends_so _ _ _ _ _ _ (ap (λ f. watched (costs_of c.args.context.now) c.args.meter.now (g.W.Watch.seen c.args.watch.now) (applied c.args.depth (scope_of c.args.context.now bound) (callee_seen f) c.args.values.items c.args.world.now.stack.top)) c.in-Native.is) (c.apply_watched.ensures.meant bound c.args.world.now.stack.top)
 
 pub iterate::fold-returns-in_default-clause-meant : goal.iterate::fold-returns-in_default-clause-meant
-iterate::fold-returns-in_default-clause-meant t c bound fits =
-    known_none _ _ _ _ _ (Rows.entries_unknown c.args.sequence.now _ (Rows.none_if_not _ c.in_default.not-Some) c.try_len.ensures)
+iterate::fold-returns-in_default-clause-meant g t c bound fits = known_none _ _ _ _ _ _ (Rows.entries_unknown c.args.sequence.now _ (Rows.none_if_not _ c.in_default.not-Some) c.try_len.ensures)
 
 pub iterate::fold-returns-in_err-so_far-in-Some-2-clause-meant : goal.iterate::fold-returns-in_err-so_far-in-Some-2-clause-meant
-iterate::fold-returns-in_err-so_far-in-Some-2-clause-meant t c bound fits =
-    hands_on _ _ c.in_err-so_far-in-Some-2.field-0.0 _ _ (err_from_is_err_and c.from_residual-in_err-so_far-in-Some-2.result c.from_residual-in_err-so_far-in-Some-2.ensures.1)
-    (stops_eq _ _ _ _ _ (known_some _ _ _ _ (λ xs. folded (applied c.args.below) (scope_of c.args.context.now bound) (callee_seen c.args.callee.now) xs c.args.start) _ (Rows.entries_known _ c.args.sequence.now _ c.in-Some.is c.try_len.ensures) ∙ ap (λ v. limited (costs_of c.args.context.now) c.args.meter.now (folded (applied c.args.below) (scope_of c.args.context.now bound) (callee_seen c.args.callee.now) (entries_from 0 c.args.sequence.now) v c.args.world.now.stack.top)) (sym c.start.view_is) ∙ c.loop-place.invariant.so_far bound fits ∙ Iterating.fold_next (costs_of c.args.context.now) c.loop-place.meter (applied c.args.below) (scope_of c.args.context.now bound) (callee_seen c.args.callee.now) _ c.in-Some-2.entry _ c.in_ok-values-in-Some-2.values.items c.loop-place.so_far c.loop-place.world.stack.top (Rows.entries_next _ c.args.sequence.now _ (sym c.in-Some-2.is ∙ c.in_ok-entry.ensures)) c.in_ok-values-in-Some-2.ensures) (stops_then _ _ _ _ _ _ _ (c.in_err-so_far-in-Some-2.ensures.meant bound fits)))
+iterate::fold-returns-in_err-so_far-in-Some-2-clause-meant g t c bound fits =
+    hands_on _ _ c.in_err-so_far-in-Some-2.field-0.0 _ _ _ (err_from_is_err_and c.from_residual-in_err-so_far-in-Some-2.result c.from_residual-in_err-so_far-in-Some-2.ensures.1)
+    (stops_eq _ _ _ _ _ _ (known_some _ _ _ _ _ (λ xs. folded (applied c.args.below) (scope_of c.args.context.now bound) (callee_seen c.args.callee.now) xs c.args.start) _ (Rows.entries_known _ c.args.sequence.now _ c.in-Some.is c.try_len.ensures) ∙ ap (λ v. watched (costs_of c.args.context.now) c.args.meter.now (g.W.Watch.seen c.args.watch.now) (folded (applied c.args.below) (scope_of c.args.context.now bound) (callee_seen c.args.callee.now) (entries_from 0 c.args.sequence.now) v c.args.world.now.stack.top)) (sym c.start.view_is) ∙ c.loop-place.invariant.so_far bound fits ∙ Iterating.fold_next (costs_of c.args.context.now) c.loop-place.meter (g.W.Watch.seen c.loop-place.watch) (applied c.args.below) (scope_of c.args.context.now bound) (callee_seen c.args.callee.now) _ c.in-Some-2.entry _ c.in_ok-values-in-Some-2.values.items c.loop-place.so_far c.loop-place.world.stack.top (Rows.entries_next _ c.args.sequence.now _ (sym c.in-Some-2.is ∙ c.in_ok-entry.ensures)) c.in_ok-values-in-Some-2.ensures) (stops_then _ _ _ _ _ _ _ _ _ (c.in_err-so_far-in-Some-2.ensures.meant bound fits)))
 
 pub iterate::fold-loop-place-preserved : goal.iterate::fold-loop-place-preserved
-iterate::fold-loop-place-preserved t c = record {
-  so_far = λ bound fits. c.loop-place.invariant.so_far bound fits ∙ Iterating.fold_next (costs_of c.args.context.now) c.loop-place.meter (applied c.args.below) (scope_of c.args.context.now bound) (callee_seen c.args.callee.now) _ c.in-Some-2.entry _ c.in_ok-values-in-Some-2.values.items c.loop-place.so_far c.loop-place.world.stack.top (Rows.entries_next _ c.args.sequence.now _ (sym c.in-Some-2.is ∙ c.in_ok-entry.ensures)) c.in_ok-values-in-Some-2.ensures ∙ then_gave _ _ _ _ _ _ _ (c.in_ok-so_far-in-Some-2.ensures.meant bound fits);
+iterate::fold-loop-place-preserved g t c = record {
+  so_far = λ bound fits. c.loop-place.invariant.so_far bound fits ∙ Iterating.fold_next (costs_of c.args.context.now) c.loop-place.meter (g.W.Watch.seen c.loop-place.watch) (applied c.args.below) (scope_of c.args.context.now bound) (callee_seen c.args.callee.now) _ c.in-Some-2.entry _ c.in_ok-values-in-Some-2.values.items c.loop-place.so_far c.loop-place.world.stack.top (Rows.entries_next _ c.args.sequence.now _ (sym c.in-Some-2.is ∙ c.in_ok-entry.ensures)) c.in_ok-values-in-Some-2.ensures ∙ then_gave _ _ _ _ _ _ _ _ _ (c.in_ok-so_far-in-Some-2.ensures.meant bound fits);
   below = c.in_ok-so_far-in-Some-2.ensures.below ∙ c.loop-place.invariant.below;
+  grew = omega (arith, c.in_ok-so_far-in-Some-2.ensures.grew, c.loop-place.invariant.grew);
 }
 
 pub iterate::fold-returns-in-None-clause-meant : goal.iterate::fold-returns-in-None-clause-meant
-iterate::fold-returns-in-None-clause-meant t c bound fits =
-    known_some _ _ _ _ (λ xs. folded (applied c.args.below) (scope_of c.args.context.now bound) (callee_seen c.args.callee.now) xs c.args.start) _ (Rows.entries_known _ c.args.sequence.now _ c.in-Some.is c.try_len.ensures) ∙ ap (λ v. limited (costs_of c.args.context.now) c.args.meter.now (folded (applied c.args.below) (scope_of c.args.context.now bound) (callee_seen c.args.callee.now) (entries_from 0 c.args.sequence.now) v c.args.world.now.stack.top)) (sym c.start.view_is) ∙ c.loop-place.invariant.so_far bound fits ∙ Iterating.fold_end _ _ _ _ _ _ _ _ (Rows.entries_past _ c.args.sequence.now (sym c.in-None.is ∙ c.in_ok-entry.ensures))
+iterate::fold-returns-in-None-clause-meant g t c bound fits =
+    known_some _ _ _ _ _ (λ xs. folded (applied c.args.below) (scope_of c.args.context.now bound) (callee_seen c.args.callee.now) xs c.args.start) _ (Rows.entries_known _ c.args.sequence.now _ c.in-Some.is c.try_len.ensures) ∙ ap (λ v. watched (costs_of c.args.context.now) c.args.meter.now (g.W.Watch.seen c.args.watch.now) (folded (applied c.args.below) (scope_of c.args.context.now bound) (callee_seen c.args.callee.now) (entries_from 0 c.args.sequence.now) v c.args.world.now.stack.top)) (sym c.start.view_is) ∙ c.loop-place.invariant.so_far bound fits ∙ Iterating.fold_end _ _ _ _ _ _ _ _ _ (Rows.entries_past _ c.args.sequence.now (sym c.in-None.is ∙ c.in_ok-entry.ensures))
 
 pub iterate::fold-returns-clause-meant : goal.iterate::fold-returns-clause-meant
-iterate::fold-returns-clause-meant t c bound fits =
+iterate::fold-returns-clause-meant g t c bound fits =
     let past : c.in-Some.count ≤ c.loop-place.place = omega arith in
-    known_some _ _ _ _ (λ xs. folded (applied c.args.below) (scope_of c.args.context.now bound) (callee_seen c.args.callee.now) xs c.args.start) _ (Rows.entries_known _ c.args.sequence.now _ c.in-Some.is c.try_len.ensures) ∙ ap (λ v. limited (costs_of c.args.context.now) c.args.meter.now (folded (applied c.args.below) (scope_of c.args.context.now bound) (callee_seen c.args.callee.now) (entries_from 0 c.args.sequence.now) v c.args.world.now.stack.top)) (sym c.start.view_is) ∙ c.loop-place.invariant.so_far bound fits ∙ Iterating.fold_end _ _ _ _ _ _ _ _ (Rows.entries_end _ _ c.args.sequence.now _ c.in-Some.is c.try_len.ensures past)
+    known_some _ _ _ _ _ (λ xs. folded (applied c.args.below) (scope_of c.args.context.now bound) (callee_seen c.args.callee.now) xs c.args.start) _ (Rows.entries_known _ c.args.sequence.now _ c.in-Some.is c.try_len.ensures) ∙ ap (λ v. watched (costs_of c.args.context.now) c.args.meter.now (g.W.Watch.seen c.args.watch.now) (folded (applied c.args.below) (scope_of c.args.context.now bound) (callee_seen c.args.callee.now) (entries_from 0 c.args.sequence.now) v c.args.world.now.stack.top)) (sym c.start.view_is) ∙ c.loop-place.invariant.so_far bound fits ∙ Iterating.fold_end _ _ _ _ _ _ _ _ _ (Rows.entries_end _ _ c.args.sequence.now _ c.in-Some.is c.try_len.ensures past)
 
 pub iterate::apply_each-returns-in_default-clause-meant : goal.iterate::apply_each-returns-in_default-clause-meant
-iterate::apply_each-returns-in_default-clause-meant t c bound fits =
-    known_none _ _ _ _ _ (Rows.rows_unknown _ (sym c.width.ensures ∙ Rows.none_if_not _ c.in_default.not-Some))
+iterate::apply_each-returns-in_default-clause-meant g t c bound fits = known_none _ _ _ _ _ _ (Rows.rows_unknown _ (sym c.width.ensures ∙ Rows.none_if_not _ c.in_default.not-Some))
 
 pub iterate::apply_each-returns-in_err-value-in-Some-2-clause-meant : goal.iterate::apply_each-returns-in_err-value-in-Some-2-clause-meant
-iterate::apply_each-returns-in_err-value-in-Some-2-clause-meant t c bound fits =
-    hands_on_all _ _ c.in_err-value-in-Some-2.field-0.0 _ _ (err_from_is_err_and c.from_residual-in_err-value-in-Some-2.result c.from_residual-in_err-value-in-Some-2.ensures.1)
-    (stops_eq _ _ _ _ _ (known_some _ _ _ _ (each (applied c.args.below) (scope_of c.args.context.now bound) (callee_seen c.args.callee.now)) _ (Rows.rows_known _ c.args.sequences.now (sym c.width.ensures ∙ c.in-Some.is)) ∙ c.loop-place.invariant.so_far bound fits) (Iterating.each_stops _ _ _ _ _ _ _ _ _ _ _ _ _ (Rows.rows_next _ c.args.sequences.now _ (Rows.some_sequence _ c.args.sequences.now (sym c.width.ensures ∙ c.in-Some.is)) (sym c.in_ok-row.ensures.row ∙ ap (option_map (λ r. r.items)) c.in-Some-2.is)) (c.in_err-value-in-Some-2.ensures.meant bound fits)))
+iterate::apply_each-returns-in_err-value-in-Some-2-clause-meant g t c bound fits =
+    hands_on_all _ _ c.in_err-value-in-Some-2.field-0.0 _ _ _ (err_from_is_err_and c.from_residual-in_err-value-in-Some-2.result c.from_residual-in_err-value-in-Some-2.ensures.1)
+    (stops_eq _ _ _ _ _ _ (known_some _ _ _ _ _ (each (applied c.args.below) (scope_of c.args.context.now bound) (callee_seen c.args.callee.now)) _ (Rows.rows_known _ c.args.sequences.now (sym c.width.ensures ∙ c.in-Some.is)) ∙ c.loop-place.invariant.so_far bound fits) (Iterating.each_stops _ _ _ _ _ _ _ _ _ _ _ _ _ _ _ (Rows.rows_next _ c.args.sequences.now _ (Rows.some_sequence _ c.args.sequences.now (sym c.width.ensures ∙ c.in-Some.is)) (sym c.in_ok-row.ensures.row ∙ ap (option_map (λ r. r.items)) c.in-Some-2.is)) (c.in_err-value-in-Some-2.ensures.meant bound fits)))
 
 pub iterate::apply_each-loop-place-init : goal.iterate::apply_each-loop-place-init
-iterate::apply_each-loop-place-init t c = record {
-  so_far = λ bound fits. onto-nil _ ∙ ap (λ vs. onto vs (limited (costs_of c.args.context.now) c.args.meter.now (each (applied c.args.below) (scope_of c.args.context.now bound) (callee_seen c.args.callee.now) (rows_from 0 c.args.sequences.now) c.args.world.now.stack.top))) (sym c.new-results.ensures.items);
+iterate::apply_each-loop-place-init g t c = record {
+  so_far = λ bound fits. onto-nil _ ∙ ap (λ vs. onto vs (watched (costs_of c.args.context.now) c.args.meter.now (g.W.Watch.seen c.args.watch.now) (each (applied c.args.below) (scope_of c.args.context.now bound) (callee_seen c.args.callee.now) (rows_from 0 c.args.sequences.now) c.args.world.now.stack.top))) (sym c.new-results.ensures.items);
   below = refl;
+  grew = omega arith;
 }
 
 pub iterate::apply_each-loop-place-preserved : goal.iterate::apply_each-loop-place-preserved
-iterate::apply_each-loop-place-preserved t c = record {
-  so_far = λ bound fits. c.loop-place.invariant.so_far bound fits ∙ Iterating.each_turn _ _ _ _ _ _ _ _ _ _ _ _ _ _ (Rows.rows_next _ c.args.sequences.now _ (Rows.some_sequence _ c.args.sequences.now (sym c.width.ensures ∙ c.in-Some.is)) (sym c.in_ok-row.ensures.row ∙ ap (option_map (λ r. r.items)) c.in-Some-2.is)) c.in_ok-push-in-Some-2.ensures.items (c.in_ok-value-in-Some-2.ensures.meant bound fits);
+iterate::apply_each-loop-place-preserved g t c = record {
+  so_far = λ bound fits. c.loop-place.invariant.so_far bound fits ∙ Iterating.each_turn _ _ _ _ _ _ _ _ _ _ _ _ _ _ _ _ (Rows.rows_next _ c.args.sequences.now _ (Rows.some_sequence _ c.args.sequences.now (sym c.width.ensures ∙ c.in-Some.is)) (sym c.in_ok-row.ensures.row ∙ ap (option_map (λ r. r.items)) c.in-Some-2.is)) c.in_ok-push-in-Some-2.ensures.items (c.in_ok-value-in-Some-2.ensures.meant bound fits);
   below = c.in_ok-value-in-Some-2.ensures.below ∙ c.loop-place.invariant.below;
+  grew = omega (arith, c.in_ok-value-in-Some-2.ensures.grew, c.loop-place.invariant.grew);
 }
 
 pub iterate::apply_each-returns-in-None-clause-meant : goal.iterate::apply_each-returns-in-None-clause-meant
-iterate::apply_each-returns-in-None-clause-meant t c bound fits =
-    known_some _ _ _ _ (each (applied c.args.below) (scope_of c.args.context.now bound) (callee_seen c.args.callee.now)) _ (Rows.rows_known _ c.args.sequences.now (sym c.width.ensures ∙ c.in-Some.is)) ∙ c.loop-place.invariant.so_far bound fits ∙ Iterating.each_end _ _ _ _ _ _ _ _ (Rows.rows_past _ c.args.sequences.now (sym c.in_ok-row.ensures.row ∙ ap (option_map (λ r. r.items)) c.in-None.is))
+iterate::apply_each-returns-in-None-clause-meant g t c bound fits =
+    known_some _ _ _ _ _ (each (applied c.args.below) (scope_of c.args.context.now bound) (callee_seen c.args.callee.now)) _ (Rows.rows_known _ c.args.sequences.now (sym c.width.ensures ∙ c.in-Some.is)) ∙ c.loop-place.invariant.so_far bound fits ∙ Iterating.each_end _ _ _ _ _ _ _ _ _ (Rows.rows_past _ c.args.sequences.now (sym c.in_ok-row.ensures.row ∙ ap (option_map (λ r. r.items)) c.in-None.is))
 
 pub iterate::apply_each-returns-clause-meant : goal.iterate::apply_each-returns-clause-meant
-iterate::apply_each-returns-clause-meant t c bound fits =
+iterate::apply_each-returns-clause-meant g t c bound fits =
     let past : c.in-Some.count ≤ c.loop-place.place = omega arith in
-    known_some _ _ _ _ (each (applied c.args.below) (scope_of c.args.context.now bound) (callee_seen c.args.callee.now)) _ (Rows.rows_known _ c.args.sequences.now (sym c.width.ensures ∙ c.in-Some.is)) ∙ c.loop-place.invariant.so_far bound fits ∙ Iterating.each_end _ _ _ _ _ _ _ _ (Rows.rows_end _ _ c.args.sequences.now (sym c.width.ensures ∙ c.in-Some.is) past)
+    known_some _ _ _ _ _ (each (applied c.args.below) (scope_of c.args.context.now bound) (callee_seen c.args.callee.now)) _ (Rows.rows_known _ c.args.sequences.now (sym c.width.ensures ∙ c.in-Some.is)) ∙ c.loop-place.invariant.so_far bound fits ∙ Iterating.each_end _ _ _ _ _ _ _ _ _ (Rows.rows_end _ _ c.args.sequences.now (sym c.width.ensures ∙ c.in-Some.is) past)
 
 pub iterate::apply_each-apply-requires : goal.iterate::apply_each-apply-requires
-iterate::apply_each-apply-requires t c =
-    (omega arith, omega (arith, Rows.counted_row _ _ _ c.in-Some-2.is c.in_ok-row.ensures.count, c.requires))
+iterate::apply_each-apply-requires g t c = λ κs alive. (omega arith, (alive, omega (arith, Rows.counted_row _ _ _ c.in-Some-2.is c.in_ok-row.ensures.count, c.requires)))
 
 pub iterate::map_rows-returns-in_err-results-clause-meant : goal.iterate::map_rows-returns-in_err-results-clause-meant
-iterate::map_rows-returns-in_err-results-clause-meant t c bound fits =
-    part_fails _ _ c.in_err-results.field-0.0 _ _ c.apply_each.new.meter c.apply_each.new.world.stack.top _ _ (err_from_is_err_and c.from_residual.result c.from_residual.ensures.1) (Iterating.map_results (costs_of c.args.context.now) c.args.meter.now (applied c.args.below) (scope_of c.args.context.now bound) (callee_seen c.args.callee.now) c.args.sequences.now c.args.world.now.stack.top) (c.in_err-results.ensures.meant bound fits)
+iterate::map_rows-returns-in_err-results-clause-meant g t c bound fits =
+    part_fails _ _ c.in_err-results.field-0.0 _ _ c.apply_each.new.meter _ (g.W.Watch.seen c.apply_each.new.watch) c.apply_each.new.world.stack.top _ _ (err_from_is_err_and c.from_residual.result c.from_residual.ensures.1) (Iterating.map_results (costs_of c.args.context.now) c.args.meter.now (g.W.Watch.seen c.args.watch.now) (applied c.args.below) (scope_of c.args.context.now bound) (callee_seen c.args.callee.now) c.args.sequences.now c.args.world.now.stack.top) (c.in_err-results.ensures.meant bound fits)
 
 pub iterate::map_rows-returns-clause-meant : goal.iterate::map_rows-returns-clause-meant
-iterate::map_rows-returns-clause-meant t c bound fits =
-    ends_so _ _ _ c.apply_each.new.meter c.apply_each.new.world.stack.top (Iterating.map_results (costs_of c.args.context.now) c.args.meter.now (applied c.args.below) (scope_of c.args.context.now bound) (callee_seen c.args.callee.now) c.args.sequences.now c.args.world.now.stack.top ∙ then_gave _ _ _ _ (λ ws. stop (outcome_of (Gives (ListV (items_of ws))))) _ _ (c.in_ok-results.ensures.meant bound fits)) (native_ends (costs_of c.args.context.now) c.apply_each.new.meter _ _ c.apply_each.new.world.stack.top (c.computed.ensures (Gives (ListV (items_of c.in_ok-results.results.items))) c.list_of.ensures))
+iterate::map_rows-returns-clause-meant g t c bound fits =
+    ends_so _ _ _ c.apply_each.new.meter (g.W.Watch.seen c.apply_each.new.watch) c.apply_each.new.world.stack.top (Iterating.map_results (costs_of c.args.context.now) c.args.meter.now (g.W.Watch.seen c.args.watch.now) (applied c.args.below) (scope_of c.args.context.now bound) (callee_seen c.args.callee.now) c.args.sequences.now c.args.world.now.stack.top ∙ then_gave _ _ _ _ _ _ (λ ws. stop (outcome_of (Gives (ListV (items_of ws))))) _ _ (c.in_ok-results.ensures.meant bound fits)) (unseen_ends (costs_of c.args.context.now) c.apply_each.new.meter _ _ _ _ c.apply_each.new.world.stack.top (stopped _ _ _ _) (native_ends (costs_of c.args.context.now) c.apply_each.new.meter _ _ c.apply_each.new.world.stack.top (c.computed.ensures (Gives (ListV (items_of c.in_ok-results.results.items))) c.list_of.ensures)))
 
 pub iterate::filter-returns-in_err-results-clause-meant : goal.iterate::filter-returns-in_err-results-clause-meant
-iterate::filter-returns-in_err-results-clause-meant t c bound fits =
-    hands_on _ _ c.in_err-results.field-0.0 _ _ (err_from_is_err_and c.from_residual-in_err-results.result c.from_residual-in_err-results.ensures.1)
-    (stops_eq _ _ _ _ _ (Iterating.filter_results (costs_of c.args.context.now) (applied c.args.below) (scope_of c.args.context.now bound) (callee_seen c.args.callee.now) c.args.sequence _ c.args.world.now.stack.top c.args.meter.now (c.deref.ensures.value ∙ c.in_ok-sequences.ensures)) (stops_after _ _ _ _ _ (c.in_err-results.ensures.meant bound fits)))
+iterate::filter-returns-in_err-results-clause-meant g t c bound fits =
+    hands_on _ _ c.in_err-results.field-0.0 _ _ _ (err_from_is_err_and c.from_residual-in_err-results.result c.from_residual-in_err-results.ensures.1)
+    (Iterating.filter_stops (costs_of c.args.context.now) (applied c.args.below) (scope_of c.args.context.now bound) (callee_seen c.args.callee.now) c.args.sequence _ c.args.world.now.stack.top c.args.meter.now (g.W.Watch.seen c.args.watch.now) _ _ _ _ (c.deref.ensures.value ∙ c.in_ok-sequences.ensures) (c.in_err-results.ensures.meant bound fits))
 
 pub iterate::filter-returns-clause-meant : goal.iterate::filter-returns-clause-meant
-iterate::filter-returns-clause-meant t c bound fits =
-    Iterating.filter_ends (costs_of c.args.context.now) (applied c.args.below) (scope_of c.args.context.now bound) (callee_seen c.args.callee.now) c.args.sequence _ c.args.world.now.stack.top c.args.meter.now _ _ _ _ _ (c.deref.ensures.value ∙ c.in_ok-sequences.ensures) (c.in_ok-results.ensures.meant bound fits) c.deref-2.ensures.value (c.sieve.ensures _ _ _ c.args.sequence c.in_ok-sequences.ensures)
+iterate::filter-returns-clause-meant g t c bound fits =
+    Iterating.filter_ends (costs_of c.args.context.now) (applied c.args.below) (scope_of c.args.context.now bound) (callee_seen c.args.callee.now) c.args.sequence _ c.args.world.now.stack.top c.args.meter.now (g.W.Watch.seen c.args.watch.now) _ _ _ _ _ _ (c.deref.ensures.value ∙ c.in_ok-sequences.ensures) (c.in_ok-results.ensures.meant bound fits) c.deref-2.ensures.value (c.sieve.ensures _ _ _ c.args.sequence c.in_ok-sequences.ensures)
 
 pub iterate::filter-apply_each-requires : goal.iterate::filter-apply_each-requires
-iterate::filter-apply_each-requires t c =
+iterate::filter-apply_each-requires g t c =
     let one : length c.deref.result.now ≡ 1 = ap length (c.deref.ensures.value ∙ c.in_ok-sequences.ensures) in
-    (omega arith, omega (arith, one))
+    λ κs alive. (omega arith, (alive, omega (arith, one)))
 
 pub evaluate::evaluate_node-evaluate_iteration-requires : goal.evaluate::evaluate_node-evaluate_iteration-requires
-evaluate::evaluate_node-evaluate_iteration-requires t c =
+evaluate::evaluate_node-evaluate_iteration-requires g t c =
     let count : length c.as_slice-parts.result.now ≡ length c.code.inside.parts.items = ap length c.as_slice-parts.ensures.value in
-    (omega arith, (IterateLaws.own_applied _ _ _ _ c.code.invariant.named c.in-Iterate.is, (omega (arith, count, c.code.invariant.few), Nodes.parts_of_node _ _ _ _ c.code.invariant.fit c.in-Iterate.is count)))
+    λ κs alive. (omega arith, (alive, (IterateLaws.own_applied _ _ _ _ c.code.invariant.named c.in-Iterate.is, (omega (arith, count, c.code.invariant.few), Nodes.parts_of_node _ _ _ _ c.code.invariant.fit c.in-Iterate.is count))))
 
 pub iterate::evaluate_iteration-evaluate_filter-requires : goal.iterate::evaluate_iteration-evaluate_filter-requires
-iterate::evaluate_iteration-evaluate_filter-requires t c =
-    (omega arith, (c.requires.own, IterateLaws.filter_parts _ _ c.in-Filter.is c.requires.fit))
+iterate::evaluate_iteration-evaluate_filter-requires g t c = λ κs alive. (omega arith, (alive, (c.requires.own, IterateLaws.filter_parts _ _ c.in-Filter.is c.requires.fit)))
 
 pub iterate::evaluate_iteration-evaluate_fold-requires : goal.iterate::evaluate_iteration-evaluate_fold-requires
-iterate::evaluate_iteration-evaluate_fold-requires t c =
-    (omega arith, (c.requires.own, IterateLaws.fold_parts _ _ c.in-Fold.is c.requires.fit))
+iterate::evaluate_iteration-evaluate_fold-requires g t c = λ κs alive. (omega arith, (alive, (c.requires.own, IterateLaws.fold_parts _ _ c.in-Fold.is c.requires.fit)))
+
+pub evaluate::evaluate-returns-in_err-saw-clause-meant : goal.evaluate::evaluate-returns-in_err-saw-clause-meant
+evaluate::evaluate-returns-in_err-saw-clause-meant g t c fits =
+    memory_ends _ _ _ _ _ _ (err_from_is_err_and c.from_residual-in_err-saw.result c.from_residual-in_err-saw.ensures.1)
+    (means_down _ _ _ _ _ _ _ (omega arith) ∙ watched-ending _ _ _ _ _) (node_unseen _ _ _ _ _ _ _ (c.in_ok-value.ensures.meant fits) c.in_err-saw.ensures)
+
+pub evaluate::evaluate_parts-returns-in_err-push-clause-meant : goal.evaluate::evaluate_parts-returns-in_err-push-clause-meant
+evaluate::evaluate_parts-returns-in_err-push-clause-meant g t c fits =
+    let here : c.loop-code.code-index < length c.args.codes.now = omega arith in
+    onto_memory _ _ _ _ _ (c.loop-code.values.items ++ c.in_ok-value.value ∷ []) _ _ (err_from_is_err_and c.from_residual-in_err-push.result c.from_residual-in_err-push.ensures.1)
+    (c.loop-code.invariant.so_far fits ∙ parts_turn _ _ _ _ _ _ _ _ _ _ _ _ _ _ _ here c.code-item.is refl (c.in_ok-value.ensures.meant fits))
+
+pub scopes::evaluate_with-returns-in_err-push-clause-meant : goal.scopes::evaluate_with-returns-in_err-push-clause-meant
+scopes::evaluate_with-returns-in_err-push-clause-meant g t c fits = memory_fails _ _ _ _ _ _ _ _ (err_from_is_err_and c.from_residual-in_err-push.result c.from_residual-in_err-push.ensures.1) (charge_within _ _ _ _ _ _ _ c.in_ok-pay_for.ensures)
+
+pub scopes::evaluate_bindings-returns-in_err-push-clause-meant : goal.scopes::evaluate_bindings-returns-in_err-push-clause-meant
+scopes::evaluate_bindings-returns-in_err-push-clause-meant g t c body fits =
+    let here : c.loop-binding.binding-index < length c.args.bindings.now = omega arith in
+    Lets.binds_memory _ _ _ (λ own. scope_of c.args.context.now (c.args.names.now.values ++ own)) _ _ _ _ _ _ (err_from_is_err_and c.from_residual-in_err-push.result c.from_residual-in_err-push.ensures.1) (c.loop-binding.invariant.so_far body fits ∙ Lets.let_next (costs_of c.args.context.now) c.loop-binding.meter (g.W.Watch.seen c.loop-binding.watch) (means c.args.below) body (scope c.args.context.now c.args.names.now) c.args.names.now.values c.args.bindings.now c.args.codes.now c.loop-binding.binding-index c.loop-binding.place _ _ c.loop-binding.world.stack.top c.loop-binding.own.items _ _ refl c.deref.ensures.value c.loop-binding.invariant.at here c.requires c.binding-item.is c.index-codes-place.is ∙ then_gave _ _ _ _ _ _ _ _ _ (c.in_ok-value.ensures.meant fits) ∙ charge_within _ _ _ _ _ _ _ c.in_ok-pay_for.ensures) (starts _ _ _ _)
+
+pub calls::evaluate_body-returns-in_err-push_layer-clause-meant : goal.calls::evaluate_body-returns-in_err-push_layer-clause-meant
+calls::evaluate_body-returns-in_err-push_layer-clause-meant g t c outer fits = memory_fails _ _ _ _ _ _ _ _ (err_from_is_err_and c.from_residual.result c.from_residual.ensures.1) refl
+
+pub iterate::fold-returns-in_err-entry-clause-meant : goal.iterate::fold-returns-in_err-entry-clause-meant
+iterate::fold-returns-in_err-entry-clause-meant g t c bound fits = memory_fails _ _ _ _ _ _ _ _ (err_from_is_err_and c.from_residual.result c.from_residual.ensures.1)
+    (known_some _ _ _ _ _ (λ xs. folded (applied c.args.below) (scope_of c.args.context.now bound) (callee_seen c.args.callee.now) xs c.args.start) _ (Rows.entries_known _ c.args.sequence.now _ c.in-Some.is c.try_len.ensures) ∙ ap (λ v. watched (costs_of c.args.context.now) c.args.meter.now (g.W.Watch.seen c.args.watch.now) (folded (applied c.args.below) (scope_of c.args.context.now bound) (callee_seen c.args.callee.now) (entries_from 0 c.args.sequence.now) v c.args.world.now.stack.top)) (sym c.start.view_is) ∙ c.loop-place.invariant.so_far bound fits)
+
+pub iterate::fold-returns-in_err-values-in-Some-2-clause-meant : goal.iterate::fold-returns-in_err-values-in-Some-2-clause-meant
+iterate::fold-returns-in_err-values-in-Some-2-clause-meant g t c bound fits = memory_fails _ _ _ _ _ _ _ _ (err_from_is_err_and c.from_residual-in_err-values-in-Some-2.result c.from_residual-in_err-values-in-Some-2.ensures.1)
+    (known_some _ _ _ _ _ (λ xs. folded (applied c.args.below) (scope_of c.args.context.now bound) (callee_seen c.args.callee.now) xs c.args.start) _ (Rows.entries_known _ c.args.sequence.now _ c.in-Some.is c.try_len.ensures) ∙ ap (λ v. watched (costs_of c.args.context.now) c.args.meter.now (g.W.Watch.seen c.args.watch.now) (folded (applied c.args.below) (scope_of c.args.context.now bound) (callee_seen c.args.callee.now) (entries_from 0 c.args.sequence.now) v c.args.world.now.stack.top)) (sym c.start.view_is) ∙ c.loop-place.invariant.so_far bound fits)
+
+pub iterate::apply_each-returns-in_err-row-clause-meant : goal.iterate::apply_each-returns-in_err-row-clause-meant
+iterate::apply_each-returns-in_err-row-clause-meant g t c bound fits = onto_memory _ _ _ _ _ _ _ _ (err_from_is_err_and c.from_residual.result c.from_residual.ensures.1)
+    (known_some _ _ _ _ _ (each (applied c.args.below) (scope_of c.args.context.now bound) (callee_seen c.args.callee.now)) _ (Rows.rows_known _ c.args.sequences.now (sym c.width.ensures ∙ c.in-Some.is)) ∙ c.loop-place.invariant.so_far bound fits)
+
+pub iterate::apply_each-returns-in_err-push-in-Some-2-clause-meant : goal.iterate::apply_each-returns-in_err-push-in-Some-2-clause-meant
+iterate::apply_each-returns-in_err-push-in-Some-2-clause-meant g t c bound fits = onto_memory _ _ _ _ _ (c.loop-place.results.items ++ c.in_ok-value-in-Some-2.value ∷ []) _ _ (err_from_is_err_and c.from_residual-in_err-push-in-Some-2.result c.from_residual-in_err-push-in-Some-2.ensures.1)
+    (known_some _ _ _ _ _ (each (applied c.args.below) (scope_of c.args.context.now bound) (callee_seen c.args.callee.now)) _ (Rows.rows_known _ c.args.sequences.now (sym c.width.ensures ∙ c.in-Some.is)) ∙ c.loop-place.invariant.so_far bound fits ∙ Iterating.each_turn _ _ _ _ _ _ _ _ _ _ _ _ _ _ _ _ (Rows.rows_next _ c.args.sequences.now _ (Rows.some_sequence _ c.args.sequences.now (sym c.width.ensures ∙ c.in-Some.is)) (sym c.in_ok-row.ensures.row ∙ ap (option_map (λ r. r.items)) c.in-Some-2.is)) refl (c.in_ok-value-in-Some-2.ensures.meant bound fits))
+
+pub iterate::filter-returns-in_err-sequences-clause-meant : goal.iterate::filter-returns-in_err-sequences-clause-meant
+iterate::filter-returns-in_err-sequences-clause-meant g t c bound fits = memory_fails _ _ _ _ _ _ _ _ (err_from_is_err_and c.from_residual.result c.from_residual.ensures.1) refl
+
+pub tuples::evaluate_tuple_of-returns-in_err-keys-clause-meant : goal.tuples::evaluate_tuple_of-returns-in_err-keys-clause-meant
+tuples::evaluate_tuple_of-returns-in_err-keys-clause-meant g t c fits = memory_fails _ _ _ _ _ _ _ _ (err_from_is_err_and c.from_residual.result c.from_residual.ensures.1) refl
+
+pub evaluate::evaluate-returns-clause-grew : goal.evaluate::evaluate-returns-clause-grew
+evaluate::evaluate-returns-clause-grew g t c = omega (arith, c.in_ok-value.ensures.grew, grew_more _ _ _ c.in_ok-saw.ensures)

@@ -1,11 +1,10 @@
 use Rattle.std.proofs.Common.{arith}
 use Rattle.cl_eval.proofs.Steps.{ends_so}
-use Rattle.cl_eval.proofs.Forms.{applied_none}
-use Rattle.cl_eval.proofs.IterateLaws.{by_values, by_and, by_or}
+use Rattle.cl_eval.proofs.IterateLaws.{by_none, by_values, by_and, by_or}
 use Rattle.cl_eval.proofs.applied.apply_by_name.Goals as goal
 
 pub returns-then-depth-eq0 : goal.returns-then-depth-eq0
-returns-then-depth-eq0 c bound s = applied_none _ _ _ _ _ _ _ c.if-depth-eq0.true
+returns-then-depth-eq0 c bound s = by_none _ _ _ _ _ _ _ c.if-depth-eq0.true
 
 pub returns-in-OnValues : goal.returns-in-OnValues
 returns-in-OnValues c bound s = ends_so _ _ _ _ _ (by_values _ _ _ _ _ _ _ _ _ (omega arith) c.in-OnValues.is) (c.native_on.ensures s)

@@ -9,12 +9,12 @@ use Rattle.cl_events.specs.State.{place as key_of}
 use Rattle.cl_maps.specs.Maps.{get, put}
 use Rattle.cl_meaning.specs.Answers.{with_known, Wrong}
 use Rattle.cl_meaning.specs.Data.{variable_set, set_entry, insert_entry, entry_at}
-use Rattle.cl_meaning.specs.Limits.{limited, Gave}
-use Rattle.cl_meaning.proofs.LimitLaws.{limited-stop, charge_within}
+use Rattle.cl_eval.specs.Watching.{watched}
+use Rattle.cl_eval.proofs.WatchLaws.{watched-stop}
 use Rattle.cl_eval.specs.declared.stop.Stop.TheVariants.{NoMemory}
 use Rattle.cl_eval.specs.Seen.{costs_of, scope}
 use Rattle.cl_eval.specs.Homes.{home_seen}
-use Rattle.cl_eval.proofs.Steps.{hands_on, pay_fails, pay_fails_at, ends_so, gives, native_ends, known_some, known_none, known_same, charge_spent}
+use Rattle.cl_eval.proofs.WatchSteps.{ends_so, known_some, known_none, known_same}
 use Rattle.cl_eval.proofs.Laws
 use Rattle.cl_contracts.specs.Seen.{contract_seen, function_seen}
 use Rattle.cl_meaning.specs.Deployed.{Contract, function_of}
@@ -24,9 +24,9 @@ use Rattle.cl_eval.proofs.Forms.{called_at}
 use Rattle.cl_eval.proofs.call.call_in.Goals as goal
 
 pub returns-in-Some-clause-meant : goal.returns-in-Some-clause-meant
-returns-in-Some-clause-meant c =
-    ends_so _ _ _ _ _ (known_some _ _ _ _ _ _ (sym (c.function.ensures.seen c.requires.entry.indexed c.args.frame.now.contract) ∙ ap (option_map (λ f. function_seen f.now)) c.in-Some.is) ∙ ap (limited _ _) (called_at _ _ _ _ _)) (c.enter.ensures.meant [] (HomeLaws.fits_called _ _ _ c.requires.found c.requires.entry.principal c.requires.entry.indexed c.requires.indexed))
+returns-in-Some-clause-meant g c =
+    ends_so _ _ _ _ _ _ (known_some _ _ _ _ _ _ _ (sym (c.function.ensures.seen c.requires.entry.indexed c.args.frame.now.contract) ∙ ap (option_map (λ f. function_seen f.now)) c.in-Some.is) ∙ ap (watched _ _ _) (called_at _ _ _ _ _)) (c.enter.ensures.meant [] (HomeLaws.fits_called _ _ _ c.requires.found c.requires.entry.principal c.requires.entry.indexed c.requires.indexed))
 
 pub returns-in-None-clause-meant : goal.returns-in-None-clause-meant
-returns-in-None-clause-meant c =
-    known_none _ _ _ _ _ (sym (c.function.ensures.seen c.requires.entry.indexed c.args.frame.now.contract) ∙ ap (option_map (λ f. function_seen f.now)) c.in-None.is)
+returns-in-None-clause-meant g c =
+    known_none _ _ _ _ _ _ (sym (c.function.ensures.seen c.requires.entry.indexed c.args.frame.now.contract) ∙ ap (option_map (λ f. function_seen f.now)) c.in-None.is)

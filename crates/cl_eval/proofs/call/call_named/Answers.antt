@@ -9,12 +9,12 @@ use Rattle.cl_events.specs.State.{place as key_of}
 use Rattle.cl_maps.specs.Maps.{get, put}
 use Rattle.cl_meaning.specs.Answers.{with_known, Wrong}
 use Rattle.cl_meaning.specs.Data.{variable_set, set_entry, insert_entry, entry_at}
-use Rattle.cl_meaning.specs.Limits.{limited, Gave}
-use Rattle.cl_meaning.proofs.LimitLaws.{limited-stop, charge_within}
+use Rattle.cl_eval.specs.Watching.{watched}
+use Rattle.cl_eval.proofs.WatchLaws.{watched-stop}
 use Rattle.cl_eval.specs.declared.stop.Stop.TheVariants.{NoMemory}
 use Rattle.cl_eval.specs.Seen.{costs_of, scope}
 use Rattle.cl_eval.specs.Homes.{home_seen}
-use Rattle.cl_eval.proofs.Steps.{hands_on, pay_fails, pay_fails_at, ends_so, gives, native_ends, known_some, known_none, known_same, charge_spent}
+use Rattle.cl_eval.proofs.WatchSteps.{ends_so, known_some, known_none, known_same}
 use Rattle.cl_eval.proofs.Laws
 use Rattle.cl_contracts.specs.Seen.{contract_seen, function_seen}
 use Rattle.cl_meaning.specs.Deployed.{Contract, function_of}
@@ -24,9 +24,9 @@ use Rattle.cl_eval.proofs.Forms.{called_at}
 use Rattle.cl_eval.proofs.call.call_named.Goals as goal
 
 pub returns-in-Some-clause-meant : goal.returns-in-Some-clause-meant
-returns-in-Some-clause-meant c =
-    ends_so _ _ _ _ _ (known_same _ _ _ _ _ _ (ap (λ (k : Option Contract). function_of c.args.function.now k) (sym (c.find.ensures.seen c.requires.indexed) ∙ ap (option_map (λ k. contract_seen (c.args.frame.now.contract, k.now))) c.in-Some.is))) c.call_in.ensures.meant
+returns-in-Some-clause-meant g c =
+    ends_so _ _ _ _ _ _ (known_same _ _ _ _ _ _ _ (ap (λ (k : Option Contract). function_of c.args.function.now k) (sym (c.find.ensures.seen c.requires.indexed) ∙ ap (option_map (λ k. contract_seen (c.args.frame.now.contract, k.now))) c.in-Some.is))) c.call_in.ensures.meant
 
 pub returns-in-None-clause-meant : goal.returns-in-None-clause-meant
-returns-in-None-clause-meant c =
-    known_same _ _ _ _ _ _ (ap (λ (k : Option Contract). function_of c.args.function.now k) (sym (c.find.ensures.seen c.requires.indexed) ∙ ap (option_map (λ k. contract_seen (c.args.frame.now.contract, k.now))) c.in-None.is)) ∙ limited-stop _ _ _ _
+returns-in-None-clause-meant g c =
+    known_same _ _ _ _ _ _ _ (ap (λ (k : Option Contract). function_of c.args.function.now k) (sym (c.find.ensures.seen c.requires.indexed) ∙ ap (option_map (λ k. contract_seen (c.args.frame.now.contract, k.now))) c.in-None.is)) ∙ watched-stop _ _ _ _ _

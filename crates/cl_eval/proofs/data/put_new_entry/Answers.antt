@@ -18,10 +18,10 @@ use Rattle.cl_eval.proofs.Steps.{hands_on, pay_fails, pay_fails_at, ends_so, giv
 use Rattle.cl_eval.proofs.Laws
 use Rattle.cl_eval.proofs.data.put_new_entry.Goals as goal
 
-pub returns-in-Some-clause-meant : goal.returns-in-Some-clause-meant
-returns-in-Some-clause-meant c p =
-    ap (limited _ _) (Laws.inserted_some (scope c.args.context.now c.args.names.now) _ _ _ _ _ _ (sym c.in_ok-entry.ensures ∙ c.in-Some.is)) ∙ gives _ _ _ _ _ _ c.bool_value.ensures refl
+pub returns-clause-meant : goal.returns-clause-meant
+returns-clause-meant c p =
+    ap (limited _ _) (Laws.inserted_is (scope c.args.context.now c.args.names.now) c.args.name.now _ _ _ _ _ _ c.in_ok-inserted.ensures.found (λ h. ap (λ (w : Stack). w.top) (c.in_ok-inserted.ensures.done h)) (λ h. ap (λ (w : Stack). w.top) (c.in_ok-inserted.ensures.there h)))
+    ∙ gives _ _ _ _ _ _ c.bool_value.ensures refl
 
-pub returns-in-None-clause-meant : goal.returns-in-None-clause-meant
-returns-in-None-clause-meant c p =
-    ends_so _ _ _ _ _ (ap (limited _ _) (Laws.inserted_none (scope c.args.context.now c.args.names.now) _ _ _ _ _ (sym c.in_ok-entry.ensures ∙ c.in-None.is))) (c.put_entry.ensures.meant p)
+pub returns-clause-below : goal.returns-clause-below
+returns-clause-below c = Laws.same_below _ _ _ _ c.in_ok-inserted.ensures.done c.in_ok-inserted.ensures.there

@@ -2,22 +2,24 @@ use Rattle.std.proofs.Common.{◌≡◌, ◌∙◌, refl, sym, ap, length}
 use Rattle.std.proofs.lemmas.Result.{err_from_is_err_and}
 use Rattle.cl_events.specs.State.{place}
 use Rattle.cl_state.specs.Stack.{Stack}
-use Rattle.cl_meaning.specs.Limits.{limited}
-use Rattle.cl_meaning.proofs.LimitLaws.{limited-stop, then_gave, charge_within}
+use Rattle.cl_eval.specs.Watching.{watched}
+use Rattle.cl_eval.proofs.WatchLaws.{watched-stop, then_gave, charge_within}
 use Rattle.cl_eval.specs.Deploys.{contract_so_far}
-use Rattle.cl_eval.proofs.Steps.{hands_on, pay_fails, part_fails, ends_so}
+use Rattle.cl_eval.proofs.WatchSteps.{hands_on, stops_eq, pay_fails, pay_fails_at, part_fails, memory_fails, ends_so, charge_spent}
 use Rattle.cl_eval.proofs.Defining as Defining
+use Rattle.cl_eval.proofs.Telling.{run_ends}
+use Rattle.std.specs.Prelude.{Ok}
 use Rattle.cl_eval.proofs.Newness.{top_gave}
 use Rattle.cl_eval.proofs.definitions.define_capped.Goals as goal
 
 pub put_capped-requires : goal.put_capped-requires
-put_capped-requires c =
-    record { new = (top_gave _ _ _ _ _ _ _ _ _ _ c.in_ok-cap.ensures.meant).fungibles (place c.args.deploying.now.checked.now.principal c.args.name.now) c.requires.new }
+put_capped-requires g c =
+    record { new = (top_gave _ _ _ _ _ _ _ _ _ _ (run_ends _ _ _ _ _ _ (Ok c.in_ok-cap.cap) _ c.in_ok-cap.ensures.meant)).fungibles (place c.args.deploying.now.checked.now.principal c.args.name.now) c.requires.new }
 
 pub returns-in_err-cap-clause-meant : goal.returns-in_err-cap-clause-meant
-returns-in_err-cap-clause-meant c at =
-    part_fails _ _ c.in_err-cap.field-0.0 _ _ _ _ _ _ (Defining.hand c.args.deploying.now _ _ _ (err_from_is_err_and c.from_residual.result c.from_residual.ensures.1)) (ap (limited _ _) (Defining.capped_at _ _ _ _ _ _)) c.in_err-cap.ensures.meant
+returns-in_err-cap-clause-meant g c at =
+    part_fails _ _ c.in_err-cap.field-0.0 _ _ _ _ _ _ _ _ (Defining.hand c.args.deploying.now _ _ _ (err_from_is_err_and c.from_residual.result c.from_residual.ensures.1)) (ap (watched _ _ _) (Defining.capped_at _ _ _ _ _ _)) c.in_err-cap.ensures.meant
 
 pub returns-clause-meant : goal.returns-clause-meant
-returns-clause-meant c at =
-    ends_so _ _ _ _ _ (ap (limited _ _) (Defining.capped_at _ _ _ _ _ _) ∙ then_gave _ _ _ _ _ _ _ c.in_ok-cap.ensures.meant) c.put_capped.ensures.meant
+returns-clause-meant g c at =
+    ends_so _ _ _ _ _ _ (ap (watched _ _ _) (Defining.capped_at _ _ _ _ _ _) ∙ then_gave _ _ _ _ _ _ _ _ _ c.in_ok-cap.ensures.meant) (Defining.builds c.args.deploying.now _ _ _ _ _ _ _ (Defining.cap_unseen _ _ _ _) c.put_capped.ensures.meant)

@@ -1,17 +1,17 @@
 use Rattle.std.proofs.Common.{◌≡◌, ◌∙◌, refl, sym, ap, length}
 use Rattle.std.proofs.lemmas.Result.{err_from_is_err_and}
 use Rattle.cl_state.specs.Stack.{Stack}
-use Rattle.cl_meaning.specs.Limits.{limited}
-use Rattle.cl_meaning.proofs.LimitLaws.{limited-stop, then_gave, charge_within}
+use Rattle.cl_eval.specs.Watching.{watched}
+use Rattle.cl_eval.proofs.WatchLaws.{watched-stop, then_gave, charge_within}
 use Rattle.cl_eval.specs.Deploys.{contract_so_far}
-use Rattle.cl_eval.proofs.Steps.{hands_on, pay_fails, part_fails, ends_so}
+use Rattle.cl_eval.proofs.WatchSteps.{hands_on, stops_eq, pay_fails, pay_fails_at, part_fails, memory_fails, ends_so, charge_spent}
 use Rattle.cl_eval.proofs.Defining as Defining
 use Rattle.cl_eval.proofs.definitions.evaluate_alone.Goals as goal
 
 pub returns-in_err-evaluate_top-clause-meant : goal.returns-in_err-evaluate_top-clause-meant
-returns-in_err-evaluate_top-clause-meant c name at =
-    part_fails _ _ c.in_err-evaluate_top.field-0.0 _ _ _ _ _ _ (Defining.hand c.args.deploying.now _ _ _ (err_from_is_err_and c.from_residual.result c.from_residual.ensures.1)) (ap (limited _ _) (Defining.expression_at _ _ _ _ _ _)) c.in_err-evaluate_top.ensures.meant
+returns-in_err-evaluate_top-clause-meant g c name at =
+    part_fails _ _ c.in_err-evaluate_top.field-0.0 _ _ _ _ _ _ _ _ (Defining.hand c.args.deploying.now _ _ _ (err_from_is_err_and c.from_residual.result c.from_residual.ensures.1)) (ap (watched _ _ _) (Defining.expression_at _ _ _ _ _ _)) c.in_err-evaluate_top.ensures.meant
 
 pub returns-clause-meant : goal.returns-clause-meant
-returns-clause-meant c name at =
-    ap (limited _ _) (Defining.expression_at _ _ _ _ _ _) ∙ then_gave _ _ _ _ _ _ _ c.in_ok-evaluate_top.ensures.meant ∙ limited-stop _ _ _ _
+returns-clause-meant g c name at =
+    ap (watched _ _ _) (Defining.expression_at _ _ _ _ _ _) ∙ then_gave _ _ _ _ _ _ _ _ _ c.in_ok-evaluate_top.ensures.meant ∙ watched-stop _ _ _ _ _

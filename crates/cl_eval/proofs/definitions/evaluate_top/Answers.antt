@@ -1,9 +1,9 @@
 use Rattle.std.proofs.Common.{ap, sym, refl}
-use Rattle.cl_meaning.specs.Limits.{limited}
-use Rattle.cl_eval.proofs.Steps.{ends_so}
+use Rattle.cl_eval.specs.Watching.{watched}
+use Rattle.cl_eval.proofs.WatchSteps.{hands_on, stops_eq, pay_fails, pay_fails_at, part_fails, memory_fails, ends_so, charge_spent}
 use Rattle.cl_eval.proofs.Defining.{top_is, fits_top}
 use Rattle.cl_eval.proofs.definitions.evaluate_top.Goals as goal
 
 pub returns-clause-meant : goal.returns-clause-meant
-returns-clause-meant c =
-    ends_so _ _ _ _ _ (ap (limited _ _) (sym (top_is _ _ _ _ _ _ c.alone.ensures))) (c.evaluate.ensures.meant (fits_top c.args.deploying.now _ c.requires refl))
+returns-clause-meant g c =
+    ends_so _ _ _ _ _ _ (ap (watched _ _ _) (sym (top_is _ _ _ _ _ _ c.alone.ensures))) (c.evaluate.ensures.meant (fits_top c.args.deploying.now _ c.requires refl))

@@ -1,13 +1,14 @@
-use Rattle.std.proofs.Common.{◌≡◌, drop}
-use Rattle.cl_meaning.specs.Limits.{limited}
+use Rattle.std.proofs.Common.{◌≡◌, ◌≤◌, drop}
+use Rattle.cl_eval.specs.Watching.{watched, amount}
 use Rattle.cl_eval.specs.Deploys.{AreNew, all_by, costs_of}
 use Rattle.cl_eval.proofs.top.define_all.Given as goal
 
 abbrev pub invariant-loop-place : goal.invariant-loop-place
-invariant-loop-place l = record {
+invariant-loop-place g l = record {
   so_far :
-      limited (costs_of l.deploying) l.initial.meter (all_by l.deploying l.places l.initial.constants.entries l.initial.world.stack.top)
-      ≡ limited (costs_of l.deploying) l.meter (all_by l.deploying (drop l.place-index l.places) l.constants.entries l.world.stack.top);
+      watched (costs_of l.deploying) l.initial.meter (g.W.Watch.seen l.initial.watch) (all_by l.deploying l.places l.initial.constants.entries l.initial.world.stack.top)
+      ≡ watched (costs_of l.deploying) l.meter (g.W.Watch.seen l.watch) (all_by l.deploying (drop l.place-index l.places) l.constants.entries l.world.stack.top);
   new : AreNew l.deploying.checked.now l.place-index l.constants.entries l.world.stack.top;
+  grew : amount (g.W.Watch.seen l.initial.watch) ≤ amount (g.W.Watch.seen l.watch);
   below : l.world.stack.below ≡ l.initial.world.stack.below;
 }

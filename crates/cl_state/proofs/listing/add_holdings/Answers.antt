@@ -9,7 +9,7 @@ use Rattle.cl_state.proofs.listing.add_holdings.Goals as goal
 
 pub list_holdings-requires : goal.list_holdings-requires
 list_holdings-requires c =
-    subst (AllByRecursion (λ e. IsHolder e.0)) (sym c.deref.ensures.value) (rows_have (λ key n. IsHolder key) c.in_ok-holders.holders.items c.args.ledger.now.ledger.balances c.in_ok-holders.ensures c.requires)
+    subst (AllByRecursion (λ e. IsHolder e.0)) (sym c.deref.ensures.value) (rows_have (λ key n. IsHolder key) c.in_ok-holders.holders.items c.args.ledger.now.ledger.balances c.in_ok-holders.ensures c.requires.holders)
 
 pub returns : goal.returns
 returns c =
