@@ -13,6 +13,7 @@ mod real;
 mod refusal;
 mod sink;
 
+pub use calls::fails_at;
 pub use files::Files;
 pub use memory_files::MemoryFiles;
 pub use memory_sink::MemorySink;

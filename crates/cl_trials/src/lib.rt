@@ -5,6 +5,10 @@
 #[cfg(test)]
 mod files;
 #[cfg(test)]
+mod layers;
+#[cfg(test)]
+mod listeners;
+#[cfg(test)]
 mod orders;
 #[cfg(test)]
 mod principals;

@@ -3,6 +3,7 @@ ghost use Rattle.std.specs.Prelude.{◌≡◌, true};
 ghost use Rattle.cl_events.specs.State.{State};
 ghost use Rattle.cl_state.specs.Deeds.{is_there};
 
+use crate::layers::layers_stay_small;
 use cl_c32::{Address, ContractName, Principal};
 use cl_events::EventKind;
 use cl_report::state_lines;
@@ -81,6 +82,7 @@ enum Trial {
     Genesis,
     Pays,
     Lines,
+    Layers,
 }
 
 fn goes_well(alloc: Global, world: &mut World, trial: Trial) -> Result<bool, Fail> {
@@ -91,6 +93,7 @@ fn goes_well(alloc: Global, world: &mut World, trial: Trial) -> Result<bool, Fai
             pays(world, &payee)
         }
         Trial::Lines => prints_its_lines(alloc, world),
+        Trial::Layers => layers_stay_small(world),
     }
 }
 
@@ -115,5 +118,11 @@ fn stx_is_paid(rt: HostRuntime) -> Result<(), Fail> {
 #[test]
 fn holders_are_printed(rt: HostRuntime) -> Result<(), Fail> {
     assert!(rt; goes_well_at_first(rt.alloc(), Trial::Lines)?);
+    Ok(())
+}
+
+#[test]
+fn many_layers_are_small(rt: HostRuntime) -> Result<(), Fail> {
+    assert!(rt; goes_well_at_first(rt.alloc(), Trial::Layers)?);
     Ok(())
 }

@@ -1,0 +1,4 @@
+pub mod Hearing
+pub mod Recording
+pub mod Codes
+pub mod Laws

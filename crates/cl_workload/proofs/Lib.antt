@@ -1,0 +1,4 @@
+mod Runtime
+mod Small
+mod Counting
+mod Examples
