@@ -5,15 +5,14 @@
 # nanoseconds for each. Where the numbers of a row are flat the work is linear. Run by hand; python3 measures.
 set -eu
 cd "$(dirname "$0")"
-../clarity call ../examples/inc.clar add1 41 >/dev/null
 PYTHONDONTWRITEBYTECODE=1 python3 - <<'PYTHON'
-import os
 import tempfile
 
+import made
+from made import DEPLOYER, UNIT, written
 from measure import instructions, run
 
-CHECK = ["check", "../examples/unit.json", "SP000000000000000000002Q6VF78"]
-STEP = "(define-private (g{0} (x uint)) (let ((a (+ x u1)) (b (* a u2))) (if (> a b) (g{1} a) (- b a))))\n"
+CHECK = ["check", UNIT, DEPLOYER]
 
 
 def body(count):
@@ -21,7 +20,7 @@ def body(count):
 
 
 def functions(count):
-    return ["(define-private (g0 (x uint)) x)\n" + "".join(STEP.format(i, i - 1 if i % 50 else 0) for i in range(1, count))]
+    return [made.functions(count)]
 
 
 def chains(count):
@@ -44,11 +43,7 @@ def contracts(count):
 
 def cost(sources):
     with tempfile.TemporaryDirectory() as folder:
-        paths = []
-        for i, source in enumerate(sources):
-            paths.append(os.path.join(folder, f"c{i}.clar"))
-            with open(paths[-1], "w") as file:
-                file.write(source)
+        paths = [written(folder, f"c{i}.clar", source) for i, source in enumerate(sources)]
         counted = instructions([*CHECK, *paths], 0, "deploy-bound ")
         if counted is not None:
             return counted

@@ -3,7 +3,6 @@
 # a byte say that the work is linear. Run by hand; python3 measures.
 set -eu
 cd "$(dirname "$0")"
-../clarity call ../examples/inc.clar add1 41 >/dev/null
 PYTHONDONTWRITEBYTECODE=1 python3 - <<'PYTHON'
 from measure import table
 

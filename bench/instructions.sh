@@ -4,43 +4,21 @@
 set -eu
 cd "$(dirname "$0")"
 command -v valgrind >/dev/null || { echo "valgrind isn't there: nothing is counted"; exit 0; }
-../clarity call ../examples/inc.clar add1 41 >/dev/null
 PYTHONDONTWRITEBYTECODE=1 python3 - "$@" <<'PYTHON'
-import json
-import os
 import sys
 import tempfile
 
+import made
+from made import DEPLOYER, HOLDER, UNIT, call, example, written
 from measure import instructions
-
-UNIT = "../examples/unit.json"
-DEPLOYER, HOLDER = "SP000000000000000000002Q6VF78", "SP2J6ZY48GV1EZ5V2V5RB9MP66SW86PYKKNRV9EJ7"
-STEP = "(define-private (g{0} (x uint)) (let ((a (+ x u1)) (b (* a u2))) (if (> a b) (g{1} a) (- b a))))\n"
-
-
-def file(folder, name, text):
-    path = os.path.join(folder, name)
-    with open(path, "w") as out:
-        out.write(text)
-    return path
-
-
-def example(name):
-    with open(f"../examples/{name}") as held:
-        return json.load(held)["entries"]
 
 
 def entries(folder, all_of_them, *flags):
-    path = file(folder, "tx.json", json.dumps({"version": 1, "genesis": [], "entries": all_of_them}))
-    return ["run", UNIT, path, *flags], 0, "0 deploy"
-
-
-def call(sender, contract, function, *args):
-    return {"call": {"sender": sender, "contract": f"{DEPLOYER}.{contract}", "function": function, "args": list(args)}}
+    return ["run", UNIT, made.transactions(folder, all_of_them), *flags], 0, "0 deploy"
 
 
 def ints(folder, count):
-    return ["call", file(folder, "f.clar", f"(define-read-only (f) (+{' 1' * count}))"), "f"], 0, f"value {count}"
+    return ["call", written(folder, "f.clar", f"(define-read-only (f) (+{' 1' * count}))"), "f"], 0, f"value {count}"
 
 
 def wire(folder, count):
@@ -53,8 +31,7 @@ def puts(folder, count):
 
 
 def functions(folder, count):
-    text = "(define-private (g0 (x uint)) x)\n" + "".join(STEP.format(i, i - 1 if i % 50 else 0) for i in range(1, count))
-    return ["check", UNIT, DEPLOYER, file(folder, "f.clar", text)], 0, "deploy-bound"
+    return ["check", UNIT, DEPLOYER, written(folder, "f.clar", made.functions(count))], 0, "deploy-bound"
 
 
 def transfers(folder, count):
@@ -65,13 +42,12 @@ def transfers(folder, count):
 
 def inserts(folder, count):
     source = "(define-map m uint uint)(define-public (ins (k uint) (v uint)) (ok (map-insert m k v)))"
-    deploy = {"deploy": {"sender": DEPLOYER, "name": "c", "source": source}}
-    return entries(folder, [deploy] + [call(DEPLOYER, "c", "ins", f"u{i}", "u5") for i in range(count)], "--state")
+    return entries(folder, [made.deploy("c", source)] + [call(DEPLOYER, "c", "ins", f"u{i}", "u5") for i in range(count)], "--state")
 
 
 def folds(folder, count):
     source = "(define-private (add (a uint) (x uint)) (+ x (* a u1)))(define-read-only (f (xs (list 1000 uint))) (fold add xs u0))"
-    return ["call", file(folder, "f.clar", source), "f", f"(list{' u7' * count})"], 0, f"value u{7 * count}"
+    return ["call", written(folder, "f.clar", source), "f", f"(list{' u7' * count})"], 0, f"value u{7 * count}"
 
 
 ROWS = [

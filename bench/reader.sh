@@ -3,7 +3,6 @@
 # has no function to call. Flat nanoseconds a byte say that it is linear. Run by hand; python3 measures.
 set -eu
 cd "$(dirname "$0")"
-../clarity call ../examples/inc.clar add1 41 >/dev/null
 PYTHONDONTWRITEBYTECODE=1 python3 - <<'PYTHON'
 from measure import table
 

@@ -6,18 +6,13 @@
 # many contracts a node has. Run by hand; python3 measures.
 set -eu
 cd "$(dirname "$0")"
-../clarity call ../examples/inc.clar add1 41 >/dev/null
 PYTHONDONTWRITEBYTECODE=1 python3 - <<'PYTHON'
-import hashlib
-import json
 import os
 import tempfile
 
+from made import DEPLOYER, UNIT, address, call, deploy, transactions
 from measure import instructions, run
 
-UNIT = "../examples/unit.json"
-SENDER = "SP000000000000000000002Q6VF78"
-ALPHABET = "0123456789ABCDEFGHJKMNPQRSTVWXYZ"
 VARIABLE = (
     "(define-data-var n int 0)"
     "(define-public (put (x int)) (begin (var-set n x) (ok (+ x 1))))"
@@ -29,55 +24,27 @@ TOKEN = (
     "(define-fungible-token coin)(ft-mint? coin u1000000 tx-sender)"
     "(define-public (send (a uint) (from principal) (to principal)) (ft-transfer? coin a from to))"
 )
-
-
-def address(number):
-    """The text of the address whose hash is this number: version 22, C32 with a checksum of four bytes."""
-    data = number.to_bytes(20, "big")
-    check = hashlib.sha256(hashlib.sha256(bytes([22]) + data).digest()).digest()[:4]
-    value, text = int.from_bytes(data + check, "big"), ""
-    while value:
-        value, digit = divmod(value, 32)
-        text = ALPHABET[digit] + text
-    held = (data + check).lstrip(b"\0")
-    return "SP" + "0" * (24 - len(held)) + text
-
-
-HOLDERS = [SENDER] + [address(i) for i in range(1, 1000)]
-
-
-def deploy(name, source):
-    return {"deploy": {"sender": SENDER, "name": name, "source": source}}
-
-
-def call(contract, function, *args):
-    return {"call": {"sender": SENDER, "contract": f"{SENDER}.{contract}", "function": function, "args": list(args)}}
+HOLDERS = [DEPLOYER] + [address(i) for i in range(1, 1000)]
 
 
 def transfer(i):
     # First one to each holder, then around in a ring.
     start = "0" if i < 1000 else str(i % 1000)
-    return call("t", "send", "u1", "'" + HOLDERS[int(start)], "'" + HOLDERS[(i + 1) % 1000])
+    return call(DEPLOYER, "t", "send", "u1", "'" + HOLDERS[int(start)], "'" + HOLDERS[(i + 1) % 1000])
 
 
 ROWS = [
-    ("writes a variable", lambda i: call("c", "put", str(i)), " ok "),
-    ("err undoes the write", lambda i: call("c", "no", str(i)), " err "),
-    ("reads a variable", lambda i: call("c", "sum", str(i)), " value "),
+    ("writes a variable", lambda i: call(DEPLOYER, "c", "put", str(i)), " ok "),
+    ("err undoes the write", lambda i: call(DEPLOYER, "c", "no", str(i)), " err "),
+    ("reads a variable", lambda i: call(DEPLOYER, "c", "sum", str(i)), " value "),
     ("transfers a token", transfer, " ok "),
-    ("calls another contract", lambda i: call("a", "put", str(i)), " ok "),
+    ("calls another contract", lambda i: call(DEPLOYER, "a", "put", str(i)), " ok "),
 ]
 
 
-def file_of(of, contracts, calls):
+def file_of(folder, of, contracts, calls):
     others = [deploy(f"c{i}", "(define-read-only (f) 1)") for i in range(contracts)]
-    entries = [deploy("c", VARIABLE), deploy("t", TOKEN), *others, deploy("a", AWAY), *[of(i) for i in range(calls)]]
-    return json.dumps({"version": 1, "genesis": [], "entries": entries})
-
-
-def written(path, text):
-    with open(path, "w") as file:
-        return file.write(text)
+    return transactions(folder, [deploy("c", VARIABLE), deploy("t", TOKEN), *others, deploy("a", AWAY), *[of(i) for i in range(calls)]])
 
 
 def cost(path):
@@ -86,19 +53,15 @@ def cost(path):
 
 
 with tempfile.TemporaryDirectory() as folder:
-    path = os.path.join(folder, "calls.json")
     print(f"{'call that':24} {'1 contract':>12} {'100':>10} {'1,000':>10}   MiB of 4,000 and 64,000 calls (of their files)")
     for name, of, answer in ROWS:
         each = []
         for contracts in (1, 100, 1000):
-            costs = []
-            for calls in (2000, 4000):
-                written(path, file_of(of, contracts, calls))
-                costs.append(cost(path))
+            costs = [cost(file_of(folder, of, contracts, calls)) for calls in (2000, 4000)]
             each.append((costs[1] - costs[0]) / 2000)
         peaks = []
         for calls in (4000, 64000):
-            size = written(path, file_of(of, 1, calls))
-            peaks.append(f"{run(['run', UNIT, path], 0, answer)[1]:.0f} ({size / 2**20:.0f})")
+            path = file_of(folder, of, 1, calls)
+            peaks.append(f"{run(['run', UNIT, path], 0, answer)[1]:.0f} ({os.path.getsize(path) / 2**20:.0f})")
         print(f"{name:24} {each[0]:12.0f} {each[1]:10.0f} {each[2]:10.0f}   {', '.join(peaks)}", flush=True)
 PYTHON
