@@ -72,22 +72,28 @@ fn int(number: u32) -> Result<Val, AllocError> {
     Val::make(Value { kind }).map_err(|_| AllocError)
 }
 
-fn principal(number: u32) -> Principal {
+fn address(number: u32) -> Address {
     let digits = number.to_be_bytes();
     let mut hash = [7; 20];
     hash[0] = digits[0];
     hash[1] = digits[1];
     hash[2] = digits[2];
     hash[3] = digits[3];
-    let address = Address::new(22, &hash);
+    Address::new(22, &hash)
+}
+
+fn principal(number: u32) -> Principal {
     let contract = None;
-    Principal { address, contract }
+    Principal { address: address(number), contract }
 }
 
 fn holders(alloc: Global, count: u32) -> Result<Vec<(Principal, u128)>, AllocError> {
     let mut all = Vec::new(alloc);
     for number in 0..count {
-        all.push((principal(number), 1_000_000))?;
+        // (The function that pushes names the types of what it pushes: without, its proof isn't found.)
+        let contract: Option<ContractName> = None;
+        let who = Principal { address: address(number), contract };
+        all.push((who, 1_000_000))?;
     }
     Ok(all)
 }
