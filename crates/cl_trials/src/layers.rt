@@ -72,8 +72,10 @@ fn pile_up(world: &mut World) -> Result<(), Fail> {
 
 // Leaves the changes of the first two layers, on the base.
 fn keep_two(world: &mut World) -> Result<(), Fail> {
-    while world.layers() > 2 {
-        world.drop_layer();
+    for _ in 2..LAYERS {
+        if world.layers() > 2 {
+            world.drop_layer();
+        }
     }
     if world.layers() == 2 {
         world.keep_layer()?;
