@@ -242,12 +242,9 @@ rt run >"$work/log" 2>&1 || true
 PROGRAM=$work/crates/world_bench/out/world_bench
 [ -x "$PROGRAM" ] || { tail -n 40 "$work/log" >&2; exit 1; }
 cd "$top/bench"
-PROGRAM=$PROGRAM PYTHONDONTWRITEBYTECODE=1 python3 - <<'PYTHON'
-import os
-
+CLARITY=$PROGRAM PYTHONDONTWRITEBYTECODE=1 python3 - <<'PYTHON'
 import measure
 
-measure.PROGRAM = os.environ["PROGRAM"]
 LAYERS = 2000
 
 
