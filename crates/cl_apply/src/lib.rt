@@ -11,6 +11,6 @@ mod pairs;
 mod refusal;
 mod rows;
 
-pub use call::{NativeCall, apply, try_apply};
+pub use call::{NativeCall, apply, defined, try_apply};
 pub use refusal::ApplyRefusal;
 pub use rows::apply_native;

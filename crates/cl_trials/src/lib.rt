@@ -9,6 +9,8 @@ mod layers;
 #[cfg(test)]
 mod listeners;
 #[cfg(test)]
+mod natives;
+#[cfg(test)]
 mod orders;
 #[cfg(test)]
 mod principals;
