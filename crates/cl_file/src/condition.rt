@@ -7,6 +7,7 @@ ghost use Rattle.cl_file.specs.Objects.{Texts};
 ghost use Rattle.cl_file.specs.Conditions.{sent_test, stx, ft, nft, condition_by, condition, condition_at, post};
 
 use crate::Conditions;
+use crate::addresses::Addresses;
 use crate::kind::{Contract, Kind};
 use crate::names::{ConditionKind, Object, condition_kind};
 use crate::object::{object, sole};
@@ -19,13 +20,14 @@ use cl_values::Val;
 use serde_json::Value;
 use std::alloc::Global;
 
-fn stx(alloc: Global, value: &Value, path: &str) -> Read<Condition>
+fn stx(alloc: Global, known: &mut Addresses, value: &Value, path: &str) -> Read<Condition>
     ensures found { (v : Texts) → IfOk result (λ c. stx v.of path.now (view value.now) ≡ Ok c) }
     ensures broken { (v : Texts) → IfRefused result
         (λ r. stx v.of path.now (view value.now) ≡ Err r) }
 {
     let (principal, (code, (amount, ()))): (Principal, (Code5, (u128, ()))) = object(
         alloc,
+        known,
         value,
         path,
         Object::Stx,
@@ -37,7 +39,7 @@ fn stx(alloc: Global, value: &Value, path: &str) -> Read<Condition>
     })
 }
 
-fn ft(alloc: Global, value: &Value, path: &str) -> Read<Condition>
+fn ft(alloc: Global, known: &mut Addresses, value: &Value, path: &str) -> Read<Condition>
     ensures found { (v : Texts) → IfOk result (λ c. ft v.of path.now (view value.now) ≡ Ok c) }
     ensures broken { (v : Texts) → IfRefused result
         (λ r. ft v.of path.now (view value.now) ≡ Err r) }
@@ -45,7 +47,7 @@ fn ft(alloc: Global, value: &Value, path: &str) -> Read<Condition>
     let (principal, (contract, (token, (code, (amount, ()))))): (
         Principal,
         (Contract, (Name, (Code5, (u128, ())))),
-    ) = object(alloc, value, path, Object::Ft)?;
+    ) = object(alloc, known, value, path, Object::Ft)?;
     Ok(Condition {
         principal,
         asset: Asset::Ft(contract.principal, token),
@@ -59,7 +61,7 @@ fn sent_test(sent: bool) -> Test
     if sent { Test::Sent } else { Test::NotSent }
 }
 
-fn nft(alloc: Global, value: &Value, path: &str) -> Read<Condition>
+fn nft(alloc: Global, known: &mut Addresses, value: &Value, path: &str) -> Read<Condition>
     ensures found { (v : Texts) → IfOk result (λ c. nft v.of path.now (view value.now) ≡ Ok c) }
     ensures broken { (v : Texts) → IfRefused result
         (λ r. nft v.of path.now (view value.now) ≡ Err r) }
@@ -67,7 +69,7 @@ fn nft(alloc: Global, value: &Value, path: &str) -> Read<Condition>
     let (principal, (contract, (token, (id, (sent, ()))))): (
         Principal,
         (Contract, (Name, (Val, (bool, ())))),
-    ) = object(alloc, value, path, Object::Nft)?;
+    ) = object(alloc, known, value, path, Object::Nft)?;
     Ok(Condition {
         principal,
         asset: Asset::Nft(contract.principal, token, id),
@@ -77,6 +79,7 @@ fn nft(alloc: Global, value: &Value, path: &str) -> Read<Condition>
 
 fn condition_by(
     alloc: Global,
+    known: &mut Addresses,
     kind: Option<ConditionKind>,
     value: &Value,
     path: &str,
@@ -87,14 +90,14 @@ fn condition_by(
         (λ r. condition_by kind v.of path.now (view value.now) ≡ Err r) }
 {
     match kind {
-        Some(ConditionKind::Stx) => stx(alloc, value, path),
-        Some(ConditionKind::Ft) => ft(alloc, value, path),
-        Some(ConditionKind::Nft) => nft(alloc, value, path),
+        Some(ConditionKind::Stx) => stx(alloc, known, value, path),
+        Some(ConditionKind::Ft) => ft(alloc, known, value, path),
+        Some(ConditionKind::Nft) => nft(alloc, known, value, path),
         None => Err(lone_field(alloc, path)),
     }
 }
 
-fn condition(alloc: Global, value: &Value, path: &str) -> Read<Condition>
+fn condition(alloc: Global, known: &mut Addresses, value: &Value, path: &str) -> Read<Condition>
     ensures found { (v : Texts) → IfOk result
         (λ c. condition v.of path.now (view value.now) ≡ Ok c) }
     ensures broken { (v : Texts) → IfRefused result
@@ -104,11 +107,16 @@ fn condition(alloc: Global, value: &Value, path: &str) -> Read<Condition>
         return Err(bad_value(alloc, path));
     };
     let path = below(alloc, path, name)?;
-    condition_by(alloc, condition_kind(name), value, path.as_str())
+    condition_by(alloc, known, condition_kind(name), value, path.as_str())
 }
 
 /// The conditions of an array at the path.
-pub(crate) fn conditions(alloc: Global, list: &[Value], path: &str) -> Read<Conditions>
+pub(crate) fn conditions(
+    alloc: Global,
+    known: &mut Addresses,
+    list: &[Value],
+    path: &str,
+) -> Read<Conditions>
     ensures found { (v : Texts) → IfOk result
         (λ cs. each_from (condition_at v.of) path.now [] 0 (items_view list.now) ≡ Ok cs) }
     ensures broken { (v : Texts) → IfRefused result
@@ -117,7 +125,7 @@ pub(crate) fn conditions(alloc: Global, list: &[Value], path: &str) -> Read<Cond
     let mut read = Vec::new(alloc);
     for i in 0..list.len() {
         let at = place(alloc, path, i)?;
-        let next = condition(alloc, &list[i], at.as_str())?;
+        let next = condition(alloc, known, &list[i], at.as_str())?;
         read.push(next)?;
     }
     // There are never so many: a file has fewer bytes.
@@ -130,11 +138,17 @@ pub(crate) fn conditions(alloc: Global, list: &[Value], path: &str) -> Read<Cond
 impl Kind for Conditions {
     ghost reads = { post };
 
-    fn read_at(alloc: Global, value: &Value, path: &str, name: &str) -> Read<Self> {
+    fn read_at(
+        alloc: Global,
+        known: &mut Addresses,
+        value: &Value,
+        path: &str,
+        name: &str,
+    ) -> Read<Self> {
         let Some(list) = value.as_array() else {
             return Err(bad_member(alloc, path, name));
         };
         let path = below(alloc, path, name)?;
-        conditions(alloc, list.as_slice(), path.as_str())
+        conditions(alloc, known, list.as_slice(), path.as_str())
     }
 }

@@ -6,6 +6,7 @@ ghost use Rattle.cl_file.specs.Paths.{each_from};
 ghost use Rattle.cl_file.specs.Objects.{Texts};
 ghost use Rattle.cl_file.specs.Entries.{common, block, deploy, call, entry_by, entry, height_after, NeverFall, rising, entry_after, entry_at};
 
+use crate::addresses::Addresses;
 use crate::kind::Contract;
 use crate::names::{EntryKind, Object, entry_kind};
 use crate::object::{object, sole};
@@ -37,16 +38,16 @@ fn common(
     }
 }
 
-fn block(alloc: Global, value: &Value, path: &str) -> Read<Entry>
+fn block(alloc: Global, known: &mut Addresses, value: &Value, path: &str) -> Read<Entry>
     ensures found { (v : Texts) → IfOk result (λ e. block v.of path.now (view value.now) ≡ Ok e) }
     ensures broken { (v : Texts) → IfRefused result
         (λ r. block v.of path.now (view value.now) ≡ Err r) }
 {
-    let (height, ()): (u64, ()) = object(alloc, value, path, Object::Block)?;
+    let (height, ()): (u64, ()) = object(alloc, known, value, path, Object::Block)?;
     Ok(Entry::Block { height })
 }
 
-fn deploy(alloc: Global, value: &Value, path: &str) -> Read<Entry>
+fn deploy(alloc: Global, known: &mut Addresses, value: &Value, path: &str) -> Read<Entry>
     ensures found { (v : Texts) → IfOk result (λ e. deploy v.of path.now (view value.now) ≡ Ok e) }
     ensures broken { (v : Texts) → IfRefused result
         (λ r. deploy v.of path.now (view value.now) ≡ Err r) }
@@ -60,7 +61,7 @@ fn deploy(alloc: Global, value: &Value, path: &str) -> Read<Entry>
                 (Option<[u64; 5]>, (Option<Mode>, (Option<Conditions>, ()))),
             ),
         ),
-    ) = object(alloc, value, path, Object::Deploy)?;
+    ) = object(alloc, known, value, path, Object::Deploy)?;
     Ok(Entry::Deploy {
         common: common(alloc, sender, limit, mode, post),
         name,
@@ -68,7 +69,7 @@ fn deploy(alloc: Global, value: &Value, path: &str) -> Read<Entry>
     })
 }
 
-fn call(alloc: Global, value: &Value, path: &str) -> Read<Entry>
+fn call(alloc: Global, known: &mut Addresses, value: &Value, path: &str) -> Read<Entry>
     ensures found { (v : Texts) → IfOk result (λ e. call v.of path.now (view value.now) ≡ Ok e) }
     ensures broken { (v : Texts) → IfRefused result
         (λ r. call v.of path.now (view value.now) ≡ Err r) }
@@ -85,7 +86,7 @@ fn call(alloc: Global, value: &Value, path: &str) -> Read<Entry>
                 ),
             ),
         ),
-    ) = object(alloc, value, path, Object::Call)?;
+    ) = object(alloc, known, value, path, Object::Call)?;
     Ok(Entry::Call {
         common: common(alloc, sender, limit, mode, post),
         contract: contract.principal,
@@ -94,21 +95,27 @@ fn call(alloc: Global, value: &Value, path: &str) -> Read<Entry>
     })
 }
 
-fn entry_by(alloc: Global, kind: Option<EntryKind>, value: &Value, path: &str) -> Read<Entry>
+fn entry_by(
+    alloc: Global,
+    known: &mut Addresses,
+    kind: Option<EntryKind>,
+    value: &Value,
+    path: &str,
+) -> Read<Entry>
     ensures found { (v : Texts) → IfOk result
         (λ e. entry_by kind v.of path.now (view value.now) ≡ Ok e) }
     ensures broken { (v : Texts) → IfRefused result
         (λ r. entry_by kind v.of path.now (view value.now) ≡ Err r) }
 {
     match kind {
-        Some(EntryKind::Block) => block(alloc, value, path),
-        Some(EntryKind::Deploy) => deploy(alloc, value, path),
-        Some(EntryKind::Call) => call(alloc, value, path),
+        Some(EntryKind::Block) => block(alloc, known, value, path),
+        Some(EntryKind::Deploy) => deploy(alloc, known, value, path),
+        Some(EntryKind::Call) => call(alloc, known, value, path),
         None => Err(lone_field(alloc, path)),
     }
 }
 
-fn lone_entry(alloc: Global, value: &Value, path: &str) -> Read<Entry>
+fn lone_entry(alloc: Global, known: &mut Addresses, value: &Value, path: &str) -> Read<Entry>
     ensures found { (v : Texts) → IfOk result
         (λ e. entry v.of path.now (view value.now) ≡ Ok e) }
     ensures broken { (v : Texts) → IfRefused result
@@ -118,7 +125,7 @@ fn lone_entry(alloc: Global, value: &Value, path: &str) -> Read<Entry>
         return Err(bad_value(alloc, path));
     };
     let path = below(alloc, path, name)?;
-    entry_by(alloc, entry_kind(name), value, path.as_str())
+    entry_by(alloc, known, entry_kind(name), value, path.as_str())
 }
 
 fn height_after(height: u64, entry: &Entry) -> u64
@@ -144,19 +151,30 @@ fn rising(alloc: Global, entry: Entry, height: u64, path: &str) -> Read<Entry>
     Ok(entry)
 }
 
-fn entry_after(alloc: Global, value: &Value, height: u64, path: &str) -> Read<Entry>
+fn entry_after(
+    alloc: Global,
+    known: &mut Addresses,
+    value: &Value,
+    height: u64,
+    path: &str,
+) -> Read<Entry>
     ensures found { (v : Texts) → IfOk result
         (λ e. entry_after v.of height path.now (view value.now) ≡ Ok e) }
     ensures broken { (v : Texts) → IfRefused result
         (λ r. entry_after v.of height path.now (view value.now) ≡ Err r) }
     ensures rises { IfOk result (λ e. height ≤ height_after height e) }
 {
-    let entry = lone_entry(alloc, value, path)?;
+    let entry = lone_entry(alloc, known, value, path)?;
     rising(alloc, entry, height, path)
 }
 
 /// The entries of an array at the path.
-pub(crate) fn entries(alloc: Global, list: &[Value], path: &str) -> Read<Vec<Entry>>
+pub(crate) fn entries(
+    alloc: Global,
+    known: &mut Addresses,
+    list: &[Value],
+    path: &str,
+) -> Read<Vec<Entry>>
     ensures found { (v : Texts) → IfOk result
         (λ es. each_from (entry_at v.of) path.now [] 0 (items_view list.now) ≡ Ok es.items) }
     ensures broken { (v : Texts) → IfRefused result
@@ -168,7 +186,7 @@ pub(crate) fn entries(alloc: Global, list: &[Value], path: &str) -> Read<Vec<Ent
     let mut height = 0;
     for i in 0..list.len() {
         let at = place(alloc, path, i)?;
-        let next = entry_after(alloc, &list[i], height, at.as_str())?;
+        let next = entry_after(alloc, known, &list[i], height, at.as_str())?;
         height = height_after(height, &next);
         read.push(next)?;
     }

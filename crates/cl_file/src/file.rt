@@ -5,6 +5,7 @@ ghost use Rattle.cl_types.specs.Fault.{IfRefused};
 ghost use Rattle.cl_file.specs.Objects.{Values, Texts, needed};
 ghost use Rattle.cl_file.specs.Files.{items, is_object, is_version_1, members_of, file_by, file_in, file_of, FileReads};
 
+use crate::addresses::Addresses;
 use crate::entries::entries;
 use crate::holders::{fits, holders};
 use crate::names::{Object, names_of};
@@ -52,20 +53,20 @@ fn is_object(value: &Value) -> bool
     value.as_object().is_some()
 }
 
-fn file_by(alloc: Global, genesis: &[Value], list: &[Value]) -> Read<TxFile>
+fn file_by(alloc: Global, known: &mut Addresses, genesis: &[Value], list: &[Value]) -> Read<TxFile>
     ensures found { (v : Texts) → IfOk result
         (λ f. file_by v.of (items_view genesis.now) (items_view list.now) ≡ Ok f) }
     ensures broken { (v : Texts) → IfRefused result
         (λ r. file_by v.of (items_view genesis.now) (items_view list.now) ≡ Err r) }
 {
-    let held = holders(alloc, genesis, "/genesis")?;
+    let held = holders(alloc, known, genesis, "/genesis")?;
     if !fits(&held) {
         return Err(Fault::Refused(TxRefusal::GenesisTooBig));
     }
     if list.len() > MOST_ENTRIES {
         return Err(Fault::Refused(TxRefusal::TooMany));
     }
-    let read = entries(alloc, list, "/entries")?;
+    let read = entries(alloc, known, list, "/entries")?;
     Ok(TxFile::new(held, read))
 }
 
@@ -77,7 +78,8 @@ fn members_of(alloc: Global, value: &Value) -> Read<TxFile>
     only(alloc, value, "", names_of(Object::File))?;
     let genesis = array(alloc, value, "", "genesis")?;
     let list = array(alloc, value, "", "entries")?;
-    file_by(alloc, genesis, list)
+    let mut known = Addresses::new(alloc)?;
+    file_by(alloc, &mut known, genesis, list)
 }
 
 #[tactic(auto, unfolding(crate::specs::Files::file_in))]

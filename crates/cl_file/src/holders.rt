@@ -8,6 +8,7 @@ ghost use Rattle.cl_file.specs.Objects.{Texts, plain, needed};
 ghost use Rattle.cl_file.specs.Files.{holds, AreOnce, new_holder, holder_at, total};
 ghost use Rattle.cl_post.specs.Post.{fitting};
 
+use crate::addresses::Addresses;
 use crate::kind::said;
 use crate::member::Member;
 use crate::names::{Object, names_of};
@@ -29,11 +30,11 @@ fn holds(holders: &Holders, principal: &Principal) -> bool
 }
 
 // A principal that holds nothing yet.
-fn new_holder(holders: &Holders, value: &Value) -> Option<Principal>
+fn new_holder(known: &mut Addresses, holders: &Holders, value: &Value) -> Option<Principal>
     ensures value { result ≡ new_holder holders.now.entries (view value.now) }
     ensures new { IfSome result (λ p. holds holders.now.entries p ≡ false) }
 {
-    match principal(value) {
+    match principal(known, value) {
         Some(principal) => {
             if holds(holders, &principal) {
                 None
@@ -45,7 +46,13 @@ fn new_holder(holders: &Holders, value: &Value) -> Option<Principal>
     }
 }
 
-fn holder_principal(alloc: Global, holders: &Holders, object: &Value, path: &str) -> Read<Principal>
+fn holder_principal(
+    alloc: Global,
+    known: &mut Addresses,
+    holders: &Holders,
+    object: &Value,
+    path: &str,
+) -> Read<Principal>
     ensures found { (v : Texts) → IfOk result
         (λ p. needed (plain (new_holder holders.now.entries)) v.of path.now (codes "principal") (view object.now) ≡ Ok p) }
     ensures broken { (v : Texts) → IfRefused result
@@ -53,12 +60,18 @@ fn holder_principal(alloc: Global, holders: &Holders, object: &Value, path: &str
     ensures new { IfOk result (λ p. holds holders.now.entries p ≡ false) }
 {
     match object.get("principal") {
-        Some(value) => said(alloc, new_holder(holders, value), path, "principal"),
+        Some(value) => said(alloc, new_holder(known, holders, value), path, "principal"),
         None => Err(field(alloc, path, "principal")),
     }
 }
 
-fn holder(alloc: Global, holders: &Holders, value: &Value, path: &str) -> Read<(Principal, u128)>
+fn holder(
+    alloc: Global,
+    known: &mut Addresses,
+    holders: &Holders,
+    value: &Value,
+    path: &str,
+) -> Read<(Principal, u128)>
     ensures found { (v : Texts) → IfOk result
         (λ h. holder_at v.of holders.now.entries path.now (view value.now) ≡ Ok h) }
     ensures broken { (v : Texts) → IfRefused result
@@ -66,8 +79,8 @@ fn holder(alloc: Global, holders: &Holders, value: &Value, path: &str) -> Read<(
     ensures new { IfOk result (λ h. holds holders.now.entries h.0 ≡ false) }
 {
     only(alloc, value, path, names_of(Object::Holder))?;
-    let principal = holder_principal(alloc, holders, value, path)?;
-    let amount: u128 = Member::read(alloc, value, path, "stx")?;
+    let principal = holder_principal(alloc, known, holders, value, path)?;
+    let amount: u128 = Member::read(alloc, known, value, path, "stx")?;
     Ok((principal, amount))
 }
 
@@ -105,7 +118,12 @@ fn grow(holders: &mut Holders, principal: Principal, amount: u128) -> Result<(),
 }
 
 /// The holders of an array at the path.
-pub(crate) fn holders(alloc: Global, list: &[Value], path: &str) -> Read<Holders>
+pub(crate) fn holders(
+    alloc: Global,
+    known: &mut Addresses,
+    list: &[Value],
+    path: &str,
+) -> Read<Holders>
     ensures found { (v : Texts) → IfOk result
         (λ h. each_from (holder_at v.of) path.now [] 0 (items_view list.now) ≡ Ok h.entries) }
     ensures broken { (v : Texts) → IfRefused result
@@ -115,7 +133,7 @@ pub(crate) fn holders(alloc: Global, list: &[Value], path: &str) -> Read<Holders
     let mut read = IndexMap::new(alloc);
     for i in 0..list.len() {
         let at = place(alloc, path, i)?;
-        let (principal, amount) = holder(alloc, &read, &list[i], at.as_str())?;
+        let (principal, amount) = holder(alloc, known, &read, &list[i], at.as_str())?;
         grow(&mut read, principal, amount)?;
     }
     Ok(read)

@@ -8,6 +8,7 @@ ghost use Rattle.cl_file.specs.Kinds.{mode, code, five, address, deployed_name, 
 ghost use Rattle.serde_json.specs.Find.{as_bool, as_str};
 
 use crate::Row;
+use crate::addresses::Addresses;
 use crate::literal::{amount, literal, literals};
 use crate::path::{Read, bad_member};
 use crate::spelling::{address, code, contract, deployed_name, five, mode, principal, token};
@@ -23,7 +24,13 @@ pub(crate) trait Kind: Sized + Drop {
     ghost reads: { AKind Self };
 
     /// Reads the value of the member with this name of the object at the path.
-    fn read_at(alloc: Global, value: &Value, path: &str, name: &str) -> Read<Self>
+    fn read_at(
+        alloc: Global,
+        known: &mut Addresses,
+        value: &Value,
+        path: &str,
+        name: &str,
+    ) -> Read<Self>
         ensures found { (v : Texts) → IfOk result
             (λ t. reads v.of (below path.now name.now) (view value.now) ≡ Ok t) }
         ensures broken { (v : Texts) → IfRefused result
@@ -52,7 +59,13 @@ pub(crate) fn said<T: Drop>(alloc: Global, says: Option<T>, path: &str, name: &s
 impl Kind for u64 {
     ghost reads = { plain whole };
 
-    fn read_at(alloc: Global, value: &Value, path: &str, name: &str) -> Read<Self> {
+    fn read_at(
+        alloc: Global,
+        _known: &mut Addresses,
+        value: &Value,
+        path: &str,
+        name: &str,
+    ) -> Read<Self> {
         said(alloc, value.as_u64(), path, name)
     }
 }
@@ -60,7 +73,13 @@ impl Kind for u64 {
 impl Kind for Mode {
     ghost reads = { plain mode };
 
-    fn read_at(alloc: Global, value: &Value, path: &str, name: &str) -> Read<Self> {
+    fn read_at(
+        alloc: Global,
+        _known: &mut Addresses,
+        value: &Value,
+        path: &str,
+        name: &str,
+    ) -> Read<Self> {
         said(alloc, mode(value), path, name)
     }
 }
@@ -68,7 +87,13 @@ impl Kind for Mode {
 impl Kind for Code5 {
     ghost reads = { plain code };
 
-    fn read_at(alloc: Global, value: &Value, path: &str, name: &str) -> Read<Self> {
+    fn read_at(
+        alloc: Global,
+        _known: &mut Addresses,
+        value: &Value,
+        path: &str,
+        name: &str,
+    ) -> Read<Self> {
         said(alloc, code(value), path, name)
     }
 }
@@ -76,7 +101,13 @@ impl Kind for Code5 {
 impl Kind for [u64; 5] {
     ghost reads = { plain five };
 
-    fn read_at(alloc: Global, value: &Value, path: &str, name: &str) -> Read<Self> {
+    fn read_at(
+        alloc: Global,
+        _known: &mut Addresses,
+        value: &Value,
+        path: &str,
+        name: &str,
+    ) -> Read<Self> {
         said(alloc, five(value), path, name)
     }
 }
@@ -84,15 +115,27 @@ impl Kind for [u64; 5] {
 impl Kind for Address {
     ghost reads = { plain address };
 
-    fn read_at(alloc: Global, value: &Value, path: &str, name: &str) -> Read<Self> {
-        said(alloc, address(value), path, name)
+    fn read_at(
+        alloc: Global,
+        known: &mut Addresses,
+        value: &Value,
+        path: &str,
+        name: &str,
+    ) -> Read<Self> {
+        said(alloc, address(known, value), path, name)
     }
 }
 
 impl Kind for ContractName {
     ghost reads = { plain deployed_name };
 
-    fn read_at(alloc: Global, value: &Value, path: &str, name: &str) -> Read<Self> {
+    fn read_at(
+        alloc: Global,
+        _known: &mut Addresses,
+        value: &Value,
+        path: &str,
+        name: &str,
+    ) -> Read<Self> {
         said(alloc, deployed_name(value), path, name)
     }
 }
@@ -100,23 +143,41 @@ impl Kind for ContractName {
 impl Kind for Principal {
     ghost reads = { plain principal };
 
-    fn read_at(alloc: Global, value: &Value, path: &str, name: &str) -> Read<Self> {
-        said(alloc, principal(value), path, name)
+    fn read_at(
+        alloc: Global,
+        known: &mut Addresses,
+        value: &Value,
+        path: &str,
+        name: &str,
+    ) -> Read<Self> {
+        said(alloc, principal(known, value), path, name)
     }
 }
 
 impl Kind for Contract {
     ghost reads = { plain contract };
 
-    fn read_at(alloc: Global, value: &Value, path: &str, name: &str) -> Read<Self> {
-        said(alloc, contract(value), path, name)
+    fn read_at(
+        alloc: Global,
+        known: &mut Addresses,
+        value: &Value,
+        path: &str,
+        name: &str,
+    ) -> Read<Self> {
+        said(alloc, contract(known, value), path, name)
     }
 }
 
 impl Kind for Name {
     ghost reads = { plain token };
 
-    fn read_at(alloc: Global, value: &Value, path: &str, name: &str) -> Read<Self> {
+    fn read_at(
+        alloc: Global,
+        _known: &mut Addresses,
+        value: &Value,
+        path: &str,
+        name: &str,
+    ) -> Read<Self> {
         said(alloc, token(value), path, name)
     }
 }
@@ -124,7 +185,13 @@ impl Kind for Name {
 impl Kind for bool {
     ghost reads = { plain as_bool };
 
-    fn read_at(alloc: Global, value: &Value, path: &str, name: &str) -> Read<Self> {
+    fn read_at(
+        alloc: Global,
+        _known: &mut Addresses,
+        value: &Value,
+        path: &str,
+        name: &str,
+    ) -> Read<Self> {
         said(alloc, value.as_bool(), path, name)
     }
 }
@@ -132,7 +199,13 @@ impl Kind for bool {
 impl Kind for u128 {
     ghost reads = { an_amount };
 
-    fn read_at(alloc: Global, value: &Value, path: &str, name: &str) -> Read<Self> {
+    fn read_at(
+        alloc: Global,
+        _known: &mut Addresses,
+        value: &Value,
+        path: &str,
+        name: &str,
+    ) -> Read<Self> {
         let says = amount(alloc, value)?;
         said(alloc, says, path, name)
     }
@@ -141,7 +214,13 @@ impl Kind for u128 {
 impl Kind for Val {
     ghost reads = { a_literal };
 
-    fn read_at(alloc: Global, value: &Value, path: &str, name: &str) -> Read<Self> {
+    fn read_at(
+        alloc: Global,
+        _known: &mut Addresses,
+        value: &Value,
+        path: &str,
+        name: &str,
+    ) -> Read<Self> {
         let says = literal(alloc, value)?;
         said(alloc, says, path, name)
     }
@@ -150,7 +229,13 @@ impl Kind for Val {
 impl Kind for Row<Val> {
     ghost reads = { some_literals };
 
-    fn read_at(alloc: Global, value: &Value, path: &str, name: &str) -> Read<Self> {
+    fn read_at(
+        alloc: Global,
+        _known: &mut Addresses,
+        value: &Value,
+        path: &str,
+        name: &str,
+    ) -> Read<Self> {
         let says = literals(alloc, value)?;
         said(alloc, says, path, name)
     }
@@ -168,7 +253,13 @@ fn text(alloc: Global, value: &Value) -> Result<Option<Row<u8>>, NoMemory>
 impl Kind for Row<u8> {
     ghost reads = { plain as_str };
 
-    fn read_at(alloc: Global, value: &Value, path: &str, name: &str) -> Read<Self> {
+    fn read_at(
+        alloc: Global,
+        _known: &mut Addresses,
+        value: &Value,
+        path: &str,
+        name: &str,
+    ) -> Read<Self> {
         let says = text(alloc, value)?;
         said(alloc, says, path, name)
     }

@@ -1,6 +1,7 @@
 //! The transaction file.
 #![tactic(auto)]
 
+mod addresses;
 mod condition;
 mod conditions;
 mod entries;

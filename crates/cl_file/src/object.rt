@@ -6,6 +6,7 @@ ghost use Rattle.cl_json.specs.Json.{unknown_member};
 ghost use Rattle.cl_file.specs.Names.{names_of};
 ghost use Rattle.cl_file.specs.Objects.{Texts, Table, no_more, and_more, only, object_by, sole, sole_in};
 
+use crate::addresses::Addresses;
 use crate::member::Member;
 use crate::names::{Object, names_of, split};
 use crate::path::{Read, bad_value, field};
@@ -34,7 +35,13 @@ pub(crate) fn only(alloc: Global, value: &Value, path: &str, names: &[&str]) -> 
 pub(crate) trait Members: Sized + Drop {
     ghost table: { Table Self };
 
-    fn read(alloc: Global, object: &Value, path: &str, names: &[&str]) -> Read<Self>
+    fn read(
+        alloc: Global,
+        known: &mut Addresses,
+        object: &Value,
+        path: &str,
+        names: &[&str],
+    ) -> Read<Self>
         ensures found { (v : Texts) → IfOk result
             (λ t. table v.of path.now (map (λ n. n.now) names.now) (view object.now) ≡ Ok t) }
         ensures broken { (v : Texts) → IfRefused result
@@ -44,7 +51,13 @@ pub(crate) trait Members: Sized + Drop {
 impl Members for () {
     ghost table = { no_more };
 
-    fn read(_alloc: Global, _object: &Value, _path: &str, _names: &[&str]) -> Read<Self> {
+    fn read(
+        _alloc: Global,
+        _known: &mut Addresses,
+        _object: &Value,
+        _path: &str,
+        _names: &[&str],
+    ) -> Read<Self> {
         Ok(())
     }
 }
@@ -52,12 +65,18 @@ impl Members for () {
 impl<A: Member, B: Members> Members for (A, B) {
     ghost table = { and_more A.member B.table };
 
-    fn read(alloc: Global, object: &Value, path: &str, names: &[&str]) -> Read<Self> {
+    fn read(
+        alloc: Global,
+        known: &mut Addresses,
+        object: &Value,
+        path: &str,
+        names: &[&str],
+    ) -> Read<Self> {
         let Some((name, names)) = split(names) else {
             return Err(bad_value(alloc, path));
         };
-        let first = A::read(alloc, object, path, name)?;
-        let rest = B::read(alloc, object, path, names)?;
+        let first = A::read(alloc, known, object, path, name)?;
+        let rest = B::read(alloc, known, object, path, names)?;
         Ok((first, rest))
     }
 }
@@ -65,6 +84,7 @@ impl<A: Member, B: Members> Members for (A, B) {
 /// Reads an object.
 pub(crate) fn object<T: Members>(
     alloc: Global,
+    known: &mut Addresses,
     value: &Value,
     path: &str,
     object: Object,
@@ -76,7 +96,7 @@ pub(crate) fn object<T: Members>(
 {
     let names = names_of(object);
     only(alloc, value, path, names)?;
-    T::read(alloc, value, path, names)
+    T::read(alloc, known, value, path, names)
 }
 
 fn sole_in<'v>(members: &'v Map<String, Value>) -> Option<(&'v str, &'v Value)>

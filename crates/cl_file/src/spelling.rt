@@ -6,8 +6,9 @@ ghost use Rattle.cl_c32.specs.Codec.{decoded};
 ghost use Rattle.cl_sexpr.specs.Leaf.{contract_principal, standard_principal};
 ghost use Rattle.cl_file.specs.Kinds.{mode_text, mode, code_text, code, five_in, five, address, principal, short_name, deployed_name, only_contract, contract, token_name, token};
 
+use crate::addresses::Addresses;
 use crate::kind::Contract;
-use cl_c32::{Address, ContractName, Principal, decode};
+use cl_c32::{Address, ContractName, Principal};
 use cl_post::{Code5, Mode};
 use cl_types::Name;
 use serde_json::Value;
@@ -77,11 +78,11 @@ pub(crate) fn five(value: &Value) -> Option<[u64; 5]>
     }
 }
 
-pub(crate) fn address(value: &Value) -> Option<Address>
+pub(crate) fn address(known: &mut Addresses, value: &Value) -> Option<Address>
     ensures { result ≡ address (view value.now) }
 {
     match value.as_str() {
-        Some(text) => decode(text.as_bytes()).ok(),
+        Some(text) => known.decode(text.as_bytes()).ok(),
         None => None,
     }
 }
@@ -99,10 +100,10 @@ fn contract_name(bytes: &[u8]) -> Option<ContractName>
     ContractName::make(bytes)
 }
 
-fn standard_principal(text: &[u8]) -> Option<Principal>
+fn standard_principal(known: &mut Addresses, text: &[u8]) -> Option<Principal>
     ensures { result ≡ standard_principal (decoded text.now) }
 {
-    match decode(text) {
+    match known.decode(text) {
         Ok(address) => Some(Principal {
             address,
             contract: None,
@@ -111,10 +112,10 @@ fn standard_principal(text: &[u8]) -> Option<Principal>
     }
 }
 
-fn contract_principal(address: &[u8], name: &[u8]) -> Option<Principal>
+fn contract_principal(known: &mut Addresses, address: &[u8], name: &[u8]) -> Option<Principal>
     ensures { result ≡ contract_principal (decoded address.now) (contract_name name.now) }
 {
-    match decode(address) {
+    match known.decode(address) {
         Ok(address) => match contract_name(name) {
             Some(name) => Some(Principal {
                 address,
@@ -127,20 +128,20 @@ fn contract_principal(address: &[u8], name: &[u8]) -> Option<Principal>
 }
 
 #[tactic(auto, unfolding(cl_sexpr::specs::Leaf::principal_of))]
-fn principal_of(text: &[u8]) -> Option<Principal>
+fn principal_of(known: &mut Addresses, text: &[u8]) -> Option<Principal>
     ensures { result ≡ principal_of text.now }
 {
     match dot(text) {
-        Some(dot) => contract_principal(&text[..dot], &text[dot + 1..]),
-        None => standard_principal(text),
+        Some(dot) => contract_principal(known, &text[..dot], &text[dot + 1..]),
+        None => standard_principal(known, text),
     }
 }
 
-pub(crate) fn principal(value: &Value) -> Option<Principal>
+pub(crate) fn principal(known: &mut Addresses, value: &Value) -> Option<Principal>
     ensures { result ≡ principal (view value.now) }
 {
     match value.as_str() {
-        Some(text) => principal_of(text.as_bytes()),
+        Some(text) => principal_of(known, text.as_bytes()),
         None => None,
     }
 }
@@ -173,10 +174,10 @@ fn only_contract(principal: Principal) -> Option<Contract>
     }
 }
 
-pub(crate) fn contract(value: &Value) -> Option<Contract>
+pub(crate) fn contract(known: &mut Addresses, value: &Value) -> Option<Contract>
     ensures { result ≡ contract (view value.now) }
 {
-    match principal(value) {
+    match principal(known, value) {
         Some(principal) => only_contract(principal),
         None => None,
     }
