@@ -5,12 +5,13 @@ ghost use Rattle.cl_text.specs.Printed.{printed};
 ghost use Rattle.cl_report.specs.Events.{event_line};
 ghost use Rattle.cl_report.specs.Lines.{outcome_text, entry_text, entry_line, event_lines, lines_of};
 
+use crate::addresses::AddressCache;
 use crate::costs::{write_bounds, write_cost};
 use crate::events::write_event;
 use crate::refusals::{stop_text, write_entry_refusal};
 use cl_c32::Principal;
 use cl_events::Event;
-use cl_text::{print_principal, print_value};
+use cl_text::print_value;
 use cl_tx::{Entry, Outcome, TxResult};
 use cl_types::NoMemory;
 use cl_values::Val;
@@ -58,7 +59,12 @@ fn write_height(out: &mut Vec<u8>, alloc: Global, height: u64) -> Result<(), NoM
 }
 
 #[tactic(auto, unfolding(crate::specs::Lines::entry_text))]
-fn write_entry(out: &mut Vec<u8>, alloc: Global, entry: &Entry) -> Result<(), NoMemory>
+fn write_entry(
+    out: &mut Vec<u8>,
+    alloc: Global,
+    addresses: &mut AddressCache,
+    entry: &Entry,
+) -> Result<(), NoMemory>
     ensures { IfOk result (λ _. out.new.items ≡ out.old.items ++ entry_text entry.now) }
 {
     match entry {
@@ -67,9 +73,8 @@ fn write_entry(out: &mut Vec<u8>, alloc: Global, entry: &Entry) -> Result<(), No
                 address: common.sender,
                 contract: Some(*name),
             };
-            let text = print_principal(alloc, &contract)?;
             out.extend_from_slice(b" deploy ")?;
-            out.extend_from_slice(&text)?;
+            addresses.write_principal(out, &contract)?;
             out.extend_from_slice(b" ")?;
         }
         Entry::Call {
@@ -77,9 +82,8 @@ fn write_entry(out: &mut Vec<u8>, alloc: Global, entry: &Entry) -> Result<(), No
             function,
             ..
         } => {
-            let text = print_principal(alloc, contract)?;
             out.extend_from_slice(b" call ")?;
-            out.extend_from_slice(&text)?;
+            addresses.write_principal(out, contract)?;
             out.extend_from_slice(b" ")?;
             out.extend_from_slice(function.as_slice())?;
             out.extend_from_slice(b" ")?;
@@ -93,6 +97,7 @@ fn write_entry(out: &mut Vec<u8>, alloc: Global, entry: &Entry) -> Result<(), No
 fn write_first(
     out: &mut Vec<u8>,
     alloc: Global,
+    addresses: &mut AddressCache,
     number: u32,
     entry: &Entry,
     outcome: &Outcome,
@@ -101,17 +106,22 @@ fn write_first(
 {
     let text = format!(in alloc; "{number}")?;
     out.extend_from_slice(text.as_bytes())?;
-    write_entry(out, alloc, entry)?;
+    write_entry(out, alloc, addresses, entry)?;
     write_outcome(out, alloc, outcome)?;
     out.extend_from_slice(b"\n")?;
     Ok(())
 }
 
-fn write_each(out: &mut Vec<u8>, alloc: Global, events: &[Event]) -> Result<(), NoMemory>
+fn write_each(
+    out: &mut Vec<u8>,
+    alloc: Global,
+    addresses: &mut AddressCache,
+    events: &[Event],
+) -> Result<(), NoMemory>
     ensures { IfOk result (λ _. out.new.items ≡ out.old.items ++ flat_map event_line events.now) }
 {
     for event in events {
-        write_event(out, alloc, event)?;
+        write_event(out, alloc, addresses, event)?;
     }
     Ok(())
 }
@@ -120,20 +130,22 @@ fn write_each(out: &mut Vec<u8>, alloc: Global, events: &[Event]) -> Result<(), 
 fn write_events(
     out: &mut Vec<u8>,
     alloc: Global,
+    addresses: &mut AddressCache,
     outcome: &Outcome,
     events: &[Event],
 ) -> Result<(), NoMemory>
     ensures { IfOk result (λ _. out.new.items ≡ out.old.items ++ event_lines outcome.now events.now) }
 {
     match outcome {
-        Outcome::Done | Outcome::Good(_) | Outcome::Plain(_) => write_each(out, alloc, events),
+        Outcome::Done | Outcome::Good(_) | Outcome::Plain(_) => {
+            write_each(out, alloc, addresses, events)
+        }
         Outcome::Moved | Outcome::Bad(_) | Outcome::Aborted(_) | Outcome::Refused(_) => Ok(()),
     }
 }
 
 /// The lines of an entry with its number, counted from 0, and its result: what became of it, what it cost, the bounds of a
 /// contract that was accepted, and the events of what was committed; of a block the height alone. Each line ends with LF.
-#[tactic(auto, unfolding(crate::specs::Lines::lines_of))]
 pub fn lines(
     alloc: Global,
     number: u32,
@@ -142,10 +154,31 @@ pub fn lines(
 ) -> Result<Vec<u8>, NoMemory>
     ensures { IfOk result (λ text. text.items ≡ lines_of number entry.now given.now) }
 {
+    let mut addresses = AddressCache::without_slots(alloc);
+    lines_with(alloc, &mut addresses, number, entry, given)
+}
+
+/// The same lines as those of `lines`, by the texts of addresses that are kept from entry to entry.
+#[tactic(auto, unfolding(crate::specs::Lines::lines_of))]
+pub fn lines_with(
+    alloc: Global,
+    addresses: &mut AddressCache,
+    number: u32,
+    entry: &Entry,
+    given: &TxResult,
+) -> Result<Vec<u8>, NoMemory>
+    ensures { IfOk result (λ text. text.items ≡ lines_of number entry.now given.now) }
+{
     let mut out = Vec::new(alloc);
-    write_first(&mut out, alloc, number, entry, &given.outcome)?;
+    write_first(&mut out, alloc, addresses, number, entry, &given.outcome)?;
     write_cost(&mut out, alloc, &given.cost)?;
     write_bounds(&mut out, alloc, &given.bounds, given.types.as_slice())?;
-    write_events(&mut out, alloc, &given.outcome, given.events.as_slice())?;
+    write_events(
+        &mut out,
+        alloc,
+        addresses,
+        &given.outcome,
+        given.events.as_slice(),
+    )?;
     Ok(out)
 }

@@ -2,9 +2,10 @@
 ghost use Rattle.std.specs.Prelude.{◌≡◌, ◌++◌, IfOk, string_bytes};
 ghost use Rattle.cl_report.specs.Events.{amount_text, name_text, value_text, who_text, word_of, details, event_line};
 
+use crate::addresses::AddressCache;
 use cl_c32::Principal;
 use cl_events::{Event, EventKind};
-use cl_text::{print_principal, print_value};
+use cl_text::print_value;
 use cl_types::{Name, NoMemory};
 use cl_values::Val;
 use std::alloc::Global;
@@ -35,25 +36,27 @@ pub(crate) fn write_value(out: &mut Vec<u8>, alloc: Global, value: &Val) -> Resu
     Ok(())
 }
 
-pub(crate) fn write_who(out: &mut Vec<u8>, alloc: Global, who: &Principal) -> Result<(), NoMemory>
+pub(crate) fn write_who(
+    out: &mut Vec<u8>,
+    addresses: &mut AddressCache,
+    who: &Principal,
+) -> Result<(), NoMemory>
     ensures { IfOk result (λ _. out.new.items ≡ out.old.items ++ who_text who.now) }
 {
-    let text = print_principal(alloc, who)?;
     out.extend_from_slice(b" ")?;
-    out.extend_from_slice(&text)?;
-    Ok(())
+    addresses.write_principal(out, who)
 }
 
 fn write_two(
     out: &mut Vec<u8>,
-    alloc: Global,
+    addresses: &mut AddressCache,
     from: &Principal,
     to: &Principal,
 ) -> Result<(), NoMemory>
     ensures { IfOk result (λ _. out.new.items ≡ out.old.items ++ (who_text from.now ++ who_text to.now)) }
 {
-    write_who(out, alloc, from)?;
-    write_who(out, alloc, to)
+    write_who(out, addresses, from)?;
+    write_who(out, addresses, to)
 }
 
 fn write_token(out: &mut Vec<u8>, alloc: Global, token: &Name, amount: u128) -> Result<(), NoMemory>
@@ -88,14 +91,19 @@ fn word_of(kind: &EventKind) -> &'static str
 }
 
 #[tactic(auto, unfolding(crate::specs::Events::details))]
-fn write_details(out: &mut Vec<u8>, alloc: Global, kind: &EventKind) -> Result<(), NoMemory>
+fn write_details(
+    out: &mut Vec<u8>,
+    alloc: Global,
+    addresses: &mut AddressCache,
+    kind: &EventKind,
+) -> Result<(), NoMemory>
     ensures { IfOk result (λ _. out.new.items ≡ out.old.items ++ details kind.now) }
 {
     match kind {
         EventKind::Print(value) => write_value(out, alloc, value),
         EventKind::FtMint { token, amount, to } => {
             write_token(out, alloc, token, *amount)?;
-            write_who(out, alloc, to)
+            write_who(out, addresses, to)
         }
         EventKind::FtTransfer {
             token,
@@ -104,7 +112,7 @@ fn write_details(out: &mut Vec<u8>, alloc: Global, kind: &EventKind) -> Result<(
             to,
         } => {
             write_token(out, alloc, token, *amount)?;
-            write_two(out, alloc, from, to)
+            write_two(out, addresses, from, to)
         }
         EventKind::FtBurn {
             token,
@@ -112,11 +120,11 @@ fn write_details(out: &mut Vec<u8>, alloc: Global, kind: &EventKind) -> Result<(
             from,
         } => {
             write_token(out, alloc, token, *amount)?;
-            write_who(out, alloc, from)
+            write_who(out, addresses, from)
         }
         EventKind::NftMint { token, id, to } => {
             write_asset(out, alloc, token, id)?;
-            write_who(out, alloc, to)
+            write_who(out, addresses, to)
         }
         EventKind::NftTransfer {
             token,
@@ -125,31 +133,36 @@ fn write_details(out: &mut Vec<u8>, alloc: Global, kind: &EventKind) -> Result<(
             to,
         } => {
             write_asset(out, alloc, token, id)?;
-            write_two(out, alloc, from, to)
+            write_two(out, addresses, from, to)
         }
         EventKind::NftBurn { token, id, from } => {
             write_asset(out, alloc, token, id)?;
-            write_who(out, alloc, from)
+            write_who(out, addresses, from)
         }
         EventKind::StxTransfer { amount, from, to } => {
             write_amount(out, alloc, *amount)?;
-            write_two(out, alloc, from, to)
+            write_two(out, addresses, from, to)
         }
         EventKind::StxBurn { amount, from } => {
             write_amount(out, alloc, *amount)?;
-            write_who(out, alloc, from)
+            write_who(out, addresses, from)
         }
     }
 }
 
 /// Writes the line of an event.
 #[tactic(auto, unfolding(crate::specs::Events::event_line))]
-pub(crate) fn write_event(out: &mut Vec<u8>, alloc: Global, event: &Event) -> Result<(), NoMemory>
+pub(crate) fn write_event(
+    out: &mut Vec<u8>,
+    alloc: Global,
+    addresses: &mut AddressCache,
+    event: &Event,
+) -> Result<(), NoMemory>
     ensures { IfOk result (λ _. out.new.items ≡ out.old.items ++ event_line event.now) }
 {
     out.extend_from_slice(word_of(&event.kind).as_bytes())?;
-    write_who(out, alloc, &event.contract)?;
-    write_details(out, alloc, &event.kind)?;
+    write_who(out, addresses, &event.contract)?;
+    write_details(out, alloc, addresses, &event.kind)?;
     out.extend_from_slice(b"\n")?;
     Ok(())
 }
@@ -158,7 +171,8 @@ pub(crate) fn write_event(out: &mut Vec<u8>, alloc: Global, event: &Event) -> Re
 pub fn event_line(alloc: Global, event: &Event) -> Result<Vec<u8>, NoMemory>
     ensures { IfOk result (λ line. line.items ≡ event_line event.now) }
 {
+    let mut addresses = AddressCache::without_slots(alloc);
     let mut line = Vec::new(alloc);
-    write_event(&mut line, alloc, event)?;
+    write_event(&mut line, alloc, &mut addresses, event)?;
     Ok(line)
 }

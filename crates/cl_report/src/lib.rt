@@ -1,6 +1,7 @@
 //! The text of the report.
 #![tactic(auto)]
 
+mod addresses;
 mod checks;
 mod costs;
 mod entries;
@@ -9,8 +10,9 @@ mod laws;
 mod refusals;
 mod state;
 
+pub use addresses::AddressCache;
 pub use checks::{accepted_lines, refused_line};
-pub use entries::lines;
+pub use entries::{lines, lines_with};
 pub use events::event_line;
 pub use laws::a_state_has_one_text;
 pub use state::state_lines;

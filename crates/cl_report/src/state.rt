@@ -4,6 +4,7 @@ ghost use Rattle.cl_report.specs.StateLines.{IsStateText, ended};
 ghost use Rattle.cl_report.specs.RowLines.{row_word, contract_part, name_part, key_part, row_line};
 ghost use Rattle.cl_report.specs.LineSets.{IsSetOf};
 
+use crate::addresses::AddressCache;
 use crate::events::{write_name, write_value, write_who};
 use cl_c32::Principal;
 use cl_state::{RowKind, StateRow, World};
@@ -28,13 +29,13 @@ fn row_word(kind: RowKind) -> &'static str
 
 fn write_contract(
     out: &mut Vec<u8>,
-    alloc: Global,
+    addresses: &mut AddressCache,
     contract: &Option<Principal>,
 ) -> Result<(), NoMemory>
     ensures { IfOk result (λ _. out.new.items ≡ out.old.items ++ contract_part contract.now) }
 {
     match contract {
-        Some(contract) => write_who(out, alloc, contract),
+        Some(contract) => write_who(out, addresses, contract),
         None => Ok(()),
     }
 }
@@ -58,23 +59,31 @@ fn write_key(out: &mut Vec<u8>, alloc: Global, key: &Option<Val>) -> Result<(), 
 }
 
 #[tactic(auto, unfolding(crate::specs::RowLines::row_line))]
-fn row_line(alloc: Global, row: &StateRow) -> Result<Vec<u8>, NoMemory>
+fn row_line(
+    alloc: Global,
+    addresses: &mut AddressCache,
+    row: &StateRow,
+) -> Result<Vec<u8>, NoMemory>
     ensures { IfOk result (λ line. line.items ≡ row_line row.now) }
 {
     let mut line = Vec::from_slice(alloc, row_word(row.kind).as_bytes())?;
-    write_contract(&mut line, alloc, &row.contract)?;
+    write_contract(&mut line, addresses, &row.contract)?;
     write_name_part(&mut line, &row.name)?;
     write_key(&mut line, alloc, &row.key)?;
     write_value(&mut line, alloc, &row.value)?;
     Ok(line)
 }
 
-fn row_lines(alloc: Global, rows: &[StateRow]) -> Result<BTreeSet<Vec<u8>>, NoMemory>
+fn row_lines(
+    alloc: Global,
+    addresses: &mut AddressCache,
+    rows: &[StateRow],
+) -> Result<BTreeSet<Vec<u8>>, NoMemory>
     ensures { IfOk result (λ lines. IsSetOf (map (λ r. row_line r) rows.now) (map (λ line. line.items) lines.keys)) }
 {
     let mut lines = BTreeSet::new(alloc);
     for row in rows {
-        let line = row_line(alloc, row)?;
+        let line = row_line(alloc, addresses, row)?;
         lines.insert(line)?;
     }
     Ok(lines)
@@ -96,6 +105,7 @@ pub fn state_lines(alloc: Global, world: &World) -> Result<Vec<u8>, NoMemory>
     ensures { IfOk result (λ text. IsStateText world.now.stack.top text.items) }
 {
     let rows = world.rows()?;
-    let lines = row_lines(alloc, &rows)?;
+    let mut addresses = AddressCache::new(alloc)?;
+    let lines = row_lines(alloc, &mut addresses, &rows)?;
     ended(alloc, &lines)
 }
