@@ -172,7 +172,18 @@ pub fn event_line(alloc: Global, event: &Event) -> Result<Vec<u8>, NoMemory>
     ensures { IfOk result (λ line. line.items ≡ event_line event.now) }
 {
     let mut addresses = AddressCache::without_slots(alloc);
+    event_line_with(alloc, &mut addresses, event)
+}
+
+/// The same line as that of `event_line`, by the texts of addresses that are kept from event to event.
+pub fn event_line_with(
+    alloc: Global,
+    addresses: &mut AddressCache,
+    event: &Event,
+) -> Result<Vec<u8>, NoMemory>
+    ensures { IfOk result (λ line. line.items ≡ event_line event.now) }
+{
     let mut line = Vec::new(alloc);
-    write_event(&mut line, alloc, &mut addresses, event)?;
+    write_event(&mut line, alloc, addresses, event)?;
     Ok(line)
 }

@@ -13,6 +13,6 @@ mod state;
 pub use addresses::AddressCache;
 pub use checks::{accepted_lines, refused_line};
 pub use entries::{lines, lines_with};
-pub use events::event_line;
+pub use events::{event_line, event_line_with};
 pub use laws::a_state_has_one_text;
 pub use state::state_lines;
