@@ -3,6 +3,7 @@
 #![tactic(auto)]
 
 mod fault;
+mod hearing;
 mod member;
 mod trial;
 

@@ -1,5 +1,6 @@
-//! A case is run over files and a sink in memory.
+//! A case is run over files, a sink and listeners in memory.
 use crate::fault::BadCase;
+use crate::hearing::{is_heard, recorders};
 use crate::member::{bytes, number, numbers, texts, words};
 use cl_app::clarity;
 use cl_json::unknown_member;
@@ -10,7 +11,7 @@ use std::alloc::Global;
 /// The room of a sink, where the case says none.
 const ROOM: u32 = 100_000;
 
-const MEMBERS: [&str; 12] = [
+const MEMBERS: [&str; 15] = [
     "about",
     "cases",
     "name",
@@ -18,11 +19,14 @@ const MEMBERS: [&str; 12] = [
     "files",
     "failing_reads",
     "failing_writes",
+    "failing_hearings",
     "room",
     "status",
     "output",
     "start",
     "asked",
+    "heard",
+    "deaf",
 ];
 
 /// A case of a theme. What it leaves out is as the theme says.
@@ -129,10 +133,12 @@ pub(crate) fn run(rt: &HostRuntime, case: Case) -> Result<Ended, BadCase> {
     let words = words(rt, case.get("words"))?;
     let mut files = files_of(rt, case)?;
     let mut out = sink_of(alloc, case)?;
-    let status = clarity(alloc, &words, &mut files, &mut out);
+    let mut listeners = recorders(alloc, case.get("failing_hearings"))?;
+    let status = clarity(alloc, &words, &mut files, &mut out, &mut listeners);
     let is_as_wanted = is_status(case, status)?
         && is_output(rt, case, out.bytes())?
-        && is_asked(alloc, case, files.asked())?;
+        && is_asked(alloc, case, files.asked())?
+        && is_heard(rt, &listeners, case.get("heard"), case.get("deaf"))?;
     Ok(Ended {
         is_as_wanted,
         status,

@@ -1,12 +1,19 @@
 pub mod Reached
+pub mod Telling
+pub mod Counted
 pub mod Called
 pub mod Components
 pub mod SameTexts
+pub mod Digits
 pub mod WordSources
 pub mod Returned
 pub mod Judged
 pub mod ReadSo
+pub mod HeardSo
+pub mod Replied
+pub mod Stopped
 pub mod RunSo
 pub mod Once
+mod Alone
 pub mod Arguments
 pub mod Spellings

@@ -3,6 +3,7 @@ use Rattle.std.proofs.Common.{◌≡◌, ℕ, List, [], ◌∷◌, ◌++◌, len
 use Rattle.std.specs.Prelude.{Option, Some, None, Result}
 use Rattle.cl_ports.specs.Files.{Held, content_of}
 use Rattle.cl_ports.specs.Growth.{GrowsPart}
+use Rattle.cl_ports.proofs.Grown.{part_next}
 use Rattle.cl_shapes.specs.Names.{unit_function}
 use Rattle.cl_c32.specs.Address.{AddressParts}
 use Rattle.cl_shapes.specs.declared.function.CostFn.{CostFn}
@@ -26,8 +27,9 @@ use Rattle.cl_tx.specs.Nodes.{NodeSeen}
 use Rattle.cl_tx.specs.Step.{told_of}
 use Rattle.cl_report.specs.Lines.{report_from}
 use Rattle.cl_report.specs.StateLines.{IsStateText}
+use Rattle.cl_app.specs.declared.pieces.Reply.{Reply}
 use Rattle.cl_app.specs.declared.sources.Source.{Source}
-use Rattle.cl_app.specs.Words.{Command, Call, Run, Check, Value, Wire}
+use Rattle.cl_app.specs.Words.{Command, Call, Run, Check, Value, Wire, Gen}
 use Rattle.cl_app.specs.Argument.{Arguments, before, from_word, Spell}
 use Rattle.cl_app.specs.Spelling.{Answer, wire_answer}
 use Rattle.cl_app.specs.Called.{deployment, call, called_answer, IsCalled}
@@ -35,7 +37,9 @@ use Rattle.cl_app.specs.Ran.{IsStatePart, IsRun, IsRunOf, IsRan, IsRanUnder, IsR
 use Rattle.cl_app.specs.Answer.{IsArgumentsAnswer, IsCallAnswer, IsAnswerTo, arguments_named}
 use Rattle.cl_app.specs.Checked.{IsAnswerUnder, IsCheckAnswer, IsReport, IsSourcesAnswer, Sources, accepted_answer, refused_answer, sources_under}
 use Rattle.cl_app.specs.FileAnswers.{IsAnswerByLength, IsFileAnswer, is_long}
+use Rattle.cl_app.specs.Reply.{bytes_of, Completes}
 use Rattle.cl_app.specs.Top.{IsAnswer, AnswersPart, AsksPart}
+use Rattle.cl_app.proofs.Counted.{generated_same}
 
 abbrev pub OneOutcome : Type 0
 OneOutcome = (text : List ℕ) (a b : Outcome) → Parses text a → Parses text b → a ≡ b
@@ -169,11 +173,14 @@ answer_same laws (Some (Run costs file state)) files x y p q = run_answer_same l
 answer_same laws (Some (Check costs address paths)) files x y p q = check_same laws.sources files costs address paths x y p q
 answer_same laws (Some (Value word)) files x y p q = p ∙ sym q
 answer_same laws (Some (Wire word)) files x y p q = p.2 ∙ ap wire_answer (laws.outcome word p.0 q.0 p.1 q.1) ∙ sym q.2
+answer_same laws (Some (Gen seed count)) files x y p q = generated_same laws.run seed count x y p q
 
--- a first part of an answer's bytes is one of every answer's
-pub part_of_answer : OneOfEach → (command : Option Command) (held : Option Held) (before now : Option (List ℕ)) (reply : Answer) → IsAnswer command held reply → GrowsPart before now reply.bytes → AnswersPart command held before now
-part_of_answer laws command held before now reply is part =
-    record { told = λ files answer h is_answer. subst (λ (a : Answer). GrowsPart before now a.bytes) (answer_same laws command files reply answer (is.told files h) is_answer) part }
+-- what was written, and a part of the pieces behind it, is a first part of every answer
+pub part_of_answer : OneOfEach → (command : Option Command) (held : Option Held) (before between now : Option (List ℕ)) (reply : Reply) → Completes (IsAnswer command held) before between reply → GrowsPart between now (bytes_of reply.pieces.items) → AnswersPart command held before now
+part_of_answer laws command held before between now reply completes part =
+    let whole : Answer = record { bytes = completes.front ++ bytes_of reply.pieces.items; status = reply.status } in
+    let written = part_next before between now completes.front (bytes_of reply.pieces.items) completes.written part in
+    record { told = λ files answer h is_answer. subst (λ (a : Answer). GrowsPart before now a.bytes) (answer_same laws command files whole answer (completes.is_answer.told files h) is_answer) written }
 
 -- the file alone is asked for where the words are values
 pub asks_file : OneOutcome → (file function : List ℕ) (words : List (List ℕ)) (values : List Tree) (held : Option Held) (before now : Option (List (List ℕ))) → Spell words (Ok values) → GrowsPart before now (file ∷ []) → AsksPart (Some (Call file function words)) held before now

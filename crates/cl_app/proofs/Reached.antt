@@ -1,12 +1,12 @@
--- One more entry, and its lines.
-use Rattle.std.proofs.Common.{◌≡◌, ℕ, zero, suc, ◌+◌, ◌<◌, ◌≤◌, List, Vec, Global, [], ◌∷◌, ◌++◌, length, take, get_or, map, refl, sym, ap, subst, ◌∙◌, append_assoc, append-nil, length-take, arith}
-use Rattle.std.proofs.lemmas.List.{take_more}
-use Rattle.std.proofs.lemmas.Grind.{flat_map-append}
+-- One more entry.
+use Rattle.std.proofs.Common.{◌≡◌, ℕ, zero, suc, ◌<◌, ◌≤◌, List, [], ◌∷◌, ◌++◌, length, take, get_or, map, refl, sym, ap, subst, ◌∙◌, arith}
+use Rattle.std.proofs.lemmas.List.Elements.{All-nil, All-cons}
 use Rattle.cl_c32.specs.declared.principal.Principal.{Principal}
 use Rattle.cl_shapes.specs.declared.function.CostFn.{CostFn}
 use Rattle.cl_shapes.specs.declared.name.CostName.{CostName}
 use Rattle.cl_shapes.specs.Names.{cost_names, unit_function}
 use Rattle.cl_costs.specs.Tables.{function_of, unit_table}
+use Rattle.cl_values.specs.Valid.{IsPrincipal}
 use Rattle.cl_meaning.specs.Limits.{Costs}
 use Rattle.cl_file.specs.Entries.{height_after, height_of, NeverFall}
 use Rattle.cl_file.specs.declared.entry.Entry.{Entry}
@@ -14,15 +14,15 @@ use Rattle.cl_tx.specs.Laws.{HeightIsLast}
 use Rattle.cl_tx.specs.declared.outcome.TxResult.{TxResult}
 use Rattle.cl_tx.specs.Nodes.{NodeSeen, Stepped}
 use Rattle.cl_tx.specs.Step.{Steps, AllStep, Runs, first_node}
+use Rattle.cl_node_sound.specs.Laws.{RunsStayWithin}
+use Rattle.cl_node_sound.specs.Sound.{HasParts}
 use Rattle.cl_engine.specs.Seen.{Seen, costs_of}
 use Rattle.cl_engine.specs.Laws.{OneNode}
 use Rattle.cl_engine.specs.Steps.{Makes}
-use Rattle.cl_report.specs.Lines.{lines_of, report_from}
 use Rattle.cl_app.specs.declared.call.Both.{Both}
 use Rattle.cl_app.specs.declared.entries.End.{End}
-use Rattle.cl_app.specs.Entries.{IsFirst, Ends, Reaches, Reports}
+use Rattle.cl_app.specs.Entries.{IsFirst, Ends, Reaches}
 use Rattle.cl_app.specs.Both.{AreBoth}
-use Rattle.cl_app.specs.Reply.{bytes_of}
 
 -- the holders of STX before all entries
 abbrev Holders : Type 0
@@ -32,7 +32,7 @@ Holders = List (Principal × ℕ)
 abbrev pub ByName : Type 0
 ByName = (f : CostName → CostFn) (name : CostName) → function_of (map f cost_names) name ≡ f name
 
-unit_costs : ByName → function_of unit_table ≡ unit_function
+pub unit_costs : ByName → function_of unit_table ≡ unit_function
 unfolding unit_table
 unit_costs by_name = λ i. λ name. by_name unit_function name i
 
@@ -42,13 +42,8 @@ all_then costs node [] rs m e s all step =
 all_then costs node (f ∷ es) rs m e s all step =
     (all.0, all.1 ++ s.result ∷ [], all.2, all_then costs all.0.node es all.1 m e s all.3 step, ap (λ (r : List TxResult). r ++ s.result ∷ []) all.4)
 
--- each entry has its result
-each_result : (costs : Costs) (node : NodeSeen) (es : List Entry) (rs : List TxResult) (m : NodeSeen) → AllStep costs node es rs m → length es ≡ length rs
-each_result costs node [] rs m all = sym (ap length all.0)
-each_result costs node (e ∷ es) rs m all = ap suc (each_result costs all.0.node es all.1 m all.3) ∙ sym (ap length all.4)
-
 -- the first node, before all entries
-reaches_first : (table : List CostFn) (holders : Holders) (n : Seen) → IsFirst table holders n → Reaches table holders [] [] n
+pub reaches_first : (table : List CostFn) (holders : Holders) (n : Seen) → IsFirst table holders n → Reaches table holders [] [] n
 reaches_first table holders n is = subst (Reaches table holders [] []) (sym is) (record {
   node = first_node holders;
   is_node = record { known = refl; is = refl };
@@ -56,7 +51,7 @@ reaches_first table holders n is = subst (Reaches table holders [] []) (sym is) 
   runs = record { steps = (refl, refl) };
 })
 
-reaches_next : OneNode → (table : List CostFn) (holders : Holders) (es : List Entry) (rs : List TxResult) (n m : Seen) (e : Entry) (r : TxResult) → Reaches table holders es rs n → Makes n e r m → m.costs ≡ n.costs → Reaches table holders (es ++ e ∷ []) (rs ++ r ∷ []) m
+pub reaches_next : OneNode → (table : List CostFn) (holders : Holders) (es : List Entry) (rs : List TxResult) (n m : Seen) (e : Entry) (r : TxResult) → Reaches table holders es rs n → Makes n e r m → m.costs ≡ n.costs → Reaches table holders (es ++ e ∷ []) (rs ++ r ∷ []) m
 reaches_next one table holders es rs n m e r so_far makes kept =
     let s : Stepped = record { node = makes.to; result = r } in
     let from : makes.from ≡ so_far.node = one n makes.from so_far.node makes.is_from so_far.is_node in
@@ -101,55 +96,22 @@ second_may law one_node a b n m end text is rises one =
     let here : 1 < 2 = omega arith in
     may_follow law unit_table [] (a ∷ b ∷ []) (one.result ∷ []) m 1 b here refl rises (first_reached one_node a n m end text is one)
 
-pub both_end : OneNode → ByName → (a b : Entry) (n m k : Seen) (both : Both) → IsFirst unit_table [] n → Ends 0 n a m both.deployed.end both.deployed.text.items → Ends 1 m b k both.called.end both.called.text.items → AreBoth a b both
-both_end one_node by_name a b n m k both is one two =
+pub both_end : OneNode → ByName → RunsStayWithin → (a b : Entry) (n m k : Seen) (both : Both) → IsFirst unit_table [] n → Ends 0 n a m both.deployed.end both.deployed.text.items → Ends 1 m b k both.called.end both.called.text.items → AreBoth a b both
+both_end one_node by_name law a b n m k both is one two =
     let first = first_reached one_node a n m both.deployed.end both.deployed.text.items is one in
     let second = reaches_next one_node unit_table [] (a ∷ []) (one.result ∷ []) m k b two.result first two.makes two.same_costs in
+    let runs : Runs unit_function (record { genesis = []; entries = a ∷ b ∷ [] }) (one.result ∷ two.result ∷ []) second.node =
+    subst (λ (costs : Costs). Runs costs (record { genesis = []; entries = a ∷ b ∷ [] }) (one.result ∷ two.result ∷ []) second.node) (unit_costs by_name) second.runs
+    in
     record {
       deployed = one.result;
       called = two.result;
       after = second.node;
-      runs = subst (λ (costs : Costs). Runs costs (record { genesis = []; entries = a ∷ b ∷ [] }) (one.result ∷ two.result ∷ []) second.node) (unit_costs by_name) second.runs;
+      runs = runs;
+      within = law unit_function (record { genesis = []; entries = a ∷ b ∷ [] }) (one.result ∷ two.result ∷ []) second.node
+          (record { holders = All-nil (λ (h : Principal × ℕ). IsPrincipal h.0); entries = All-cons HasParts a (b ∷ []) one.parts (All-cons HasParts b [] two.parts (All-nil HasParts)) }) runs;
       deployed_end = one.end_is;
       called_end = two.end_is;
       front = one.lines_are;
       back = two.lines_are;
     }
-
--- ---- the report
-
-report_then : (n : ℕ) (es : List Entry) (rs : List TxResult) (e : Entry) (r : TxResult) → length es ≡ length rs → report_from n (es ++ e ∷ []) (rs ++ r ∷ []) ≡ report_from n es rs ++ lines_of (n + length es) e r
-report_then n [] [] e r same = append-nil (lines_of n e r) ∙ ap (λ (k : ℕ). lines_of k e r) (omega arith)
-report_then n [] (q ∷ rs) e r same = absurd cc
-report_then n (f ∷ es) [] e r same = absurd cc
-report_then n (f ∷ es) (q ∷ rs) e r same =
-    let fewer : length es ≡ length rs = cc in
-    let numbered : (n + 1) + length es ≡ n + suc (length es) = omega arith in
-    ap (λ (text : List ℕ). lines_of n f q ++ text)
-    (report_then (n + 1) es rs e r fewer ∙ ap (λ (k : ℕ). report_from (n + 1) es rs ++ lines_of k e r) numbered)
-    ∙ sym (append_assoc (lines_of n f q) (report_from (n + 1) es rs) (lines_of (n + suc (length es)) e r))
-
-pub reports_first : (table : List CostFn) (holders : Holders) (n : Seen) → IsFirst table holders n → Reports table holders [] [] n
-reports_first table holders n is = record { results = []; reaches = reaches_first table holders n is; is_report = refl }
-
-reports_next : OneNode → (table : List CostFn) (holders : Holders) (es : List Entry) (text more : List ℕ) (n m : Seen) (e : Entry) (end : End) → Reports table holders es text n → Ends (length es) n e m end more → Reports table holders (es ++ e ∷ []) (text ++ more) m
-reports_next one table holders es text more n m e end so_far ends =
-    let counted : length es ≡ 0 + length es = omega arith in
-    record {
-      results = so_far.results ++ ends.result ∷ [];
-      reaches = reaches_next one table holders es so_far.results n m e ends.result so_far.reaches ends.makes ends.same_costs;
-      is_report =
-          ap (λ (t : List ℕ). t ++ more) so_far.is_report
-          ∙ ap (λ (t : List ℕ). report_from 0 es so_far.results ++ t) ends.lines_are
-          ∙ ap (λ (k : ℕ). report_from 0 es so_far.results ++ lines_of k e ends.result) counted
-          ∙ sym (report_then 0 es so_far.results e ends.result (each_result (function_of table) (first_node holders) es so_far.results so_far.reaches.node so_far.reaches.runs.steps));
-    }
-
--- the next entry of a list, whose lines are one more piece
-pub reports_piece : OneNode → (table : List CostFn) (holders : Holders) (entries : List Entry) (i number : ℕ) (pieces : List (Vec ℕ Global)) (piece : Vec ℕ Global) (n m : Seen) (d e : Entry) (end : End) → i < length entries → e ≡ get_or entries i d → number ≡ i → Reports table holders (take i entries) (bytes_of pieces) n → Ends number n e m end piece.items → Reports table holders (take (i + 1) entries) (bytes_of (pieces ++ piece ∷ [])) m
-reports_piece one table holders entries i number pieces piece n m d e end h is_next numbered so_far ends =
-    let one_more : take (i + 1) entries ≡ take i entries ++ e ∷ [] = take_more entries i d h ∙ ap (λ (x : Entry). take i entries ++ x ∷ []) (sym is_next) in
-    let bytes : bytes_of (pieces ++ piece ∷ []) ≡ bytes_of pieces ++ piece.items = flat_map-append (λ (p : Vec ℕ Global). p.items) pieces (piece ∷ []) ∙ ap (λ (b : List ℕ). bytes_of pieces ++ b) (append-nil piece.items) in
-    let counted : number ≡ length (take i entries) = numbered ∙ omega (arith, length-take i entries) in
-    let next = reports_next one table holders (take i entries) (bytes_of pieces) piece.items n m e end so_far (subst (λ (k : ℕ). Ends k n e m end piece.items) counted ends) in
-    subst (λ (es : List Entry). Reports table holders es (bytes_of (pieces ++ piece ∷ [])) m) (sym one_more) (subst (λ (b : List ℕ). Reports table holders (take i entries ++ e ∷ []) b m) (sym bytes) next)

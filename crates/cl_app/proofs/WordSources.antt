@@ -1,12 +1,13 @@
 -- The words of `check` name sources.
-use Rattle.std.proofs.Common.{◌≡◌, ℕ, Bool, true, false, List, [], ◌∷◌, Option, Some, None, Ok, Err, refl, sym, subst}
+use Rattle.std.proofs.Common.{◌≡◌, ℕ, ◌-◌, ◌^◌, Bool, true, false, List, [], ◌∷◌, Option, Some, None, Ok, Err, refl, sym, subst}
 use Rattle.std.specs.Prelude.{Result, codes, if◌then◌else◌}
 use Rattle.std.specs.Str.{bytes_eq}
 use Rattle.cl_c32.specs.Address.{AddressParts}
 use Rattle.cl_c32.specs.Codec.{decoded}
 use Rattle.cl_c32.specs.declared.codec.C32Refusal.{C32Refusal}
+use Rattle.cl_app.specs.Numbers.{number_within}
 use Rattle.cl_app.specs.Sources.{are_sources}
-use Rattle.cl_app.specs.Words.{Command, Call, Run, Check, Value, Wire, check_under, run_of, command_of, command_with, command_with_state, command_with_words, command_in, command_on}
+use Rattle.cl_app.specs.Words.{Command, Call, Run, Check, Value, Wire, check_under, run_of, gen_by, gen_of, command_of, command_with, command_with_state, command_with_words, command_in, command_on}
 
 abbrev HasSources : Option Command → Type 0
 HasSources (Some (Check costs address paths)) = are_sources paths ≡ true
@@ -28,12 +29,24 @@ run_has : (costs file : List ℕ) (words : List (List ℕ)) → HasSources (run_
 run_has costs file [] = tt
 run_has costs file (word ∷ words) = tt
 
+numbers_have : (seed count : Option ℕ) → HasSources (gen_by seed count)
+numbers_have (Some seed) (Some count) = tt
+numbers_have (Some seed) None = tt
+numbers_have None count = tt
+
+gen_has : (seed count : List ℕ) (words : List (List ℕ)) → HasSources (gen_of seed count words)
+gen_has seed count [] = numbers_have (number_within seed (2 ^ 64 - 1)) (number_within count 99999)
+gen_has seed count (word ∷ words) = tt
+
 words_have : (name first second : List ℕ) (words : List (List ℕ)) → HasSources (command_with_words name first second words)
 words_have name first second words =
-    by_test (bytes_eq name (codes "call")) (Some (Call first second words))
-    (if bytes_eq name (codes "check") then check_under first words (decoded second) else (if bytes_eq name (codes "run") then run_of first second words else None)) tt
-    (by_test (bytes_eq name (codes "check")) (check_under first words (decoded second)) (if bytes_eq name (codes "run") then run_of first second words else None) (under_has first words (decoded second))
-    (by_test (bytes_eq name (codes "run")) (run_of first second words) None (run_has first second words) tt))
+    let gen : Option Command = if bytes_eq name (codes "gen") then gen_of first second words else None in
+    let run : Option Command = if bytes_eq name (codes "run") then run_of first second words else gen in
+    let check : Option Command = if bytes_eq name (codes "check") then check_under first words (decoded second) else run in
+    by_test (bytes_eq name (codes "call")) (Some (Call first second words)) check tt
+    (by_test (bytes_eq name (codes "check")) (check_under first words (decoded second)) run (under_has first words (decoded second))
+    (by_test (bytes_eq name (codes "run")) (run_of first second words) gen (run_has first second words)
+    (by_test (bytes_eq name (codes "gen")) (gen_of first second words) None (gen_has first second words) tt)))
 
 word_has : (name word : List ℕ) → HasSources (command_with name word)
 word_has name word =

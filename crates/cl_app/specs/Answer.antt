@@ -2,11 +2,12 @@
 use Rattle.std.specs.Prelude.{◌≡◌, ℕ, List, [], ◌∷◌, Option, Some, None, Ok, Err, codes}
 use Rattle.cl_ports.specs.Files.{Held, content_of}
 use Rattle.cl_text.specs.Parsed.{Outcome, Parses}
-use Rattle.cl_app.specs.Words.{Command, Call, Run, Check, Value, Wire}
+use Rattle.cl_app.specs.Words.{Command, Call, Run, Check, Value, Wire, Gen}
 use Rattle.cl_app.specs.Argument.{Arguments, Spell}
 use Rattle.cl_app.specs.Spelling.{Answer, no_value_answer, value_answer, wire_answer}
 use Rattle.cl_app.specs.FileAnswers.{IsFileAnswer}
 use Rattle.cl_app.specs.Called.{IsCalled}
+use Rattle.cl_app.specs.Generated.{IsGenerated}
 use Rattle.cl_app.specs.Checked.{IsCheckAnswer, check_named}
 use Rattle.cl_app.specs.Ran.{IsRunAnswer, run_named}
 
@@ -35,6 +36,7 @@ IsAnswerTo (Some (Run costs file state)) files answer = IsRunAnswer files costs 
 IsAnswerTo (Some (Check costs address paths)) files answer = IsCheckAnswer files costs address paths answer
 IsAnswerTo (Some (Value word)) files answer = answer ≡ value_answer word
 IsAnswerTo (Some (Wire word)) files answer = IsWireAnswer word answer
+IsAnswerTo (Some (Gen seed count)) files answer = IsGenerated seed count answer
 
 -- the names of the files that a command reads, in order, up to and with the first that is bad
 abbrev pub arguments_named : List ℕ → Arguments → List (List ℕ)
@@ -48,3 +50,15 @@ IsNamed (Some (Run costs file state)) files names = names ≡ run_named files co
 IsNamed (Some (Check costs address paths)) files names = names ≡ check_named files costs paths
 IsNamed (Some (Value word)) files names = names ≡ []
 IsNamed (Some (Wire word)) files names = names ≡ []
+IsNamed (Some (Gen seed count)) files names = names ≡ []
+
+-- the answer where no file is asked for, whatever is held: to words that are not of the table or to a value, to `gen`, and to
+-- `call` where an argument is no value
+abbrev pub IsAnswerAlone : Option Command → Answer → Type 0
+IsAnswerAlone None answer = answer ≡ usage_answer
+IsAnswerAlone (Some (Call file function words)) answer = (outcome : Outcome) → Spell words (Err outcome) → answer ≡ no_value_answer outcome
+IsAnswerAlone (Some (Run costs file state)) answer = Unit {0}
+IsAnswerAlone (Some (Check costs address paths)) answer = Unit {0}
+IsAnswerAlone (Some (Value word)) answer = answer ≡ value_answer word
+IsAnswerAlone (Some (Wire word)) answer = IsWireAnswer word answer
+IsAnswerAlone (Some (Gen seed count)) answer = IsGenerated seed count answer

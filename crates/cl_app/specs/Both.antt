@@ -5,6 +5,7 @@ use Rattle.cl_file.specs.declared.entry.Entry.{Entry}
 use Rattle.cl_tx.specs.declared.outcome.TxResult.{TxResult}
 use Rattle.cl_tx.specs.Nodes.{NodeSeen}
 use Rattle.cl_tx.specs.Step.{Runs}
+use Rattle.cl_node_sound.specs.Told.{none_told, AreChargedWithin}
 use Rattle.cl_report.specs.Lines.{lines_of}
 use Rattle.cl_app.specs.declared.call.Both.{Both}
 use Rattle.cl_app.specs.Entries.{end_of}
@@ -15,6 +16,7 @@ pub record AreBoth (first second : Entry) (both : Both) : Type 0 where
   pub called : TxResult
   pub after : NodeSeen
   pub runs : Runs unit_function (record { genesis = []; entries = first ∷ second ∷ [] }) (deployed ∷ called ∷ []) after
+  pub within : AreChargedWithin none_told (first ∷ second ∷ []) (deployed ∷ called ∷ [])
   pub deployed_end : both.deployed.end ≡ end_of deployed.outcome
   pub called_end : both.called.end ≡ end_of called.outcome
   pub front : both.deployed.text.items ≡ lines_of 0 first deployed

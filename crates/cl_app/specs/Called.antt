@@ -11,6 +11,7 @@ use Rattle.cl_file.specs.declared.entry.Entry.TheVariants.{Deploy, Call}
 use Rattle.cl_tx.specs.declared.outcome.TxResult.{TxResult}
 use Rattle.cl_tx.specs.Nodes.{NodeSeen, contract_of}
 use Rattle.cl_tx.specs.Step.{Runs}
+use Rattle.cl_node_sound.specs.Told.{none_told, AreChargedWithin}
 use Rattle.cl_report.specs.Lines.{report_from}
 use Rattle.cl_app.specs.declared.entries.End.{End}
 use Rattle.cl_app.specs.declared.entries.End.TheVariants.{Good, Aborted, Refused}
@@ -55,12 +56,13 @@ called_answer first second deployed called = record {
   status = status_of (end_of deployed.outcome) (end_of called.outcome);
 }
 
--- the report of two entries, of which the first is a deployment
+-- the report of two entries, of which the first is a deployment; neither is charged above its printed bound
 pub record IsReportOf (first second : Entry) (answer : Answer) : Type 0 where
   pub deployed : TxResult
   pub called : TxResult
   pub after : NodeSeen
   pub runs : Runs unit_function (record { genesis = []; entries = first ∷ second ∷ [] }) (deployed ∷ called ∷ []) after
+  pub within : AreChargedWithin none_told (first ∷ second ∷ []) (deployed ∷ called ∷ [])
   pub is : answer ≡ called_answer first second deployed called
 
 -- the answer for a source, a function and its arguments

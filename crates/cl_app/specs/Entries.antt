@@ -9,11 +9,12 @@ use Rattle.cl_tx.specs.declared.outcome.Outcome.{Outcome}
 use Rattle.cl_tx.specs.declared.outcome.Outcome.TheVariants as outcome
 use Rattle.cl_tx.specs.declared.outcome.TxResult.{TxResult}
 use Rattle.cl_tx.specs.Nodes.{NodeSeen}
+use Rattle.cl_node_sound.specs.Sound.{HasParts}
 use Rattle.cl_tx.specs.Step.{Runs}
 use Rattle.cl_engine.specs.Seen.{Seen}
 use Rattle.cl_engine.specs.Known.{IsNodeOf}
 use Rattle.cl_engine.specs.Steps.{Makes}
-use Rattle.cl_report.specs.Lines.{lines_of, report_from}
+use Rattle.cl_report.specs.Lines.{lines_of}
 use Rattle.cl_app.specs.declared.entries.End.{End}
 use Rattle.cl_app.specs.declared.entries.End.TheVariants.{Good, Bad, Aborted, Refused}
 
@@ -33,6 +34,7 @@ IsFirst table holders n = n ≡ record { state = genesis holders; contracts = []
 
 -- the entry with this number ended so, with these lines
 pub record Ends (number : ℕ) (before : Seen) (entry : Entry) (after : Seen) (end : End) (text : List ℕ) : Type 0 where
+  pub parts : HasParts entry
   pub result : TxResult
   pub makes : Makes before entry result after
   pub same_costs : after.costs ≡ before.costs
@@ -45,9 +47,3 @@ pub record Reaches (table : List CostFn) (holders : List (Principal × ℕ)) (en
   pub is_node : IsNodeOf after node
   pub costs : after.costs ≡ table
   pub runs : Runs (function_of table) (record { genesis = holders; entries = entries }) results node
-
--- under a table of costs and from these holders on, this is the report of the entries, and this the node after them
-pub record Reports (table : List CostFn) (holders : List (Principal × ℕ)) (entries : List Entry) (text : List ℕ) (after : Seen) : Type 0 where
-  pub results : List TxResult
-  pub reaches : Reaches table holders entries results after
-  pub is_report : text ≡ report_from 0 entries results

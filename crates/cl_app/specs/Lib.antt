@@ -1,4 +1,6 @@
 pub mod Sources
+pub mod Numbers
+pub mod Generated
 pub mod Words
 pub mod Seen
 pub mod Argument
@@ -9,6 +11,8 @@ pub mod Entries
 pub mod Called
 pub mod Both
 pub mod Ran
+pub mod Heard
+pub mod Streams
 pub mod Answer
 pub mod Top
 pub mod Reply

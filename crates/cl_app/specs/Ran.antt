@@ -12,6 +12,7 @@ use Rattle.cl_file.specs.Paths.{Read}
 use Rattle.cl_file.specs.Files.{FileSeen, FileReads}
 use Rattle.cl_tx.specs.Nodes.{NodeSeen}
 use Rattle.cl_tx.specs.Step.{Runs}
+use Rattle.cl_node_sound.specs.Told.{none_told, AreChargedWithin, AreNotStopped}
 use Rattle.cl_report.specs.Lines.{report_from}
 use Rattle.cl_report.specs.StateLines.{IsStateText}
 use Rattle.cl_app.specs.FileAnswers.{bad_costs_answer, bad_transactions_answer, is_long, IsFileAnswer}
@@ -22,11 +23,14 @@ abbrev pub IsStatePart : Bool → State → List ℕ → Type 0
 IsStatePart true s text = IsStateText s text
 IsStatePart false s text = text ≡ []
 
--- the lines of the entries, and behind them those of the state after them where they are asked for; good, whatever the results
+-- The lines of the entries, and behind them those of the state after them where they are asked for; good, whatever the results.
+-- No entry is charged above the bound that was told last for its function, nor stopped by a limit that is no less.
 pub record IsRun (costs : Costs) (file : FileSeen) (state : Bool) (answer : Answer) : Type 0 where
   pub results : List TxResult
   pub after : NodeSeen
   pub runs : Runs costs file results after
+  pub within : AreChargedWithin none_told file.entries results
+  pub not_stopped : AreNotStopped none_told file.entries results
   pub state_text : List ℕ
   pub is_state : IsStatePart state after.state state_text
   pub is : answer ≡ record { bytes = report_from 0 file.entries results ++ state_text; status = 0 }

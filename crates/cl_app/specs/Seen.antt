@@ -1,6 +1,6 @@
 -- Words and a command as the definitions speak of them.
 use Rattle.std.specs.Prelude.{ℕ, Bool, List}
-use Rattle.cl_app.specs.Words.{Command, Call, Run, Check, Value, Wire, texts}
+use Rattle.cl_app.specs.Words.{Command, Call, Run, Check, Value, Wire, Gen, texts}
 use Rattle.cl_app.specs.declared.line.Line.{Line}
 use Rattle.cl_app.specs.declared.words.Command.{Command as CommandOfWords}
 use Rattle.cl_app.specs.declared.words.Command.TheVariants as word
@@ -15,3 +15,4 @@ command_seen (word.Run costs file state) = Run costs.now file.now state
 command_seen (word.Check words) = Check words.costs.now words.address (texts words.paths.now)
 command_seen (word.Value text) = Value text.now
 command_seen (word.Wire text) = Wire text.now
+command_seen (word.Gen seed count) = Gen seed count

@@ -4,7 +4,7 @@ use Rattle.cl_ports.specs.Files.{Held}
 use Rattle.cl_ports.specs.Growth.{Grows, GrowsPart}
 use Rattle.cl_app.specs.Words.{Command}
 use Rattle.cl_app.specs.Spelling.{Answer}
-use Rattle.cl_app.specs.Answer.{IsAnswerTo, IsNamed}
+use Rattle.cl_app.specs.Answer.{IsAnswerAlone, IsAnswerTo, IsNamed}
 
 -- where it is told what is held, this is the answer to the command, none standing for words that are not of the table
 pub record IsAnswer (command : Option Command) (held : Option Held) (answer : Answer) : Type 0 where
@@ -20,6 +20,12 @@ pub record IsOwnStatus (status : ℕ) : Type 0 where
 pub record Answers (command : Option Command) (held : Option Held) (before now : Option (List ℕ)) (status : ℕ) : Type 0 where
   pub bytes : List ℕ
   pub is_answer : IsAnswer command held (record { bytes = bytes; status = status })
+  pub written : Grows before now bytes
+
+-- all bytes of the answer that needs no file were written, and this is its status
+pub record AnswersAlone (command : Option Command) (before now : Option (List ℕ)) (status : ℕ) : Type 0 where
+  pub bytes : List ℕ
+  pub is_answer : IsAnswerAlone command (record { bytes = bytes; status = status })
   pub written : Grows before now bytes
 
 -- a first part of the bytes of the answer was written

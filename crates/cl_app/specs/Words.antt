@@ -1,9 +1,10 @@
 -- What the words of a command line ask for.
-use Rattle.std.specs.Prelude.{ℕ, Bool, true, false, not, List, [], ◌∷◌, Option, Some, None, option_map, Result, Ok, Err, codes, if◌then◌else◌, ◌==◌, ◌&&◌, string_bytes, map}
+use Rattle.std.specs.Prelude.{ℕ, ◌-◌, ◌^◌, Bool, true, false, not, List, [], ◌∷◌, Option, Some, None, option_map, Result, Ok, Err, codes, if◌then◌else◌, ◌==◌, ◌&&◌, string_bytes, map}
 use Rattle.std.specs.Str.{bytes_eq}
 use Rattle.cl_c32.specs.Address.{AddressParts}
 use Rattle.cl_c32.specs.Codec.{decoded}
 use Rattle.cl_c32.specs.declared.codec.C32Refusal.{C32Refusal}
+use Rattle.cl_app.specs.Numbers.{number_within}
 use Rattle.cl_app.specs.Sources.{are_sources}
 use Rattle.std.specs.declared.alloc.Global.{Global}
 use Rattle.std.specs.declared.string.String.{String}
@@ -23,6 +24,8 @@ pub data Command : Type 0 where
   Value : (word : List ℕ) → Command
   -- the wire form of the value with this text
   Wire : (word : List ℕ) → Command
+  -- what a workload comes to, by its seed and its number of calls
+  Gen : (seed count : ℕ) → Command
 
 -- ---- the flag `--state`, and `--`
 
@@ -74,12 +77,23 @@ abbrev pub run_of : List ℕ → List ℕ → List (List ℕ) → Option Command
 run_of costs file [] = Some (Run costs file false)
 run_of costs file (word ∷ words) = None
 
+-- `gen` with two words, and with more
+abbrev pub gen_by : Option ℕ → Option ℕ → Option Command
+gen_by (Some seed) (Some count) = Some (Gen seed count)
+gen_by (Some seed) None = None
+gen_by None count = None
+
+abbrev pub gen_of : List ℕ → List ℕ → List (List ℕ) → Option Command
+gen_of seed count [] = gen_by (number_within seed (2 ^ 64 - 1)) (number_within count 99999)
+gen_of seed count (word ∷ words) = None
+
 -- a command with more words
 abbrev pub command_with_words : List ℕ → List ℕ → List ℕ → List (List ℕ) → Option Command
 command_with_words name first second words =
     if bytes_eq name (codes "call") then Some (Call first second words)
     else (if bytes_eq name (codes "check") then check_under first words (decoded second)
-    else (if bytes_eq name (codes "run") then run_of first second words else None))
+    else (if bytes_eq name (codes "run") then run_of first second words
+    else (if bytes_eq name (codes "gen") then gen_of first second words else None)))
 
 -- the command of the first word, where it has its number of words
 abbrev pub command_of : List (List ℕ) → Option Command

@@ -13,6 +13,7 @@ use crate::pieces::{Reply, two_pieces, whole_piece};
 use cl_c32::{Address, ContractName, Principal};
 use cl_costs::CostTable;
 use cl_engine::{Node, nodes_are_known_in_one_way};
+use cl_node_sound::costs_stay_within_bounds;
 use cl_post::Mode;
 use cl_tx::{Common, Conditions, Entry, Row, heights_are_those_of_the_file};
 use cl_types::NoMemory;
@@ -82,6 +83,7 @@ fn run_both(alloc: Global, node: &mut Node, first: &Entry, second: &Entry) -> Re
     nodes_are_known_in_one_way();
     heights_are_those_of_the_file();
     CostTable::functions_by_name();
+    costs_stay_within_bounds();
     let deployed = next(alloc, node, 0, first)?;
     let called = next(alloc, node, 1, second)?;
     Ok(Both { deployed, called })

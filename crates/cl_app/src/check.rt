@@ -4,7 +4,7 @@ ghost use Rattle.cl_costs.specs.CostFile.{table_of};
 ghost use Rattle.cl_costs.specs.Tables.{function_of};
 ghost use Rattle.cl_app.specs.CheckReply.{AsksUnder, IsCostsAnswer, IsPathsAnswer};
 ghost use Rattle.cl_app.specs.Reading.{AsksPaths};
-ghost use Rattle.cl_app.specs.Reply.{answer_of, CountsStop};
+ghost use Rattle.cl_app.specs.Reply.{answer_of, CountsReadStop};
 ghost use Rattle.cl_app.specs.Sources.{are_sources};
 ghost use Rattle.cl_app.specs.Top.{AsksPart, IsAnswer, IsOwnStatus};
 ghost use Rattle.cl_app.specs.Words.{Check, texts};
@@ -31,7 +31,7 @@ fn check_paths<F: Files>(
     requires sources { are_sources (texts paths.now) ≡ true }
     ensures answer { IfOk result (λ reply. IsPathsAnswer (F.held files.old) (function_of costs.now) address.now (texts paths.now) (answer_of reply)) }
     ensures status { IfOk result (λ reply. IsOwnStatus reply.status × (reply.status ≢ 2)) }
-    ensures cause { CountsStop (F.faults files.old) (F.faults files.new) result }
+    ensures cause { CountsReadStop (F.faults files.old) (F.faults files.new) result }
     ensures asked { AsksPaths (F.held files.old) (texts paths.now) (F.asked files.old) (F.asked files.new) }
 {
     match read_sources(alloc, address, paths, files)? {
@@ -52,7 +52,7 @@ fn check_under<F: Files>(
     requires sources { are_sources (texts paths.now) ≡ true }
     ensures answer { IfOk result (λ reply. IsCostsAnswer (F.held files.old) name.now address.now (texts paths.now) (table_of bytes.now) (answer_of reply)) }
     ensures status { IfOk result (λ reply. IsOwnStatus reply.status × (reply.status ≢ 2)) }
-    ensures cause { CountsStop (F.faults files.old) (F.faults files.new) result }
+    ensures cause { CountsReadStop (F.faults files.old) (F.faults files.new) result }
     ensures asked { AsksUnder (F.held files.old) (texts paths.now) (table_of bytes.now) (F.asked files.old) (F.asked files.new) }
 {
     match read(alloc, bytes) {
@@ -73,7 +73,7 @@ fn check_reply<F: Files>(
     requires sources { are_sources (texts paths.now) ≡ true }
     ensures answer { IfOk result (λ reply. IsAnswer (Some (Check costs.now address.now (texts paths.now))) (F.held files.old) (answer_of reply)) }
     ensures status { IfOk result (λ reply. IsOwnStatus reply.status × (reply.status ≢ 2)) }
-    ensures cause { CountsStop (F.faults files.old) (F.faults files.new) result }
+    ensures cause { CountsReadStop (F.faults files.old) (F.faults files.new) result }
     ensures asked { AsksPart (Some (Check costs.now address.now (texts paths.now))) (F.held files.old) (F.asked files.old) (F.asked files.new) }
 {
     match files.read(costs) {
@@ -93,7 +93,7 @@ pub(crate) fn check_words<F: Files>(
     requires sources { are_sources (texts words.now.paths.now) ≡ true }
     ensures answer { IfOk result (λ reply. IsAnswer (Some (Check words.now.costs.now words.now.address (texts words.now.paths.now))) (F.held files.old) (answer_of reply)) }
     ensures status { IfOk result (λ reply. IsOwnStatus reply.status × (reply.status ≢ 2)) }
-    ensures cause { CountsStop (F.faults files.old) (F.faults files.new) result }
+    ensures cause { CountsReadStop (F.faults files.old) (F.faults files.new) result }
     ensures asked { AsksPart (Some (Check words.now.costs.now words.now.address (texts words.now.paths.now))) (F.held files.old) (F.asked files.old) (F.asked files.new) }
 {
     check_reply(alloc, words.costs, &words.address, words.paths, files)

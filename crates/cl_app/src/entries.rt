@@ -1,11 +1,19 @@
-//! Entries one after another, each with its lines.
-ghost use Rattle.std.specs.Prelude.{◌≡◌, ◌≤◌, IfOk};
+//! Entries one after another, each with its events and its lines.
+ghost use Rattle.std.specs.Prelude.{◌≡◌, ◌≢◌, ◌≤◌, IfErr, IfOk, OnOk};
+ghost use Rattle.cl_costs.specs.Tables.{function_of};
 ghost use Rattle.cl_file.specs.Entries.{height_after};
-ghost use Rattle.cl_app.specs.Entries.{end_of, IsFirst, Ends, Reports};
-ghost use Rattle.cl_app.specs.Reply.{bytes_of};
+ghost use Rattle.cl_ports.specs.Growth.{Grows, GrowsPart};
+ghost use Rattle.cl_listeners.specs.Hearing.{Told};
+ghost use Rattle.cl_tx.specs.Step.{if_committed};
+ghost use Rattle.cl_app.specs.Entries.{end_of, IsFirst, Ends};
+ghost use Rattle.cl_app.specs.Reply.{CountsWriteStop};
+ghost use Rattle.cl_app.specs.Streams.{EndsTold, TellsAtMost, Tells, WritesFirst};
 ghost use Rattle.cl_report.specs.Lines.{lines_of};
 
+use crate::pieces::Stop;
 use cl_engine::{Node, nodes_are_known_in_one_way};
+use cl_listeners::{Listener, Listeners, dispatch, events_told_in_turn};
+use cl_ports::Sink;
 use cl_report::lines;
 use cl_tx::{Entry, Outcome, TxFile, TxResult, heights_are_those_of_the_file};
 use cl_types::NoMemory;
@@ -66,22 +74,81 @@ pub(crate) fn next(
     told(alloc, number, entry, &given)
 }
 
-/// Does what the entries of a file ask for, from the first node on. The lines are given, a piece for each entry.
-pub(crate) fn run_entries(
+/// Tells the events of an entry that was committed.
+fn tell<L: Listener>(given: &TxResult, listeners: &mut Listeners<L>)
+    ensures { Told (if_committed given.now.outcome given.now.events) listeners.old listeners.new }
+{
+    events_told_in_turn();
+    match &given.outcome {
+        Outcome::Done | Outcome::Good(_) | Outcome::Plain(_) => {
+            dispatch(listeners, given.events.as_slice());
+        }
+        Outcome::Moved | Outcome::Bad(_) | Outcome::Aborted(_) | Outcome::Refused(_) => (),
+    }
+}
+
+/// Writes the lines of an entry with this result.
+fn write_lines<K: Sink>(
+    alloc: Global,
+    number: u32,
+    entry: &Entry,
+    given: &TxResult,
+    out: &mut K,
+) -> Result<(), Stop>
+    ensures whole { OnOk result (Grows (K.written out.old) (K.written out.new) (lines_of number entry.now given.now)) }
+    ensures part { GrowsPart (K.written out.old) (K.written out.new) (lines_of number entry.now given.now) }
+    ensures faults { CountsWriteStop (K.faults out.old) (K.faults out.new) result }
+    ensures reads { IfErr result (λ stop. stop ≢ Stop.ReadFailed) }
+{
+    let text = lines(alloc, number, entry, given)?;
+    out.write(text.as_slice())?;
+    Ok(())
+}
+
+/// Does what the entry with this number asks for. Its events are told once it was committed, and then its lines are made and
+/// written.
+fn next_told<K: Sink, L: Listener>(
+    alloc: Global,
+    node: &mut Node,
+    number: u32,
+    entry: &Entry,
+    out: &mut K,
+    listeners: &mut Listeners<L>,
+) -> Result<(), Stop>
+    requires { node.now.height ≤ height_after node.now.height entry.now }
+    ensures ended { OnOk result (EndsTold number node.old entry.now node.new (K.written out.old) (K.written out.new) listeners.old listeners.new) }
+    ensures at_most { IfErr result (λ _. TellsAtMost number node.old entry.now (K.written out.old) (K.written out.new) listeners.old listeners.new) }
+    ensures faults { CountsWriteStop (K.faults out.old) (K.faults out.new) result }
+    ensures reads { IfErr result (λ stop. stop ≢ Stop.ReadFailed) }
+{
+    let given = node.step(alloc, entry)?;
+    tell(&given, listeners);
+    write_lines(alloc, number, entry, &given, out)
+}
+
+/// Does what the entries of a file ask for, from the first node on. The events of each entry are told after its step, and then
+/// its lines are written, before the next entry's step.
+pub(crate) fn run_entries<K: Sink, L: Listener>(
     alloc: Global,
     node: &mut Node,
     file: &TxFile,
-) -> Result<Vec<Vec<u8>>, NoMemory>
+    out: &mut K,
+    listeners: &mut Listeners<L>,
+) -> Result<(), Stop>
     requires { IsFirst node.now.costs file.now.genesis node.now }
-    ensures { IfOk result (λ pieces. Reports node.old.costs file.now.genesis file.now.entries (bytes_of pieces.items) node.new) }
+    ensures report { OnOk result (Tells node.old.costs file.now.genesis file.now.entries node.new (K.written out.old) (K.written out.new) listeners.old listeners.new) }
+    ensures stops { IfErr result (λ _. WritesFirst (function_of node.old.costs) file.now (K.written out.old) (K.written out.new) listeners.old listeners.new) }
+    ensures faults { CountsWriteStop (K.faults out.old) (K.faults out.new) result }
+    ensures reads { IfErr result (λ stop. stop ≢ Stop.ReadFailed) }
 {
     nodes_are_known_in_one_way();
     heights_are_those_of_the_file();
+    events_told_in_turn();
     let entries = file.entries();
-    let mut pieces = Vec::new(alloc);
+    let mut number = 0;
     for entry in entries {
-        let ended = next(alloc, node, pieces.len() as u32, entry)?;
-        pieces.push(ended.text)?;
+        next_told(alloc, node, number, entry, out, listeners)?;
+        number += 1;
     }
-    Ok(pieces)
+    Ok(())
 }

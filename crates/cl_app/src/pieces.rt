@@ -2,10 +2,11 @@
 ghost use Rattle.std.specs.Prelude.{◌≡◌, ◌++◌, IfOk, string_bytes};
 ghost use Rattle.cl_app.specs.Reply.{answer_of};
 
+use cl_ports::Failed;
 use cl_types::NoMemory;
 use std::alloc::{AllocError, Global};
 
-/// What is written, piece by piece, and the status.
+/// What is still to be written, piece by piece, and the status.
 #[derive(Drop)]
 pub(crate) struct Reply {
     pub(crate) pieces: Vec<Vec<u8>>,
@@ -16,6 +17,7 @@ pub(crate) struct Reply {
 #[derive(Drop)]
 pub(crate) enum Stop {
     ReadFailed,
+    WriteFailed,
     NoMemory,
 }
 
@@ -38,6 +40,17 @@ impl From<NoMemory> for Stop {
 
     fn from(_error: NoMemory) -> Self {
         Stop::NoMemory
+    }
+}
+
+impl From<Failed> for Stop {
+    ghost use Rattle.std.specs.Prelude.{◌≡◌};
+    ghost use Rattle.cl_app.specs.declared.pieces.Stop.TheVariants.{WriteFailed};
+
+    ghost from_gives = { λ _ e. e ≡ WriteFailed };
+
+    fn from(_error: Failed) -> Self {
+        Stop::WriteFailed
     }
 }
 

@@ -2,7 +2,7 @@
 ghost use Rattle.std.specs.Prelude.{◌≡◌, ◌≢◌, ◌++◌, ◌∷◌, [], IfOk, IfErr, OnOk, map};
 ghost use Rattle.cl_ports.specs.Growth.{Grows, GrowsPart};
 ghost use Rattle.cl_app.specs.Reading.{sources_seen, AreRead, AsksPaths, IsRead};
-ghost use Rattle.cl_app.specs.Reply.{answer_of, CountsStop};
+ghost use Rattle.cl_app.specs.Reply.{answer_of, CountsReadStop};
 ghost use Rattle.cl_app.specs.Sources.{contract_at};
 ghost use Rattle.cl_app.specs.Top.{IsOwnStatus};
 ghost use Rattle.cl_app.specs.Words.{texts};
@@ -26,7 +26,7 @@ fn read_source<F: Files>(
     ensures read { IfOk result (λ read. IsRead (F.held files.old) address.now path.now read) }
     ensures status { IfOk result (λ read. IfErr read (λ reply. IsOwnStatus reply.status × (reply.status ≢ 2))) }
     ensures kept { F.held files.new ≡ F.held files.old }
-    ensures cause { CountsStop (F.faults files.old) (F.faults files.new) result }
+    ensures cause { CountsReadStop (F.faults files.old) (F.faults files.new) result }
     ensures asked { OnOk result (Grows (F.asked files.old) (F.asked files.new) (path.now ∷ [])) }
     ensures part { GrowsPart (F.asked files.old) (F.asked files.new) (path.now ∷ []) }
 {
@@ -58,7 +58,7 @@ pub(crate) fn read_sources<F: Files>(
     ensures read { IfOk result (λ read. AreRead (F.held files.old) address.now (texts paths.now) (sources_seen read)) }
     ensures contracts { IfOk result (λ read. IfOk read (λ sources. map (λ source. source.principal) sources.items ≡ map (contract_at address.now) (texts paths.now))) }
     ensures status { IfOk result (λ read. IfErr read (λ reply. IsOwnStatus reply.status × (reply.status ≢ 2))) }
-    ensures cause { CountsStop (F.faults files.old) (F.faults files.new) result }
+    ensures cause { CountsReadStop (F.faults files.old) (F.faults files.new) result }
     ensures asked { AsksPaths (F.held files.old) (texts paths.now) (F.asked files.old) (F.asked files.new) }
 {
     let mut sources = Vec::new(alloc);

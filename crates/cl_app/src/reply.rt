@@ -1,23 +1,27 @@
-//! The reply to a command: the pieces that are written, and the status.
-ghost use Rattle.std.specs.Prelude.{◌≡◌, ◌≢◌, ◌↔◌, ◌∷◌, [], None, Some, IfOk, IfErr, option_map};
+//! The reply to a command: the pieces that are written, and the status. `run` alone writes before there is a reply.
+ghost use Rattle.std.specs.Prelude.{◌≡◌, ◌≢◌, ◌↔◌, ◌∷◌, [], None, Some, IfOk, IfErr, OnOk, option_map};
 ghost use Rattle.cl_ports.specs.Growth.{GrowsPart};
-ghost use Rattle.cl_app.specs.Answer.{usage_answer};
+ghost use Rattle.cl_app.specs.Answer.{IsAnswerAlone, usage_answer};
 ghost use Rattle.cl_app.specs.Called.{IsCalled};
+ghost use Rattle.cl_app.specs.Heard.{HearsAll};
 ghost use Rattle.cl_app.specs.Seen.{line_of};
 ghost use Rattle.cl_app.specs.Words.{Call, command_on, taken, texts};
-ghost use Rattle.cl_app.specs.Reply.{answer_of, CountsStop, IsHeldAnswer};
+ghost use Rattle.cl_app.specs.Reply.{answer_of, Completes, CountsReadStop, CountsStop, CountsWriteStop, IsHeldAnswer};
+ghost use Rattle.cl_app.specs.Streams.{Stops};
 ghost use Rattle.cl_app.specs.Top.{IsAnswer, IsOwnStatus, AsksPart};
 
 use crate::argument::values;
 use crate::bad_file::long_file;
 use crate::call::call_reply;
 use crate::check::check_words;
+use crate::generated::gen_reply;
 use crate::line::{Line, read};
 use crate::pieces::{Reply, Stop, fixed_line};
 use crate::run_words::run_words;
 use crate::spelling::{no_value, value_reply, wire_reply};
 use crate::words::{Command, command_on};
-use cl_ports::{Files, ReadRefusal};
+use cl_listeners::{Listener, Listeners, events_told_in_turn};
+use cl_ports::{Files, ReadRefusal, Sink};
 use cl_text::one_outcome;
 use cl_types::Fault;
 use cl_values::Val;
@@ -40,7 +44,7 @@ fn called<F: Files>(
 ) -> Result<Reply, Stop>
     ensures answer { IfOk result (λ reply. IsHeldAnswer file.now (λ source. IsCalled source function.now args.items) (F.held files.old) (answer_of reply)) }
     ensures status { IfOk result (λ reply. IsOwnStatus reply.status × (reply.status ≢ 2)) }
-    ensures cause { CountsStop (F.faults files.old) (F.faults files.new) result }
+    ensures cause { CountsReadStop (F.faults files.old) (F.faults files.new) result }
     ensures asked { GrowsPart (F.asked files.old) (F.asked files.new) (file.now ∷ []) }
 {
     match files.read(file) {
@@ -60,8 +64,9 @@ fn call_words<F: Files>(
     files: &mut F,
 ) -> Result<Reply, Stop>
     ensures answer { IfOk result (λ reply. IsAnswer (Some (Call file.now function.now (texts args.now))) (F.held files.old) (answer_of reply)) }
+    ensures alone { IfOk result (λ reply. IsAnswerAlone (Some (Call file.now function.now (texts args.now))) (answer_of reply)) }
     ensures status { IfOk result (λ reply. IsOwnStatus reply.status × (reply.status ≢ 2)) }
-    ensures cause { CountsStop (F.faults files.old) (F.faults files.new) result }
+    ensures cause { CountsReadStop (F.faults files.old) (F.faults files.new) result }
     ensures asked { AsksPart (Some (Call file.now function.now (texts args.now))) (F.held files.old) (F.asked files.old) (F.asked files.new) }
 {
     one_outcome();
@@ -73,14 +78,26 @@ fn call_words<F: Files>(
 }
 
 /// The reply to a line; none stands for words that break the rule.
-fn line_reply<F: Files>(alloc: Global, line: &Option<Line>, files: &mut F) -> Result<Reply, Stop>
-    ensures answer { IfOk result (λ reply. IsAnswer (command_on (option_map line_of line.now)) (F.held files.old) (answer_of reply)) }
+fn line_reply<F: Files, K: Sink, L: Listener>(
+    alloc: Global,
+    line: &Option<Line>,
+    files: &mut F,
+    out: &mut K,
+    listeners: &mut Listeners<L>,
+) -> Result<Reply, Stop>
+    ensures hears { OnOk result (HearsAll (command_on (option_map line_of line.now)) (F.held files.old) listeners.old listeners.new) }
+    ensures stops { IfErr result (λ _. Stops (command_on (option_map line_of line.now)) (F.held files.old) (K.written out.old) (K.written out.new) listeners.old listeners.new) }
+    ensures answer { IfOk result (Completes (IsAnswer (command_on (option_map line_of line.now)) (F.held files.old)) (K.written out.old) (K.written out.new)) }
     ensures status { IfOk result (λ reply. IsOwnStatus reply.status × ((reply.status ≡ 2) ↔ (command_on (option_map line_of line.now) ≡ None))) }
-    ensures usage { IfOk result (λ reply. reply.status ≡ 2 → answer_of reply ≡ usage_answer) }
+    ensures alone { IfOk result (Completes (IsAnswerAlone (command_on (option_map line_of line.now))) (K.written out.old) (K.written out.new)) }
+    ensures usage { IfOk result (λ reply. reply.status ≡ 2 → (answer_of reply ≡ usage_answer) × (K.written out.new ≡ K.written out.old)) }
+    ensures unwritten { IfErr result (λ stop. stop ≡ Stop.ReadFailed → K.written out.new ≡ K.written out.old) }
+    ensures faults { CountsWriteStop (K.faults out.old) (K.faults out.new) result }
     ensures reads { IfErr result (λ stop. stop ≡ Stop.ReadFailed → command_on (option_map line_of line.now) ≢ None) }
     ensures cause { CountsStop (F.faults files.old) (F.faults files.new) result }
     ensures asked { AsksPart (command_on (option_map line_of line.now)) (F.held files.old) (F.asked files.old) (F.asked files.new) }
 {
+    events_told_in_turn();
     match command_on(line) {
         Some(
             Command::Call {
@@ -89,27 +106,38 @@ fn line_reply<F: Files>(alloc: Global, line: &Option<Line>, files: &mut F) -> Re
                 args,
             },
         ) => call_words(alloc, file, function, args, files),
-        Some(Command::Run { costs, file, state }) => run_words(alloc, costs, file, state, files),
+        Some(Command::Run { costs, file, state }) => {
+            run_words(alloc, costs, file, state, files, out, listeners)
+        },
         Some(Command::Check(words)) => check_words(alloc, &words, files),
         Some(Command::Value(word)) => Ok(value_reply(alloc, word.as_bytes())?),
         Some(Command::Wire(word)) => Ok(wire_reply(alloc, word.as_bytes())?),
+        Some(Command::Gen { seed, count }) => Ok(gen_reply(alloc, seed, count)?),
         None => Ok(usage(alloc)?),
     }
 }
 
 /// The reply to the words.
-pub(crate) fn reply_to<F: Files>(
+pub(crate) fn reply_to<F: Files, K: Sink, L: Listener>(
     alloc: Global,
     words: &[String],
     files: &mut F,
+    out: &mut K,
+    listeners: &mut Listeners<L>,
 ) -> Result<Reply, Stop>
-    ensures answer { IfOk result (λ reply. IsAnswer (taken (texts words.now)) (F.held files.old) (answer_of reply)) }
+    ensures hears { OnOk result (HearsAll (taken (texts words.now)) (F.held files.old) listeners.old listeners.new) }
+    ensures stops { IfErr result (λ _. Stops (taken (texts words.now)) (F.held files.old) (K.written out.old) (K.written out.new) listeners.old listeners.new) }
+    ensures answer { IfOk result (Completes (IsAnswer (taken (texts words.now)) (F.held files.old)) (K.written out.old) (K.written out.new)) }
     ensures status { IfOk result (λ reply. IsOwnStatus reply.status × ((reply.status ≡ 2) ↔ (taken (texts words.now) ≡ None))) }
-    ensures usage { IfOk result (λ reply. reply.status ≡ 2 → answer_of reply ≡ usage_answer) }
+    ensures alone { IfOk result (Completes (IsAnswerAlone (taken (texts words.now))) (K.written out.old) (K.written out.new)) }
+    ensures usage { IfOk result (λ reply. reply.status ≡ 2 → (answer_of reply ≡ usage_answer) × (K.written out.new ≡ K.written out.old)) }
+    ensures unwritten { IfErr result (λ stop. stop ≡ Stop.ReadFailed → K.written out.new ≡ K.written out.old) }
+    ensures faults { CountsWriteStop (K.faults out.old) (K.faults out.new) result }
     ensures reads { IfErr result (λ stop. stop ≡ Stop.ReadFailed → taken (texts words.now) ≢ None) }
     ensures cause { CountsStop (F.faults files.old) (F.faults files.new) result }
     ensures asked { AsksPart (taken (texts words.now)) (F.held files.old) (F.asked files.old) (F.asked files.new) }
 {
+    events_told_in_turn();
     let line = read(alloc, words)?;
-    line_reply(alloc, &line, files)
+    line_reply(alloc, &line, files, out, listeners)
 }

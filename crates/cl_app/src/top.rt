@@ -5,11 +5,14 @@ ghost use Rattle.cl_ports.specs.Growth.{Rose, Grows, GrowsPart};
 ghost use Rattle.cl_ports.specs.Sink.{CountsWriteFault};
 ghost use Rattle.cl_app.specs.Words.{taken, texts};
 ghost use Rattle.cl_app.specs.Answer.{usage_answer};
-ghost use Rattle.cl_app.specs.Top.{Answers, AnswersPart, AsksPart};
+ghost use Rattle.cl_app.specs.Heard.{HearsAll, HearsPart};
+ghost use Rattle.cl_app.specs.Streams.{HearsWritten};
+ghost use Rattle.cl_app.specs.Top.{Answers, AnswersAlone, AnswersPart, AsksPart};
 
 use crate::pieces::Stop;
 use crate::reply::reply_to;
 use cl_file::files_have_one_reading;
+use cl_listeners::{Listener, Listeners, events_told_in_turn};
 use cl_ports::{Failed, Files, Sink};
 use cl_report::a_state_has_one_text;
 use cl_rules::{texts_have_one_answer, texts_have_one_order};
@@ -29,7 +32,9 @@ fn write_pieces<K: Sink>(pieces: &[Vec<u8>], out: &mut K) -> Result<(), Failed>
     Ok(())
 }
 
-/// Does what the words after the program's name ask for, writes the answer to `out` and gives the status.
+/// Does what the words after the program's name ask for, writes the answer to `out` and gives the status. `run` tells the
+/// listeners the events of each entry that is committed, and then writes its lines, before the next entry is begun; the other
+/// commands tell nobody, and write once the answer is made.
 ///
 /// | Status | Comes |
 /// |---|---|
@@ -42,7 +47,13 @@ fn write_pieces<K: Sink>(pieces: &[Vec<u8>], out: &mut K) -> Result<(), Failed>
 /// | 7 | its deployment aborts, or its call is an err, aborted or refused |
 /// | 8 | a word is no value |
 /// | 9 | memory ran out |
-pub fn clarity<F: Files, K: Sink>(alloc: Global, words: &[String], files: &mut F, out: &mut K) -> u8
+pub fn clarity<F: Files, K: Sink, L: Listener>(
+    alloc: Global,
+    words: &[String],
+    files: &mut F,
+    out: &mut K,
+    listeners: &mut Listeners<L>,
+) -> u8
     // What a status says, whatever is told.
     ensures usage { result ≡ 2 → taken (texts words.now) ≡ None }
     ensures no_usage { taken (texts words.now) ≡ None → (result ≡ 2) ⊎ (result ≡ 4) ⊎ (result ≡ 9) }
@@ -57,11 +68,21 @@ pub fn clarity<F: Files, K: Sink>(alloc: Global, words: &[String], files: &mut F
     ensures unread { F.faults files.new ≢ F.faults files.old →
         (K.written out.new ≡ K.written out.old) × ((result ≡ 3) ⊎ (result ≡ 9)) }
 
+    // After a failed write the status says so.
+    ensures cut { K.faults out.new ≢ K.faults out.old → (result ≡ 4) ⊎ (result ≡ 9) }
+
     // Each other status is the answer's, and all its bytes were written; 9 is want of memory.
     ensures done { result ≢ 3 → result ≢ 4 → result ≢ 9 →
         Answers (taken (texts words.now)) (F.held files.old) (K.written out.old) (K.written out.new) result }
+    ensures alone { result ≢ 3 → result ≢ 4 → result ≢ 9 → AnswersAlone (taken (texts words.now)) (K.written out.old) (K.written out.new) result }
     ensures part { AnswersPart (taken (texts words.now)) (F.held files.old) (K.written out.old) (K.written out.new) }
     ensures asked { AsksPart (taken (texts words.now)) (F.held files.old) (F.asked files.old) (F.asked files.new) }
+
+    // Listeners hear the events that the file of `run` commits, or a first part of them; all, where the command was done. Nothing
+    // is written of an entry before its events were told.
+    ensures hears { HearsPart (taken (texts words.now)) (F.held files.old) listeners.old listeners.new }
+    ensures hears_all { result ≢ 3 → result ≢ 4 → result ≢ 9 → HearsAll (taken (texts words.now)) (F.held files.old) listeners.old listeners.new }
+    ensures hears_written { HearsWritten (taken (texts words.now)) (F.held files.old) (K.written out.old) (K.written out.new) listeners.old listeners.new }
 {
     one_outcome();
     files_have_one_reading();
@@ -69,7 +90,8 @@ pub fn clarity<F: Files, K: Sink>(alloc: Global, words: &[String], files: &mut F
     a_state_has_one_text();
     texts_have_one_answer();
     texts_have_one_order();
-    match reply_to(alloc, words, files) {
+    events_told_in_turn();
+    match reply_to(alloc, words, files, out, listeners) {
         Ok(reply) => {
             if write_pieces(&reply.pieces, out).is_err() {
                 return 4;
@@ -77,6 +99,7 @@ pub fn clarity<F: Files, K: Sink>(alloc: Global, words: &[String], files: &mut F
             reply.status
         }
         Err(Stop::ReadFailed) => 3,
+        Err(Stop::WriteFailed) => 4,
         Err(Stop::NoMemory) => 9,
     }
 }

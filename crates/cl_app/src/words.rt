@@ -1,10 +1,11 @@
 //! The table of commands.
-ghost use Rattle.std.specs.Prelude.{◌≡◌, option_map};
-ghost use Rattle.cl_app.specs.Words.{texts, check_under, run_of, command_with, command_with_words, command_of, command_with_state, command_in, command_on};
+ghost use Rattle.std.specs.Prelude.{◌≡◌, ◌≤◌, option_map, IfSome};
+ghost use Rattle.cl_app.specs.Words.{texts, check_under, run_of, gen_by, gen_of, command_with, command_with_words, command_of, command_with_state, command_in, command_on};
 ghost use Rattle.cl_app.specs.Seen.{command_seen, line_of};
 ghost use Rattle.cl_c32.specs.Codec.{decoded};
 
 use crate::line::Line;
+use crate::numbers::number_within;
 use crate::sources::are_sources;
 use cl_c32::{Address, decode};
 
@@ -37,6 +38,11 @@ pub(crate) enum Command<'a> {
     Value(&'a str),
     /// The wire form of the value with this text.
     Wire(&'a str),
+    /// What a workload comes to, by its seed and its number of calls.
+    Gen {
+        seed: u64,
+        count: u32,
+    },
 }
 
 /// The command of one word with this name.
@@ -83,6 +89,26 @@ fn run_of<'a>(costs: &'a str, file: &'a str, words: &'a [String]) -> Option<Comm
     }
 }
 
+/// `gen` with these numbers, of which the second is at most 99,999.
+fn gen_by<'a>(seed: Option<u64>, count: Option<u64>) -> Option<Command<'a>>
+    requires { IfSome count (λ n. n ≤ 99999) }
+    ensures { option_map command_seen result ≡ gen_by seed count }
+{
+    let seed = seed?;
+    let count = count? as u32;
+    Some(Command::Gen { seed, count })
+}
+
+/// `gen` with these words.
+fn gen_of<'a>(seed: &str, count: &str, words: &[String]) -> Option<Command<'a>>
+    ensures { option_map command_seen result ≡ gen_of seed.now count.now (texts words.now) }
+{
+    match words {
+        [] => gen_by(number_within(seed, u64::MAX), number_within(count, 99_999)),
+        _ => None,
+    }
+}
+
 /// The command with this name and at least two more words.
 fn command_with_words<'a>(
     name: &str,
@@ -104,6 +130,9 @@ fn command_with_words<'a>(
     }
     if name == "run" {
         return run_of(first, second, words);
+    }
+    if name == "gen" {
+        return gen_of(first, second, words);
     }
     None
 }

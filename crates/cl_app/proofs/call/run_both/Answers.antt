@@ -11,5 +11,5 @@ next-requires-2 c =
 
 pub returns : goal.returns
 returns c =
-    both_end c.nodes_are_known_in_one_way.ensures c.functions_by_name.ensures c.args.first.now c.args.second.now c.args.node.now c.next.new.node c.next-2.new.node
+    both_end c.nodes_are_known_in_one_way.ensures c.functions_by_name.ensures c.costs_stay_within_bounds.ensures.run c.args.first.now c.args.second.now c.args.node.now c.next.new.node c.next-2.new.node
     (record { deployed = c.in_ok-deployed.deployed; called = c.in_ok-called.called }) c.requires.first c.in_ok-deployed.ensures c.in_ok-called.ensures

@@ -1,28 +1,45 @@
-use Rattle.std.proofs.Common.{◌≡◌, List, Vec, Global, ℕ, sym, subst, ap, arith, length, []}
-use Rattle.std.proofs.lemmas.Grind.{common_steps}
-use Rattle.cl_app.specs.Entries.{Reports}
-use Rattle.cl_app.specs.Reply.{bytes_of}
-use Rattle.cl_app.proofs.Reached.{may_follow, reports_first, reports_piece}
+use Rattle.std.proofs.Common.{◌+◌, List, subst, refl, ◌∙◌, ap}
+use Rattle.std.proofs.lemmas.List.{take_all}
+use Rattle.cl_costs.specs.Tables.{function_of}
+use Rattle.cl_file.specs.declared.entry.Entry.{Entry}
+use Rattle.cl_app.specs.Streams.{Tells, WritesFirst}
+use Rattle.cl_app.proofs.Reached.{may_follow}
+use Rattle.cl_app.proofs.Replied.{err_so}
+use Rattle.cl_app.proofs.Telling.{tells_first, tells_entry, written_at_most}
 use Rattle.cl_app.proofs.entries.run_entries.Goals as goal
 
 pub loop-entry-init : goal.loop-entry-init
-loop-entry-init c = record {
-  reports = subst (λ (pieces : List (Vec ℕ Global)). Reports c.args.node.now.costs c.args.file.now.genesis [] (bytes_of pieces) c.args.node.now) (sym c.new-pieces.ensures.items) (reports_first c.args.node.now.costs c.args.file.now.genesis c.args.node.now c.requires);
-  count = ap length c.new-pieces.ensures.items;
+loop-entry-init g c = record {
+  tells = tells_first c.events_told_in_turn.ensures.nothing c.args.node.now.costs c.args.file.now.genesis c.args.node.now (g.K.Sink.written c.args.out.now) c.args.listeners.now c.requires;
+  count = refl;
+  faults = refl;
 }
 
-pub next-requires : goal.next-requires
-next-requires c =
-    let so_far = c.loop-entry.invariant.reports in
+pub next_told-requires : goal.next_told-requires
+next_told-requires g c =
+    let so_far = c.loop-entry.invariant.tells in
     may_follow c.heights_are_those_of_the_file.ensures c.args.node.now.costs c.args.file.now.genesis c.entries-entries.result.now so_far.results c.loop-entry.node c.loop-entry.entry-index c.entry-item.result c.loop-entry-test.true c.entry-item.is c.entries-entries.ensures.rising so_far.reaches
 
 pub loop-entry-preserved : goal.loop-entry-preserved
-loop-entry-preserved c =
-    let numbered : c.len.result ≡ c.loop-entry.entry-index = grind (arith, common_steps) in
-    record {
-      reports = rw c.in_ok-push.ensures.items
-          (reports_piece c.nodes_are_known_in_one_way.ensures c.args.node.now.costs c.args.file.now.genesis c.entries-entries.result.now c.loop-entry.entry-index c.len.result
-          c.loop-entry.pieces.items c.in_ok-ended.ended.text c.loop-entry.node c.next.new.node c.entry-item.result c.entry-item.result c.in_ok-ended.ended.end
-          c.loop-entry-test.true c.entry-item.is numbered c.loop-entry.invariant.reports c.in_ok-ended.ensures);
-      count = grind (arith, common_steps);
-    }
+loop-entry-preserved g c = record {
+  tells =
+      tells_entry c.nodes_are_known_in_one_way.ensures c.events_told_in_turn.ensures.more c.args.node.now.costs c.args.file.now.genesis c.entries-entries.result.now c.loop-entry.entry-index c.loop-entry.number
+      c.loop-entry.node c.next_told.new.node c.entry-item.result c.entry-item.result (g.K.Sink.written c.args.out.now) (g.K.Sink.written c.loop-entry.out) (g.K.Sink.written c.next_told.new.out) c.args.listeners.now c.loop-entry.listeners c.next_told.new.listeners
+      c.loop-entry-test.true c.entry-item.is c.loop-entry.invariant.count c.loop-entry.invariant.tells c.in_ok-next_told.ensures.ended;
+  count = ap (λ n. n + 1) c.loop-entry.invariant.count;
+  faults = c.in_ok-next_told.ensures.faults ∙ c.loop-entry.invariant.faults;
+}
+
+pub returns-in_err-next_told-clause-stops : goal.returns-in_err-next_told-clause-stops
+returns-in_err-next_told-clause-stops g c =
+    err_so c.from_residual.result (λ _. WritesFirst (function_of c.args.node.now.costs) c.args.file.now (g.K.Sink.written c.args.out.now) (g.K.Sink.written c.next_told.new.out) c.args.listeners.now c.next_told.new.listeners)
+    (λ _. subst (λ (entries : List Entry). WritesFirst (function_of c.args.node.now.costs) (record { genesis = c.args.file.now.genesis; entries = entries }) (g.K.Sink.written c.args.out.now) (g.K.Sink.written c.next_told.new.out) c.args.listeners.now c.next_told.new.listeners)
+    c.entries-entries.ensures.value
+    (written_at_most c.nodes_are_known_in_one_way.ensures c.events_told_in_turn.ensures.more c.args.node.now.costs c.args.file.now.genesis c.entries-entries.result.now c.loop-entry.entry-index c.loop-entry.number
+    c.loop-entry.node c.entry-item.result c.entry-item.result (g.K.Sink.written c.args.out.now) (g.K.Sink.written c.loop-entry.out) (g.K.Sink.written c.next_told.new.out) c.args.listeners.now c.loop-entry.listeners c.next_told.new.listeners
+    c.loop-entry-test.true c.entry-item.is c.loop-entry.invariant.count c.loop-entry.invariant.tells c.in_err-next_told.ensures.at_most))
+
+pub returns-clause-report : goal.returns-clause-report
+returns-clause-report g c =
+    subst (λ (entries : List Entry). Tells c.args.node.now.costs c.args.file.now.genesis entries c.loop-entry.node (g.K.Sink.written c.args.out.now) (g.K.Sink.written c.loop-entry.out) c.args.listeners.now c.loop-entry.listeners)
+    (take_all c.loop-entry.entry-index c.entries-entries.result.now c.loop-entry-test.false ∙ c.entries-entries.ensures.value) c.loop-entry.invariant.tells

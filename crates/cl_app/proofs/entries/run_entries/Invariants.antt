@@ -1,10 +1,10 @@
-use Rattle.std.proofs.Common.{◌≡◌, take, length}
-use Rattle.cl_app.specs.Entries.{Reports}
-use Rattle.cl_app.specs.Reply.{bytes_of}
+use Rattle.std.proofs.Common.{◌≡◌, take}
+use Rattle.cl_app.specs.Streams.{Tells}
 use Rattle.cl_app.proofs.entries.run_entries.Given as goal
 
 abbrev pub invariant-loop-entry : goal.invariant-loop-entry
-invariant-loop-entry l = record {
-  reports : Reports l.initial.node.costs l.fn.file.genesis (take l.entry-index l.entries) (bytes_of l.pieces.items) l.node;
-  count : length l.pieces.items ≡ l.entry-index;
+invariant-loop-entry g l = record {
+  tells : Tells l.initial.node.costs l.fn.file.genesis (take l.entry-index l.entries) l.node (g.K.Sink.written l.initial.out) (g.K.Sink.written l.out) l.initial.listeners l.listeners;
+  count : l.number ≡ l.entry-index;
+  faults : g.K.Sink.faults l.out ≡ g.K.Sink.faults l.initial.out;
 }

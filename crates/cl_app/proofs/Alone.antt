@@ -1,0 +1,50 @@
+-- Answers that need no file.
+use Rattle.std.proofs.Common.{◌≡◌, ℕ, List, Bool, Option, Some, None, Result, Ok, Err, IfOk, refl, subst}
+use Rattle.cl_c32.specs.Address.{AddressParts}
+use Rattle.cl_text.specs.Parsed.{Outcome}
+use Rattle.cl_values.specs.Tree.{Tree}
+use Rattle.cl_app.specs.declared.pieces.Reply.{Reply}
+use Rattle.cl_app.specs.declared.pieces.Stop.{Stop}
+use Rattle.cl_app.specs.Answer.{IsAnswerAlone}
+use Rattle.cl_app.specs.Argument.{Arguments, Spell}
+use Rattle.cl_app.specs.Reply.{answer_of}
+use Rattle.cl_app.specs.Spelling.{Answer, no_value_answer}
+use Rattle.cl_app.specs.Words.{Command, Call, Run, Check}
+use Rattle.cl_app.proofs.Once.{OneOutcome, spell_same}
+
+-- a reply to a command by another word for it
+pub alone_by : (command same : Option Command) (r : Result Reply Stop) → same ≡ command → IfOk r (λ reply. IsAnswerAlone same (answer_of reply)) → IfOk r (λ reply. IsAnswerAlone command (answer_of reply))
+alone_by command same r is said = subst (λ (c : Option Command). IfOk r (λ reply. IsAnswerAlone c (answer_of reply))) is said
+
+pub answer_alone : (command same : Option Command) (answer : Answer) → same ≡ command → IsAnswerAlone same answer → IsAnswerAlone command answer
+answer_alone command same answer is said = subst (λ (c : Option Command). IsAnswerAlone c answer) is said
+
+-- nothing is said of commands that ask for files
+pub run_alone : (costs file : List ℕ) (state : Bool) (r : Result Reply Stop) → IfOk r (λ reply. IsAnswerAlone (Some (Run costs file state)) (answer_of reply))
+run_alone costs file state (Ok reply) = tt
+run_alone costs file state (Err stop) = tt
+
+pub check_alone : (costs : List ℕ) (address : AddressParts) (paths : List (List ℕ)) (r : Result Reply Stop) → IfOk r (λ reply. IsAnswerAlone (Some (Check costs address paths)) (answer_of reply))
+check_alone costs address paths (Ok reply) = tt
+check_alone costs address paths (Err stop) = tt
+
+-- arguments are values, or refused by one outcome
+differ : (values : List Tree) (outcome : Outcome) (answer : Answer) (a : Arguments) → a ≡ Ok values → a ≡ Err outcome → answer ≡ no_value_answer outcome
+differ values outcome answer a good bad = absurd cc
+
+same : (outcome other : Outcome) (a : Arguments) → a ≡ Err outcome → a ≡ Err other → outcome ≡ other
+same outcome other a one two = cc
+
+-- where all arguments are values no outcome refuses them
+values_alone : OneOutcome → (file function : List ℕ) (words : List (List ℕ)) (values : List Tree) (answer : Answer) → Spell words (Ok values) → IsAnswerAlone (Some (Call file function words)) answer
+values_alone once file function words values answer spelled outcome refused =
+    differ values outcome answer (Ok values) refl (spell_same once words (Ok values) (Err outcome) spelled refused)
+
+pub called_alone : OneOutcome → (file function : List ℕ) (words : List (List ℕ)) (values : List Tree) (r : Result Reply Stop) → Spell words (Ok values) → IfOk r (λ reply. IsAnswerAlone (Some (Call file function words)) (answer_of reply))
+called_alone once file function words values (Ok reply) spelled = values_alone once file function words values (answer_of reply) spelled
+called_alone once file function words values (Err stop) spelled = tt
+
+-- where one is none, there is one answer
+pub refused_alone : OneOutcome → (file function : List ℕ) (words : List (List ℕ)) (outcome : Outcome) (answer : Answer) → Spell words (Err outcome) → answer ≡ no_value_answer outcome → IsAnswerAlone (Some (Call file function words)) answer
+refused_alone once file function words outcome answer spelled is other refused =
+    subst (λ (o : Outcome). answer ≡ no_value_answer o) (same outcome other (Err outcome) refl (spell_same once words (Err outcome) (Err other) spelled refused)) is

@@ -1,0 +1,89 @@
+-- Replies behind what was written before them, and the counts of faults.
+use Rattle.std.proofs.Common.{◌≡◌, ◌≢◌, ℕ, List, Option, [], ◌++◌, Result, Ok, Err, IfErr, IfOk, OnOk, false, is_err, refl, subst}
+use Rattle.std.proofs.lemmas.Result.{IfErr-weaker, IfOk-weaker}
+use Rattle.cl_ports.specs.Files.{Held}
+use Rattle.cl_ports.specs.Growth.{Grows}
+use Rattle.cl_ports.proofs.Grown.{grows_twice}
+use Rattle.cl_app.specs.declared.pieces.Reply.{Reply}
+use Rattle.cl_app.specs.declared.pieces.Stop.{Stop}
+use Rattle.cl_app.specs.declared.pieces.Stop.TheVariants.{ReadFailed, WriteFailed, NoMemory}
+use Rattle.cl_app.specs.Answer.{IsAnswerAlone}
+use Rattle.cl_app.specs.Reply.{answer_of, bytes_of, Completes, CountsReadStop, CountsStop, CountsWriteStop}
+use Rattle.cl_app.specs.Spelling.{Answer}
+use Rattle.cl_app.specs.Top.{Answers, AnswersAlone, IsAnswer}
+use Rattle.cl_app.specs.Words.{Command}
+use Rattle.cl_app.proofs.Telling.{grows_nothing}
+
+-- ---- what a reply completes
+
+-- nothing was written yet
+pub completes_now : (Is : Answer → Type 0) (before : Option (List ℕ)) (reply : Reply) → Is (answer_of reply) → Completes Is before before reply
+completes_now Is before reply is = record { front = []; is_answer = is; written = grows_nothing before }
+
+pub completes_by : (Is Then : Answer → Type 0) (before now : Option (List ℕ)) (reply : Reply) → ((answer : Answer) → Is answer → Then answer) → Completes Is before now reply → Completes Then before now reply
+completes_by Is Then before now reply by completes = record {
+  front = completes.front;
+  is_answer = by (record { bytes = completes.front ++ bytes_of reply.pieces.items; status = reply.status }) completes.is_answer;
+  written = completes.written;
+}
+
+pub ok_completes_now : {E : Type 0} (r : Result Reply E) (Is : Answer → Type 0) (before : Option (List ℕ)) → IfOk r (λ reply. Is (answer_of reply)) → IfOk r (Completes Is before before)
+ok_completes_now r Is before is = IfOk-weaker r (λ reply. Is (answer_of reply)) (Completes Is before before) (completes_now Is before) is
+
+pub ok_completes_by : {E : Type 0} (r : Result Reply E) (Is Then : Answer → Type 0) (before now : Option (List ℕ)) → ((answer : Answer) → Is answer → Then answer) → IfOk r (Completes Is before now) → IfOk r (Completes Then before now)
+ok_completes_by r Is Then before now by completes = IfOk-weaker r (Completes Is before now) (Completes Then before now) (λ reply. completes_by Is Then before now reply by) completes
+
+-- by another word for the command, where nothing was written yet
+pub completes_same : (command same : Option Command) (Is : Option Command → Answer → Type 0) (before : Option (List ℕ)) (reply : Reply) → same ≡ command → Is same (answer_of reply) → Completes (Is command) before before reply
+completes_same command same Is before reply is said = completes_now (Is command) before reply (subst (λ (c : Option Command). Is c (answer_of reply)) is said)
+
+pub completes_command : {E : Type 0} (command same : Option Command) (Is : Option Command → Answer → Type 0) (r : Result Reply E) (before : Option (List ℕ)) → same ≡ command → IfOk r (λ reply. Is same (answer_of reply)) → IfOk r (Completes (Is command) before before)
+completes_command command same Is r before is said = subst (λ (c : Option Command). IfOk r (Completes (Is c) before before)) is (ok_completes_now r (Is same) before said)
+
+-- the pieces of the reply were written, too
+pub answers_whole : (command : Option Command) (held : Option Held) (before between now : Option (List ℕ)) (reply : Reply) → Completes (IsAnswer command held) before between reply → Grows between now (bytes_of reply.pieces.items) → Answers command held before now reply.status
+answers_whole command held before between now reply completes grown = record {
+  bytes = completes.front ++ bytes_of reply.pieces.items;
+  is_answer = completes.is_answer;
+  written = grows_twice before between now completes.front (bytes_of reply.pieces.items) completes.written grown;
+}
+
+pub answers_alone : (command : Option Command) (before between now : Option (List ℕ)) (reply : Reply) → Completes (IsAnswerAlone command) before between reply → Grows between now (bytes_of reply.pieces.items) → AnswersAlone command before now reply.status
+answers_alone command before between now reply completes grown = record {
+  bytes = completes.front ++ bytes_of reply.pieces.items;
+  is_answer = completes.is_answer;
+  written = grows_twice before between now completes.front (bytes_of reply.pieces.items) completes.written grown;
+}
+
+-- ---- counts of faults
+
+-- where no read fails the files' count stays
+pub counts_unread : {T : Type 0} (r : Result T Stop) (before now : ℕ) → IfErr r (λ stop. stop ≢ ReadFailed) → now ≡ before → CountsStop before now r
+counts_unread (Ok x) before now other same = same
+counts_unread (Err ReadFailed) before now other same = absurd (other refl)
+counts_unread (Err WriteFailed) before now other same = same
+counts_unread (Err NoMemory) before now other same = same
+
+pub unread_then : {T : Type 0} (r : Result T Stop) (P : Type 0) → IfErr r (λ stop. stop ≢ ReadFailed) → IfErr r (λ stop. stop ≡ ReadFailed → P)
+unread_then r P other = IfErr-weaker r (λ stop. stop ≢ ReadFailed) (λ stop. stop ≡ ReadFailed → P) (λ stop no is. absurd (no is)) other
+
+-- a call that writes nothing
+pub counts_read : {T : Type 0} (r : Result T Stop) (before now : ℕ) → CountsReadStop before now r → CountsStop before now r
+counts_read (Ok x) before now counts = counts
+counts_read (Err ReadFailed) before now counts = counts
+counts_read (Err WriteFailed) before now counts = absurd counts
+counts_read (Err NoMemory) before now counts = counts
+
+pub counts_unwritten : {T : Type 0} (r : Result T Stop) (before now faults : ℕ) → CountsReadStop before now r → CountsWriteStop faults faults r
+counts_unwritten (Ok x) before now faults counts = refl
+counts_unwritten (Err ReadFailed) before now faults counts = refl
+counts_unwritten (Err WriteFailed) before now faults counts = absurd counts
+counts_unwritten (Err NoMemory) before now faults counts = refl
+
+pub err_so : {T E : Type 0} (r : Result T E) (P : E → Type 0) → ((e : E) → P e) → IfErr r P
+err_so (Ok x) P so = tt
+err_so (Err e) P so = so e
+
+pub ok_gives : {T E : Type 0} (r : Result T E) (P : Type 0) → is_err r ≡ false → OnOk r P → P
+ok_gives (Ok x) P good p = p
+ok_gives (Err e) P good p = absurd cc
