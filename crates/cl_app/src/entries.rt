@@ -14,7 +14,7 @@ use crate::pieces::Stop;
 use cl_engine::{Node, nodes_are_known_in_one_way};
 use cl_listeners::{Listener, Listeners, dispatch, events_told_in_turn};
 use cl_ports::Sink;
-use cl_report::lines;
+use cl_report::{AddressCache, lines, lines_with};
 use cl_tx::{Entry, Outcome, TxFile, TxResult, heights_are_those_of_the_file};
 use cl_types::NoMemory;
 use std::alloc::Global;
@@ -90,6 +90,7 @@ fn tell<L: Listener>(given: &TxResult, listeners: &mut Listeners<L>)
 /// Writes the lines of an entry with this result.
 fn write_lines<K: Sink>(
     alloc: Global,
+    addresses: &mut AddressCache,
     number: u32,
     entry: &Entry,
     given: &TxResult,
@@ -100,7 +101,7 @@ fn write_lines<K: Sink>(
     ensures faults { CountsWriteStop (K.faults out.old) (K.faults out.new) result }
     ensures reads { IfErr result (λ stop. stop ≢ Stop.ReadFailed) }
 {
-    let text = lines(alloc, number, entry, given)?;
+    let text = lines_with(alloc, addresses, number, entry, given)?;
     out.write(text.as_slice())?;
     Ok(())
 }
@@ -109,6 +110,7 @@ fn write_lines<K: Sink>(
 /// written.
 fn next_told<K: Sink, L: Listener>(
     alloc: Global,
+    addresses: &mut AddressCache,
     node: &mut Node,
     number: u32,
     entry: &Entry,
@@ -123,7 +125,7 @@ fn next_told<K: Sink, L: Listener>(
 {
     let given = node.step(alloc, entry)?;
     tell(&given, listeners);
-    write_lines(alloc, number, entry, &given, out)
+    write_lines(alloc, addresses, number, entry, &given, out)
 }
 
 /// Does what the entries of a file ask for, from the first node on. The events of each entry are told after its step, and then
@@ -145,9 +147,10 @@ pub(crate) fn run_entries<K: Sink, L: Listener>(
     heights_are_those_of_the_file();
     events_told_in_turn();
     let entries = file.entries();
+    let mut addresses = AddressCache::new(alloc)?;
     let mut number = 0;
     for entry in entries {
-        next_told(alloc, node, number, entry, out, listeners)?;
+        next_told(alloc, &mut addresses, node, number, entry, out, listeners)?;
         number += 1;
     }
     Ok(())

@@ -4,22 +4,24 @@ ghost use Rattle.std.specs.Prelude.{None};
 use cl_events::Event;
 use cl_listeners::{Deaf, Listener};
 use cl_ports::Sink;
-use cl_report::event_line;
+use cl_report::{AddressCache, event_line_with};
 use std::alloc::Global;
 
 /// Writes the line of each event to a sink. It counts each line that isn't written, also for want of memory.
 #[derive(Drop)]
 pub(crate) struct EventLines<K> {
     alloc: Global,
+    addresses: AddressCache,
     out: K,
     faults: u64,
 }
 
 impl<K> EventLines<K> {
-    /// Writes to this sink.
-    pub(crate) fn new(alloc: Global, out: K) -> Self {
+    /// Writes to this sink, by the texts of addresses that are kept here.
+    pub(crate) fn new(alloc: Global, addresses: AddressCache, out: K) -> Self {
         EventLines {
             alloc,
+            addresses,
             out,
             faults: 0,
         }
@@ -27,8 +29,13 @@ impl<K> EventLines<K> {
 }
 
 // Writes the line, and says whether it was written.
-fn is_written<K: Sink>(alloc: Global, out: &mut K, event: &Event) -> bool {
-    match event_line(alloc, event) {
+fn is_written<K: Sink>(
+    alloc: Global,
+    addresses: &mut AddressCache,
+    out: &mut K,
+    event: &Event,
+) -> bool {
+    match event_line_with(alloc, addresses, event) {
         Ok(line) => out.write(&line).is_ok(),
         Err(_) => false,
     }
@@ -40,7 +47,7 @@ impl<K: Sink + Drop> Listener for EventLines<K> {
     ghost faults = { λ lines. lines.faults };
 
     fn hear(&mut self, event: &Event) -> Result<(), Deaf> {
-        if is_written(self.alloc, &mut self.out, event) {
+        if is_written(self.alloc, &mut self.addresses, &mut self.out, event) {
             return Ok(());
         }
         self.faults = self.faults.saturating_add(1);

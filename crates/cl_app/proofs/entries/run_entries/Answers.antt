@@ -5,8 +5,13 @@ use Rattle.cl_file.specs.declared.entry.Entry.{Entry}
 use Rattle.cl_app.specs.Streams.{Tells, WritesFirst}
 use Rattle.cl_app.proofs.Reached.{may_follow}
 use Rattle.cl_app.proofs.Replied.{err_so}
-use Rattle.cl_app.proofs.Telling.{tells_first, tells_entry, written_at_most}
+use Rattle.cl_app.proofs.Telling.{tells_first, tells_entry, written_none, written_at_most}
 use Rattle.cl_app.proofs.entries.run_entries.Goals as goal
+
+pub returns-in_err-addresses-clause-stops : goal.returns-in_err-addresses-clause-stops
+returns-in_err-addresses-clause-stops g c =
+    err_so c.from_residual.result (λ _. WritesFirst (function_of c.args.node.now.costs) c.args.file.now (g.K.Sink.written c.args.out.now) (g.K.Sink.written c.args.out.now) c.args.listeners.now c.args.listeners.now)
+    (λ _. written_none c.events_told_in_turn.ensures.nothing (function_of c.args.node.now.costs) c.args.file.now (g.K.Sink.written c.args.out.now) (g.K.Sink.written c.args.out.now) c.args.listeners.now c.args.listeners.now (record { written = refl; told = refl }))
 
 pub loop-entry-init : goal.loop-entry-init
 loop-entry-init g c = record {
@@ -32,7 +37,7 @@ loop-entry-preserved g c = record {
 
 pub returns-in_err-next_told-clause-stops : goal.returns-in_err-next_told-clause-stops
 returns-in_err-next_told-clause-stops g c =
-    err_so c.from_residual.result (λ _. WritesFirst (function_of c.args.node.now.costs) c.args.file.now (g.K.Sink.written c.args.out.now) (g.K.Sink.written c.next_told.new.out) c.args.listeners.now c.next_told.new.listeners)
+    err_so c.from_residual-in_err-next_told.result (λ _. WritesFirst (function_of c.args.node.now.costs) c.args.file.now (g.K.Sink.written c.args.out.now) (g.K.Sink.written c.next_told.new.out) c.args.listeners.now c.next_told.new.listeners)
     (λ _. subst (λ (entries : List Entry). WritesFirst (function_of c.args.node.now.costs) (record { genesis = c.args.file.now.genesis; entries = entries }) (g.K.Sink.written c.args.out.now) (g.K.Sink.written c.next_told.new.out) c.args.listeners.now c.next_told.new.listeners)
     c.entries-entries.ensures.value
     (written_at_most c.nodes_are_known_in_one_way.ensures c.events_told_in_turn.ensures.more c.args.node.now.costs c.args.file.now.genesis c.entries-entries.result.now c.loop-entry.entry-index c.loop-entry.number
