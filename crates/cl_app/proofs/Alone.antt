@@ -1,5 +1,5 @@
 -- Answers that need no file.
-use Rattle.std.proofs.Common.{◌≡◌, ℕ, List, Bool, Option, Some, None, Result, Ok, Err, IfOk, refl, subst}
+use Rattle.std.proofs.Common.{◌≡◌, ℕ, List, Bool, Option, Some, Result, Ok, Err, IfOk, refl, subst}
 use Rattle.cl_c32.specs.Address.{AddressParts}
 use Rattle.cl_text.specs.Parsed.{Outcome}
 use Rattle.cl_values.specs.Tree.{Tree}

@@ -1,5 +1,5 @@
 -- Words that are numbers.
-use Rattle.std.proofs.Common.{◌≡◌, ℕ, true, false, List, [], ◌∷◌}
+use Rattle.std.proofs.Common.{◌≡◌, ℕ, true, List, [], ◌∷◌}
 use Rattle.std.specs.List.{list_all}
 use Rattle.cl_types.specs.Name.{is_digit}
 use Rattle.cl_sexpr.specs.Leaf.{are_digits}

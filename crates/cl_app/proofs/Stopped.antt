@@ -1,10 +1,10 @@
 -- How far `run` came where it stops, and what was written and told then.
-use Rattle.std.proofs.Common.{◌≡◌, inl, inr, ◌⊎◌, ℕ, zero, suc, Bool, false, List, [], ◌∷◌, ◌++◌, take, Option, Some, Ok, Err, Result, refl, sym, ap, subst, ◌∙◌, append_assoc, append-nil}
+use Rattle.std.proofs.Common.{◌≡◌, inl, inr, ◌⊎◌, ℕ, zero, suc, Bool, false, List, [], ◌∷◌, ◌++◌, take, Option, Some, Ok, Result, refl, sym, ap, subst, ◌∙◌, append_assoc, append-nil}
 use Rattle.cl_shapes.specs.declared.function.CostFn.{CostFn}
 use Rattle.cl_costs.specs.declared.refusal.CostRefusal.{CostRefusal}
 use Rattle.cl_costs.specs.CostFile.{table_of}
 use Rattle.cl_costs.specs.Tables.{function_of}
-use Rattle.cl_ports.specs.Files.{Held, IsContent, content_of}
+use Rattle.cl_ports.specs.Files.{Held, content_of}
 use Rattle.cl_ports.specs.Growth.{GrowsPart}
 use Rattle.cl_ports.proofs.Grown.{part_more, part_next, part_none}
 use Rattle.cl_meaning.specs.Limits.{Costs}

@@ -1,5 +1,5 @@
 -- The paths of sources, and whose contracts they are.
-use Rattle.std.specs.Prelude.{ℕ, ◌-◌, Bool, true, false, not, List, [], ◌∷◌, length, take, drop, codes, is_some, Option, Some, None, if◌then◌else◌, ◌==◌, ◌&&◌}
+use Rattle.std.specs.Prelude.{ℕ, ◌-◌, Bool, true, false, not, List, [], ◌∷◌, length, take, drop, codes, is_some, Option, None, if◌then◌else◌, ◌==◌, ◌&&◌}
 use Rattle.std.specs.List.{list_all, list_any}
 use Rattle.std.specs.Str.{bytes_eq}
 use Rattle.cl_c32.specs.Address.{AddressParts}

@@ -1,4 +1,4 @@
-use Rattle.std.proofs.Common.{List, map, ap, ◌∙◌}
+use Rattle.std.proofs.Common.{map, ap, ◌∙◌}
 use Rattle.cl_app.specs.declared.sources.Source.{Source}
 use Rattle.cl_app.specs.Words.{texts}
 use Rattle.cl_app.proofs.Judged.{are_apart, names_apart}

@@ -1,4 +1,3 @@
-use Rattle.std.proofs.Common.{◌≡◌, ℕ, []}
 use Rattle.cl_app.proofs.Counted.{after_deployment, deployment_follows}
 use Rattle.cl_app.proofs.generated.deploy.Goals as goal
 

@@ -1,4 +1,3 @@
-use Rattle.std.proofs.Common.{◌≡◌, ℕ}
 use Rattle.cl_workload.specs.Workload.{drawn}
 use Rattle.cl_app.proofs.Counted.{after_call, call_follows}
 use Rattle.cl_app.proofs.generated.run_call.Goals as goal

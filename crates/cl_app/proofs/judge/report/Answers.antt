@@ -1,4 +1,4 @@
-use Rattle.std.proofs.Common.{List, [], ℕ, drop, ◌+◌, subst, sym, ap}
+use Rattle.std.proofs.Common.{List, [], ℕ, drop, ◌+◌, subst, sym}
 use Rattle.std.proofs.lemmas.List.{drop_all}
 use Rattle.cl_costs.specs.Tables.{function_of}
 use Rattle.cl_app.specs.Checked.{IsReport}

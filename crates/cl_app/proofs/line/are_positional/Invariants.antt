@@ -1,4 +1,4 @@
-use Rattle.std.proofs.Common.{◌≡◌, map, drop}
+use Rattle.std.proofs.Common.{◌≡◌, drop}
 use Rattle.cl_app.specs.Words.{texts, positional, same_texts}
 use Rattle.cl_app.proofs.line.are_positional.Given as goal
 

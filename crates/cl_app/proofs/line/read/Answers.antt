@@ -1,4 +1,4 @@
-use Rattle.std.proofs.Common.{◌∙◌, sym, ap, map}
+use Rattle.std.proofs.Common.{◌∙◌, sym, ap}
 use Rattle.cl_app.specs.Words.{texts, same_texts, positional}
 use Rattle.cl_app.proofs.SameTexts.{line_is}
 use Rattle.cl_app.proofs.line.read.Goals as goal

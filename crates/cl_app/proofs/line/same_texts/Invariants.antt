@@ -1,4 +1,4 @@
-use Rattle.std.proofs.Common.{◌≡◌, ◌-◌, length, map, drop}
+use Rattle.std.proofs.Common.{◌≡◌, ◌-◌, length, drop}
 use Rattle.cl_app.specs.Words.{texts, same_texts}
 use Rattle.cl_app.proofs.line.same_texts.Given as goal
 

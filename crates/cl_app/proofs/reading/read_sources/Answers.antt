@@ -1,4 +1,4 @@
-use Rattle.std.proofs.Common.{ℕ, List, Option, drop, map, take, ◌+◌, ◌∙◌, refl, ap, subst, Ok, Err}
+use Rattle.std.proofs.Common.{List, Option, drop, map, ◌+◌, ◌∙◌, refl, ap, subst, Ok, Err}
 use Rattle.std.proofs.lemmas.List.{take_all}
 use Rattle.std.specs.declared.alloc.Global.{Global}
 use Rattle.std.specs.declared.string.String.{String}

@@ -5,7 +5,7 @@ use Rattle.cl_app.specs.Seen.{line_of}
 use Rattle.cl_app.specs.Heard.{HearsAll}
 use Rattle.cl_app.specs.Words.{Command, Call, Run, Check, Value, Wire, Gen, texts, command_on}
 use Rattle.cl_app.specs.Reply.{answer_of, Completes}
-use Rattle.cl_app.specs.Spelling.{Answer, value_answer}
+use Rattle.cl_app.specs.Spelling.{value_answer}
 use Rattle.cl_app.specs.Streams.{Stops}
 use Rattle.cl_app.specs.Top.{IsAnswer}
 use Rattle.cl_app.proofs.WordSources.{check_has_sources}

@@ -1,4 +1,4 @@
-use Rattle.std.proofs.Common.{ℕ, Bool, List, Ok, Err, inl, inr, refl, subst}
+use Rattle.std.proofs.Common.{Ok, Err, inl, inr, refl, subst}
 use Rattle.std.proofs.lemmas.Result.{IfErr-weaker, on_ok_weaker}
 use Rattle.cl_types.specs.Fault.{IsRefusal}
 use Rattle.cl_types.specs.declared.fault.Fault.{Fault}

@@ -1,4 +1,4 @@
-use Rattle.std.proofs.Common.{ℕ, List, IfErr, IfOk, OnOk, Some, inl, inr, refl, subst}
+use Rattle.std.proofs.Common.{ℕ, List, IfErr, IfOk, Some, inl, inr, refl, subst}
 use Rattle.cl_costs.specs.CostFile.{table_of}
 use Rattle.cl_ports.specs.Growth.{GrowsPart}
 use Rattle.cl_app.specs.Heard.{HearsUnder}
