@@ -4,3 +4,4 @@ pub mod Cells
 pub mod Codec
 pub mod ContractName
 pub mod Digits
+pub mod Principals

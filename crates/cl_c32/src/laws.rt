@@ -1,9 +1,11 @@
-//! What holds of addresses and their texts.
-ghost use Rattle.std.specs.Prelude.{◌≡◌, ◌≢◌, ◌<◌, ◌≤◌, ℕ, List, length, Ok, Err};
+//! What holds of addresses, of their texts and of principals.
+ghost use Rattle.std.specs.Prelude.{◌≡◌, ◌≢◌, ◌<◌, ◌≤◌, ℕ, List, length, true, Ok, Err};
 ghost use Rattle.std.specs.List.{All};
 ghost use Rattle.cl_c32.specs.Address.{AddressParts, IsAddress};
 ghost use Rattle.cl_c32.specs.Codec.{address_text, decoded};
 ghost use Rattle.cl_c32.specs.Digits.{number_in, regrouped_digits};
+ghost use Rattle.cl_c32.specs.Principals.{same_principal};
+ghost use Rattle.cl_c32.specs.declared.principal.Principal.{Principal};
 ghost use Rattle.cl_c32.specs.declared.codec.C32Refusal.TheVariants.{BadChecksum};
 
 /// Digits in another base stand for the same number, and give the first ones back, with each zero in
@@ -28,4 +30,11 @@ pub fn one_text()
     ensures short { (a : AddressParts) → IsAddress a → length (address_text a) ≤ 48 }
     ensures differ { (text stated computed : List ℕ) →
         decoded text ≡ Err (BadChecksum stated computed) → stated ≢ computed }
+{}
+
+/// Principals are one where they have the same version, the same hash, and the same contract's name or none.
+pub fn one_principal()
+    ensures equal { (p q : Principal) → same_principal p q ≡ true → p ≡ q }
+    ensures itself { (p : Principal) → same_principal p p ≡ true }
+    ensures turned { (p q : Principal) → same_principal p q ≡ same_principal q p }
 {}

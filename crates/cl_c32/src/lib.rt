@@ -14,5 +14,5 @@ pub use address::Address;
 pub use address_text::AddressText;
 pub use codec::{C32Refusal, decode, encode};
 pub use contract_name::ContractName;
-pub use laws::{one_number, one_text};
+pub use laws::{one_number, one_principal, one_text};
 pub use principal::Principal;

@@ -1,16 +1,14 @@
 -- Functions of accepted texts are called by names, and have few parameters.
 use Rattle.std.proofs.Common.{◌≡◌, ℕ, ◌+◌, ◌*◌, ◌<◌, ◌≤◌, ◌^◌, Bool, true, false, List, [], ◌∷◌, length, map, Option, Some, None, refl, sym, ap, subst, ◌∙◌, arith}
 use Rattle.std.specs.Prelude.{if◌then◌else◌, option_map, option_and_then, codes, unwrap_or}
-use Rattle.std.proofs.lemmas.Bool.{eqb-true}
-use Rattle.cl_types.specs.Types.{PlainType}
 use Rattle.cl_types.specs.Name.{IsName}
 use Rattle.cl_types.specs.declared.sized.Access.{Access}
 use Rattle.cl_types.specs.declared.sized.Access.TheVariants.{Public, ReadOnly, Private}
-use Rattle.cl_types.proofs.Lattice.{key_same, keys_equal}
+use Rattle.cl_types.proofs.Lattice.{keys_equal}
 use Rattle.cl_c32.specs.declared.principal.Principal.{Principal}
 use Rattle.cl_sexpr.specs.declared.sexpr.Span.{Span}
-use Rattle.cl_sexpr.specs.Tree.{Tree, LeafAt, ListAt, TupleAt, Leaf, Named, Signed, Unsigned, Bytes, Ascii, Unicode, Standing, Local, Forest, Empty, Then, span_of, forest, forest_size, tree_size}
-use Rattle.cl_sexpr.specs.Fits.{Fits, AllFit, AreFit}
+use Rattle.cl_sexpr.specs.Tree.{Tree, LeafAt, ListAt, TupleAt, Named, Signed, Unsigned, Bytes, Ascii, Unicode, Standing, Local, Forest, Empty, Then, span_of, forest, forest_size, tree_size}
+use Rattle.cl_sexpr.specs.Fits.{Fits, AreFit}
 use Rattle.cl_sexpr.proofs.LiteralsFit.{items_fit}
 use Rattle.cl_sexpr.proofs.Sizes.{items_few}
 use Rattle.cl_values.specs.Valid.{IsPrincipal}
@@ -18,7 +16,7 @@ use Rattle.cl_forms.specs.Forms.{Form, FormKind, ConstantForm, VariableForm, Map
 use Rattle.cl_forms.specs.Names.{same}
 use Rattle.cl_forms.specs.Shapes.{trees_of, bindings_of}
 use Rattle.cl_forms.specs.Weights.{weight_of_kind, weight_of_forms}
-use Rattle.cl_forms.specs.Items.{Draft, ConstantDraft, VariableDraft, MapDraft, FungibleDraft, NonFungibleDraft, FunctionDraft, Item, Expression, Misshapen, Definition, word_of, atom_of, two_of, three_of, one_or_two_of, Defined, with_name, items_of, header_in, header_of, function_by, definition, item_by, item_of, kind_of, form_by, form_of as form_at}
+use Rattle.cl_forms.specs.Items.{Draft, ConstantDraft, VariableDraft, MapDraft, FungibleDraft, NonFungibleDraft, FunctionDraft, Item, Expression, Misshapen, Definition, word_of, atom_of, two_of, three_of, one_or_two_of, Defined, with_name, header_of, function_by, definition, item_by, item_of, kind_of, form_by, form_of as form_at}
 use Rattle.cl_forms.proofs.ExpressionsFit.{are_fit}
 use Rattle.cl_forms.proofs.Weighing.{forms_within}
 use Rattle.cl_meaning.specs.Deployed.{Contract, Deployed, Function, contract_at, has_name, form_of, as_function, function_in}

@@ -2,6 +2,8 @@
 use Rattle.std.proofs.Common.{◌≡◌, ℕ, Bool, true, false, List, [], ◌∷◌, ◌++◌, Option, Some, None, refl, sym, ap, subst, ◌∙◌}
 use Rattle.std.specs.Prelude.{if◌then◌else◌, IsSome}
 use Rattle.cl_c32.specs.declared.principal.Principal.{Principal}
+use Rattle.cl_c32.proofs.Principals.{principal_itself}
+use Rattle.cl_events.proofs.Holders.{holders_apart}
 use Rattle.cl_sexpr.proofs.LiteralsFit.{items_fit}
 use Rattle.cl_values.specs.Valid.{IsPrincipal}
 use Rattle.cl_forms.specs.Forms.{Form}
@@ -21,7 +23,6 @@ use Rattle.cl_expression_sound.specs.Stages.{AreForms, IsTypedAs, AreKnown, none
 use Rattle.cl_expression_sound.proofs.Leaves.{bound_there}
 use Rattle.cl_contract_sound.specs.Nodes.{IsOfText, AreOfTexts, none_yet, and_one, AreContracts}
 use Rattle.cl_contract_sound.specs.Deployments.{AreItsForms}
-use Rattle.cl_contract_sound.proofs.Serving.{holders_apart, principal_same}
 use Rattle.cl_contract_sound.proofs.States.{at_contains}
 use Rattle.cl_contract_sound.proofs.Naming.{its_forms_at}
 
@@ -57,7 +58,7 @@ are_known costs W ks (and_one {before = before} c k texts new h there is) =
 -- ---- what callers see
 
 pub known_last : (p : Principal) (ks : List Known) (k : Known) → k.principal ≡ p → IsSome (known_at p (ks ++ k ∷ []))
-known_last p [] k e = by (same_principal k.principal p) (ap (λ q. same_principal q p) e ∙ principal_same p)
+known_last p [] k e = by (same_principal k.principal p) (ap (λ q. same_principal q p) e ∙ principal_itself p)
   where
     by : (b : Bool) → b ≡ true → IsSome (if b then Some k else None)
     by true h = refl

@@ -1,21 +1,18 @@
 -- Contexts of deployed contracts serve: constants, functions, and functions of other contracts.
 use Rattle.std.proofs.Common.{◌≡◌, ◌⊎◌, inl, inr, ℕ, Bool, true, false, List, [], ◌∷◌, ◌++◌, Option, Some, None, refl, sym, ap, subst, ◌∙◌, append-nil}
-use Rattle.std.specs.Prelude.{if◌then◌else◌, ◌&&◌, nat_eq, option_and_then, unwrap_or}
-use Rattle.std.proofs.lemmas.Bool.{eqb-true, eq-eqb}
+use Rattle.std.specs.Prelude.{if◌then◌else◌, option_and_then, unwrap_or}
 use Rattle.cl_types.specs.Types.{PlainType}
 use Rattle.cl_types.specs.declared.sized.Access.{Access}
 use Rattle.cl_types.specs.declared.sized.Access.TheVariants.{Public, ReadOnly, Private}
-use Rattle.cl_types.proofs.Lattice.{keys_equal, and_left, and_right, and_both, key_same}
 use Rattle.cl_c32.specs.declared.principal.Principal.{Principal}
-use Rattle.cl_values.specs.Tree.{PrincipalV}
+use Rattle.cl_c32.proofs.Principals.{principals_equal}
 use Rattle.cl_values.specs.Valid.{IsPrincipal}
-use Rattle.cl_values.proofs.Spellings.{own_wire}
-use Rattle.cl_maps.proofs.MapLaws.{same_keys}
 use Rattle.cl_forms.specs.Forms.{Form, FormKind, ConstantForm, VariableForm, MapForm, FungibleForm, NonFungibleForm, FunctionForm, ExpressionForm}
-use Rattle.cl_events.specs.State.{holder, is_principal}
+use Rattle.cl_forms.specs.Shapes.{open_to_others}
+use Rattle.cl_events.proofs.Holders.{same_by_key}
 use Rattle.cl_meaning.specs.Deployed.{Contract, Deployed, Function, contract_at, as_function, function_in, function_of, constant_of}
-use Rattle.cl_meaning.specs.Calls.{if_callable as function_callable, callable}
-use Rattle.cl_rules.specs.Context.{CostTable, Context, Known, Signature, same, same_part, same_principal, named_in, known_at, signature_in, if_callable, target_at}
+use Rattle.cl_meaning.specs.Calls.{callable}
+use Rattle.cl_rules.specs.Context.{CostTable, Context, Known, Signature, same_principal, named_in, known_at, signature_in, if_callable, target_at}
 use Rattle.cl_rules.specs.Verdicts.{Found}
 use Rattle.cl_rules.specs.FormRules.{Defined, nothing_defined, context_after}
 use Rattle.cl_rules.specs.FormTyping.{form_typed, FormsTyped, no_more, one_more}
@@ -23,45 +20,7 @@ use Rattle.cl_rules.specs.Acceptance.{known_of}
 use Rattle.cl_meaning.specs.Kept.{Stage}
 use Rattle.cl_expression_sound.specs.Sound.{IsServed, IsServedThere, IsServedAcross, deployed_world}
 use Rattle.cl_expression_sound.specs.Stages.{IsTypedAs, AreKnown, none_known, and_known, IsContext, IsThere}
-use Rattle.cl_expression_sound.proofs.Leaves.{principal_typed}
 use Rattle.cl_contract_sound.proofs.Contexts.{IsFunctionOf, stands_in, named_more}
-
--- ---- principals
-
--- two tests of principals agree
-part_equal : (p q : Option (List ℕ)) → same_part p q ≡ true → p ≡ q
-part_equal None None h = refl
-part_equal (Some x) (Some y) h = ap Some (keys_equal x y h)
-part_equal None (Some y) h = absurd cc
-part_equal (Some x) None h = absurd cc
-
-part_same : (p : Option (List ℕ)) → same_part p p ≡ true
-part_same None = refl
-part_same (Some x) = key_same x
-
-pub principal_equal : (p q : Principal) → same_principal p q ≡ true → p ≡ q
-principal_equal p q h =
-    let first = and_left (nat_eq p.address.version q.address.version && same p.address.hash q.address.hash) (same_part p.contract q.contract) h in
-    let version : p.address.version ≡ q.address.version = eqb-true p.address.version q.address.version (and_left (nat_eq p.address.version q.address.version) (same p.address.hash q.address.hash) first) in
-    let hash : p.address.hash ≡ q.address.hash = keys_equal p.address.hash q.address.hash (and_right (nat_eq p.address.version q.address.version) (same p.address.hash q.address.hash) first) in
-    let contract : p.contract ≡ q.contract = part_equal p.contract q.contract (and_right (nat_eq p.address.version q.address.version && same p.address.hash q.address.hash) (same_part p.contract q.contract) h) in
-    λ i. record { address = record { version = version i; hash = hash i }; contract = contract i }
-
-pub principal_same : (p : Principal) → same_principal p p ≡ true
-principal_same p = and_both _ _ (and_both _ _ (eq-eqb p.address.version p.address.version refl) (key_same p.address.hash)) (part_same p.contract)
-
-pub holders_apart : (p q : Principal) → IsPrincipal p → IsPrincipal q → is_principal p q ≡ true → p ≡ q
-holders_apart p q h k e = same_value p q (own_wire (PrincipalV p) (PrincipalV q) (principal_typed p h).valid (principal_typed q k).valid (same_keys (holder p) (holder q) e))
-  where
-    same_value : (p q : Principal) → PrincipalV p ≡ PrincipalV q → p ≡ q
-    same_value p q e = cc
-
-pub other_principal : (p q : Principal) → IsPrincipal p → IsPrincipal q → same_principal p q ≡ false → is_principal p q ≡ false
-other_principal p q h k e = by (is_principal p q) refl
-  where
-    by : (b : Bool) → is_principal p q ≡ b → b ≡ false
-    by true is = sym (subst (λ r. same_principal p r ≡ true) (holders_apart p q h k is) (principal_same p)) ∙ e
-    by false is = refl
 
 -- ---- what more forms define
 
@@ -117,7 +76,7 @@ known_split p [] n k h = by (same_principal n.principal p) refl h
     same_value n k e = cc
 
     by : (b : Bool) → same_principal n.principal p ≡ b → (if b then Some n else None) ≡ Some k → (None ≡ Some k) ⊎ ((n.principal ≡ p) × (n ≡ k))
-    by true e g = inr (principal_equal n.principal p e, same_value n k g)
+    by true e g = inr (principals_equal n.principal p e, same_value n k g)
     by false e g = absurd cc
 known_split p (l ∷ ks) n k h = by (same_principal l.principal p) h (known_split p ks n k)
   where
@@ -176,8 +135,8 @@ module _ (costs : CostTable) (W : Deployed) (stage : Stage) where
       same_value f g e = cc
 
       by : (a : Access) → f.access ≡ a → elim a [ Public ↦ Some f | ReadOnly ↦ Some f | Private ↦ None ] ≡ Some g → (Some f ≡ Some g) × ((fn : Function) → fn.access ≡ g.access → callable fn ≡ Some fn)
-      by Public e h = (h, λ fn k. ap (function_callable fn) (k ∙ sym (ap (λ (g : Signature). g.access) (same_value f g h)) ∙ e))
-      by ReadOnly e h = (h, λ fn k. ap (function_callable fn) (k ∙ sym (ap (λ (g : Signature). g.access) (same_value f g h)) ∙ e))
+      by Public e h = (h, λ fn k. ap (λ (a : Access). open_to_others a fn) (k ∙ sym (ap (λ (g : Signature). g.access) (same_value f g h)) ∙ e))
+      by ReadOnly e h = (h, λ fn k. ap (λ (a : Access). open_to_others a fn) (k ∙ sym (ap (λ (g : Signature). g.access) (same_value f g h)) ∙ e))
       by Private e h = absurd cc
 
   other_is : (b : Bool) (o : Option Known) (k : Known) → (if b then None else o) ≡ Some k → (b ≡ false) × (o ≡ Some k)
@@ -210,7 +169,7 @@ module _ (costs : CostTable) (W : Deployed) (stage : Stage) where
       let f = as_served a.contract x g (T.functions x g (ap (λ (k : Known). signature_in x k.functions) a.is ∙ there_g.0)) in
       record {
         contract = a.contract;
-        another = other_principal p G.principal (subst IsPrincipal a.at a.accepted.valid) (subst IsPrincipal (sym S.home) I.accepted.valid) o.0;
+        another = same_by_key p G.principal (subst IsPrincipal a.at a.accepted.valid) (subst IsPrincipal (sym S.home) I.accepted.valid) ∙ o.0;
         there = ap (λ p. contract_at p W) (sym a.at) ∙ a.there;
         length = ap (λ (k : Known). k.length) a.is;
         function = f.0;

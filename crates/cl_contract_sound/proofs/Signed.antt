@@ -3,6 +3,7 @@ use Rattle.std.proofs.Common.{◌≡◌, ◌⊎◌, inl, inr, ℕ, Bool, true, f
 use Rattle.std.specs.Prelude.{if◌then◌else◌, option_and_then, unwrap_or, IsSome}
 use Rattle.cl_types.proofs.Lattice.{key_same}
 use Rattle.cl_c32.specs.declared.principal.Principal.{Principal}
+use Rattle.cl_events.proofs.Holders.{holders_apart}
 use Rattle.cl_values.specs.Valid.{IsPrincipal}
 use Rattle.cl_forms.specs.Forms.{Form, FormKind, ConstantForm, VariableForm, MapForm, FungibleForm, NonFungibleForm, FunctionForm, ExpressionForm}
 use Rattle.cl_forms.specs.Order.{IsGoodOrder}
@@ -20,7 +21,7 @@ use Rattle.cl_rules.specs.FormTyping.{form_typed, FormsTyped, no_more, one_more}
 use Rattle.cl_contract_sound.specs.Nodes.{IsOfText, AreOfTexts, none_yet, and_one, AreContracts}
 use Rattle.cl_contract_sound.specs.Deployments.{AreItsForms}
 use Rattle.cl_contract_sound.specs.Laws.{IsSigned}
-use Rattle.cl_contract_sound.proofs.Serving.{known_split, holders_apart}
+use Rattle.cl_contract_sound.proofs.Serving.{known_split}
 use Rattle.cl_contract_sound.proofs.States.{at_contains, some_contract}
 use Rattle.cl_contract_sound.proofs.Naming.{all_at}
 use Rattle.cl_contract_sound.proofs.OfTexts.{text_forms, found_principal}

@@ -2,6 +2,7 @@
 use Rattle.std.proofs.Common.{◌≡◌, ◌⊎◌, inl, inr, ℕ, zero, suc, Bool, true, false, List, [], ◌∷◌, ◌++◌, Option, Some, None, refl, sym, ap, subst, ◌∙◌, arith}
 use Rattle.std.specs.Prelude.{if◌then◌else◌, unwrap_or, Contains}
 use Rattle.cl_types.specs.Types.{PlainType}
+use Rattle.cl_events.proofs.Holders.{holders_apart}
 use Rattle.cl_sexpr.specs.Tree.{Tree}
 use Rattle.cl_values.specs.Valid.{IsPrincipal}
 use Rattle.cl_maps.proofs.MapLaws.{self_equal}
@@ -11,7 +12,6 @@ use Rattle.cl_meaning.specs.Deployed.{Contract, Deployed, contract_at, form_of}
 use Rattle.cl_meaning.specs.Kept.{Defines, Stands, Stage, Whole, Behind, Kept, IsDefinition, IsAmong, IsSoFar}
 use Rattle.cl_rules.specs.Context.{Known}
 use Rattle.cl_expression_sound.specs.Stages.{IsDefining, AreForms, AreKnown, none_known, and_known, AreDistinct}
-use Rattle.cl_contract_sound.proofs.Serving.{holders_apart}
 
 -- ---- the contract in front
 

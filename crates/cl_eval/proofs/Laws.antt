@@ -4,6 +4,7 @@ use Rattle.std.proofs.lemmas.Bool.Decides.{nat_tests}
 use Rattle.std.specs.Prelude.{if◌then◌else◌, not, is_some, nat_le, option_map}
 use Rattle.std.specs.Str.{bytes_eq}
 use Rattle.std.proofs.lemmas.Slice.Eq.{bytes_eq-Decides}
+use Rattle.std.specs.Option.{option_or}
 use Rattle.cl_shapes.specs.Limits.{Purse}
 use Rattle.cl_shapes.specs.declared.name.CostName.{CostName}
 use Rattle.cl_shapes.specs.declared.name.CostName.TheVariants.{Literal, Lookup, Context as ContextCost, ReadVar, ReadMap}
@@ -34,7 +35,7 @@ use Rattle.cl_events.specs.State.{State, spot, with_variables, with_entries, wit
 use Rattle.cl_meaning.specs.Answers.{Answer, Wrong, stop, give, wrong, charged, with_known, outcome_of}
 use Rattle.cl_meaning.specs.Deployed.{Contract, value_of, constant_of, has_map}
 use Rattle.cl_meaning.specs.Scope.{Scope, home}
-use Rattle.cl_meaning.specs.Names.{standing, literal, first_of, name_form}
+use Rattle.cl_meaning.specs.Names.{standing, literal, name_form}
 use Rattle.cl_meaning.specs.Data.{here, variable_set, only_if, with_map, found_at, entry_at, key_and_value, insert_entry, set_entry, delete_entry}
 use Rattle.cl_eval.specs.Tails.{variable_read, entry_read, with_nothing, with_one, with_all}
 
@@ -79,7 +80,7 @@ if_no : {A : Type 0} (b : Bool) (x y : A) → b ≡ false → (if b then x else 
 if_no true x y h = absurd cc
 if_no false x y h = refl
 
-name_at : (S : Scope) (x : List ℕ) (s : State) → is_one_of keywords x ≡ false → name_form S x s ≡ with_known (first_of (value_of x S.bound) (constant_of x (home S))) (standing Lookup) s
+name_at : (S : Scope) (x : List ℕ) (s : State) → is_one_of keywords x ≡ false → name_form S x s ≡ with_known (option_or (value_of x S.bound) (constant_of x (home S))) (standing Lookup) s
 unfolding name_form
 name_at S x s k =
     if_no _ _ _ (differs x (codes "true") k refl)
@@ -89,11 +90,11 @@ name_at S x s k =
     ∙ if_no _ _ _ (differs x (codes "contract-caller") k refl)
     ∙ if_no _ _ _ (differs x (codes "block-height") k refl)
 
-pub name_is : (S : Scope) (x : List ℕ) (o c : Option Val) (H : Contract) (s : State) → is_one_of keywords x ≡ false → o ≡ value_of x S.bound → home S ≡ Some H → c ≡ value_of x H.constants → name_form S x s ≡ with_known (first_of o c) (standing Lookup) s
+pub name_is : (S : Scope) (x : List ℕ) (o c : Option Val) (H : Contract) (s : State) → is_one_of keywords x ≡ false → o ≡ value_of x S.bound → home S ≡ Some H → c ≡ value_of x H.constants → name_form S x s ≡ with_known (option_or o c) (standing Lookup) s
 name_is S x o c H s k h i j =
-    name_at S x s k ∙ ap (λ p. with_known (first_of p (constant_of x (home S))) (standing Lookup) s) (sym h)
-    ∙ ap (λ p. with_known (first_of o (constant_of x p)) (standing Lookup) s) i
-    ∙ ap (λ p. with_known (first_of o p) (standing Lookup) s) (sym j)
+    name_at S x s k ∙ ap (λ p. with_known (option_or p (constant_of x (home S))) (standing Lookup) s) (sym h)
+    ∙ ap (λ p. with_known (option_or o (constant_of x p)) (standing Lookup) s) i
+    ∙ ap (λ p. with_known (option_or o p) (standing Lookup) s) (sym j)
 
 -- ---- variables
 
@@ -203,11 +204,11 @@ not_all n S x vs s a b c d e f g h = refl
 
 -- ---- names of a scope within another
 
-one_before : (b : Bool) (v : Val) (o c r : Option Val) → first_of o c ≡ r → first_of (if b then Some v else o) c ≡ (if b then Some v else r)
+one_before : (b : Bool) (v : Val) (o c r : Option Val) → option_or o c ≡ r → option_or (if b then Some v else o) c ≡ (if b then Some v else r)
 one_before true v o c r h = refl
 one_before false v o c r h = h
 
-pub value_in_both : (x : List ℕ) (outer own : List (List ℕ × Val)) → first_of (value_of x outer) (value_of x own) ≡ value_of x (outer ++ own)
+pub value_in_both : (x : List ℕ) (outer own : List (List ℕ × Val)) → option_or (value_of x outer) (value_of x own) ≡ value_of x (outer ++ own)
 value_in_both x [] own = refl
 value_in_both x (e ∷ outer) own = one_before (bytes_eq e.0 x) e.1 (value_of x outer) (value_of x own) (value_of x (outer ++ own)) (value_in_both x outer own)
 

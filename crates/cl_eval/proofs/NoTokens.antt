@@ -3,6 +3,7 @@ use Rattle.std.proofs.Common.{◌≡◌, ℕ, zero, suc, Bool, true, false, cond
 use Rattle.std.specs.Prelude.{if◌then◌else◌, option_and_then, is_some, codes}
 use Rattle.std.specs.Ordering.{eq_by_cmp}
 use Rattle.std.specs.Str.{bytes_eq}
+use Rattle.std.specs.Option.{option_or}
 use Rattle.cl_types.specs.Types.{PlainType}
 use Rattle.cl_types.specs.declared.sized.Access.{Access}
 use Rattle.cl_types.specs.declared.sized.Access.TheVariants.{Public, ReadOnly, Private}
@@ -29,7 +30,7 @@ use Rattle.cl_events.specs.Acts.{Acted, replaced, on_ledger, on_owners, on_stx, 
 use Rattle.cl_meaning.specs.Answers.{Outcome, Given, Thrown, Aborted, Wrong, Deeper, BySupply, Answer, Note, stop, give, wrong, charged, then_on, and_then, ending, returning, with_known}
 use Rattle.cl_meaning.specs.Deployed.{value_of, constant_of}
 use Rattle.cl_meaning.specs.Scope.{Scope, home}
-use Rattle.cl_meaning.specs.Names.{standing, literal, first_of, name_form, leaf_form}
+use Rattle.cl_meaning.specs.Names.{standing, literal, name_form, leaf_form}
 use Rattle.cl_meaning.specs.Control.{choice, last_of}
 use Rattle.cl_meaning.specs.Data.{only_if, key_and_value}
 use Rattle.cl_meaning.specs.Tokens.{balance_in, answered, acts}
@@ -119,7 +120,7 @@ keeps_literal (Err refusal) s = keeps_stop Wrong s
 keeps_name : (S : Scope) (x : List ℕ) (s : State) → Keeps s (name_form S x s)
 unfolding name_form
 keeps_name S x s =
-    let known = with_known (first_of (value_of x S.bound) (constant_of x (home S))) (standing Lookup) s in
+    let known = with_known (option_or (value_of x S.bound) (constant_of x (home S))) (standing Lookup) s in
     let height = if bytes_eq x (codes "block-height") then standing Context (UintV S.frame.height) s else known in
     let caller = if bytes_eq x (codes "contract-caller") then standing Context (PrincipalV S.frame.caller) s else height in
     let sender = if bytes_eq x (codes "tx-sender") then standing Context (PrincipalV S.frame.sender) s else caller in
@@ -131,7 +132,7 @@ keeps_name S x s =
     (keeps_if (bytes_eq x (codes "tx-sender")) (standing Context (PrincipalV S.frame.sender) s) caller s (keeps_standing Context (PrincipalV S.frame.sender) s)
     (keeps_if (bytes_eq x (codes "contract-caller")) (standing Context (PrincipalV S.frame.caller) s) height s (keeps_standing Context (PrincipalV S.frame.caller) s)
     (keeps_if (bytes_eq x (codes "block-height")) (standing Context (UintV S.frame.height) s) known s (keeps_standing Context (UintV S.frame.height) s)
-    (keeps_known (first_of (value_of x S.bound) (constant_of x (home S))) (standing Lookup) s (λ v. keeps_standing Lookup v s)))))))
+    (keeps_known (option_or (value_of x S.bound) (constant_of x (home S))) (standing Lookup) s (λ v. keeps_standing Lookup v s)))))))
 
 pub keeps_leaf : (S : Scope) (leaf : Leaf) (s : State) → Keeps s (leaf_form S leaf s)
 unfolding leaf_form

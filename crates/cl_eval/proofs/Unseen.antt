@@ -2,6 +2,7 @@
 use Rattle.std.proofs.Common.{◌≡◌, ℕ, zero, suc, List, [], ◌∷◌, Bool, true, false, Option, Some, None, refl, sym, ap, ◌∙◌}
 use Rattle.std.specs.Prelude.{Result, Ok, Err, codes, if◌then◌else◌}
 use Rattle.std.specs.Str.{bytes_eq}
+use Rattle.std.specs.Option.{option_or}
 use Rattle.cl_shapes.specs.Limits.{Purse, spend}
 use Rattle.cl_shapes.specs.declared.name.CostName.{CostName}
 use Rattle.cl_shapes.specs.declared.name.CostName.TheVariants.{Literal, Lookup, ReadVar}
@@ -29,7 +30,7 @@ use Rattle.cl_meaning.specs.Limits.{Costs, cost_of, Paid, Within, Past, paid_by,
 use Rattle.cl_meaning.specs.Trace.{claims, trace_of}
 use Rattle.cl_meaning.specs.Scope.{Scope, Frame, ByName, home}
 use Rattle.cl_meaning.specs.Deployed.{has_map, value_of, constant_of}
-use Rattle.cl_meaning.specs.Names.{standing, literal, name_form, first_of}
+use Rattle.cl_meaning.specs.Names.{standing, literal, name_form}
 use Rattle.cl_meaning.specs.Values.{number_of, on_values}
 use Rattle.cl_meaning.specs.Control.{last_of, tried}
 use Rattle.cl_meaning.specs.Data.{here, only_if, variable_set, key_and_value, entry_at, found_at, set_entry, insert_entry, delete_entry}
@@ -90,7 +91,7 @@ name_unseen S x s =
     (chosen (bytes_eq x (codes "tx-sender")) _ _ (standing_unseen _ _ s)
     (chosen (bytes_eq x (codes "contract-caller")) _ _ (standing_unseen _ _ s)
     (chosen (bytes_eq x (codes "block-height")) _ _ (standing_unseen _ _ s)
-    (known (first_of (value_of x S.bound) (constant_of x (home S))) (standing Lookup) s (λ v. standing_unseen Lookup v s)))))))
+    (known (option_or (value_of x S.bound) (constant_of x (home S))) (standing Lookup) s (λ v. standing_unseen Lookup v s)))))))
 
 -- ---- natives on values, tuples and sequences
 

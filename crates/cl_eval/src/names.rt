@@ -1,7 +1,7 @@
 //! Names that are bound to values.
 ghost use Rattle.std.specs.Prelude.{◌≡◌, ◌++◌, [], option_copied};
+ghost use Rattle.std.specs.Option.{option_or};
 ghost use Rattle.cl_meaning.specs.Deployed.{value_of};
-ghost use Rattle.cl_meaning.specs.Names.{first_of};
 
 use cl_types::Name;
 use cl_values::Val;
@@ -62,7 +62,7 @@ fn or_first_under<'a>(
     own: &'a [(Name, Val)],
     name: &Name,
 ) -> Option<&'a Val>
-    ensures { option_copied result ≡ first_of (option_copied found.entry) (value_of name.now own.now) }
+    ensures { option_copied result ≡ option_or (option_copied found.entry) (value_of name.now own.now) }
 {
     match found {
         Some(value) => Some(value),

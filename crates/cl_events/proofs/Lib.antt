@@ -1,1 +1,2 @@
 pub mod Genesis
+pub mod Holders

@@ -4,6 +4,7 @@ use Rattle.std.specs.Prelude.{◌||◌, not, nat_le, nat_lt, if◌then◌else◌
 use Rattle.std.specs.Str.{bytes_eq}
 use Rattle.std.proofs.lemmas.Bool.{leb-true}
 use Rattle.std.proofs.lemmas.Bool.Decides.{nat_tests}
+use Rattle.std.specs.Option.{option_or}
 use Rattle.cl_types.specs.Types.{PlainType, NoType, IntType, UintType, BoolType, PrincipalType, BuffType, AsciiType, Utf8Type, OptionalType, size_of as type_size}
 use Rattle.cl_types.specs.Sized.{everywhere, most_size, is_within}
 use Rattle.cl_types.proofs.Lattice.{le_same, and_left}
@@ -21,7 +22,7 @@ use Rattle.cl_events.specs.State.{State}
 use Rattle.cl_meaning.specs.Answers.{Answer, Given, give, with_known}
 use Rattle.cl_meaning.specs.Deployed.{value_of, constant_of, contract_at}
 use Rattle.cl_meaning.specs.Scope.{Bound}
-use Rattle.cl_meaning.specs.Names.{standing, literal, first_of, name_form, leaf_form}
+use Rattle.cl_meaning.specs.Names.{standing, literal, name_form, leaf_form}
 use Rattle.cl_rules.specs.Faults.{type_rules}
 use Rattle.cl_rules.specs.NativeTypes.{Ruled, fine, made, is_small}
 use Rattle.cl_rules.specs.Context.{Names, charge, both, same, named_in, is_no_value}
@@ -145,17 +146,17 @@ module _ (K : World) (N : Stands K) where
 
   -- ---- names
 
-  known_sound : (o : Option PlainType) (p : Option PlainType) (v c : Option Val) (known : Bool) → ((t : PlainType) → o ≡ Some t → IsThere v t) → (o ≡ None → v ≡ None) → ((t : PlainType) → p ≡ Some t → IsThere c t) → IsSoundShape K N (value_or o (value_or p (no_value_shape known))) (λ s. with_known (first_of v c) (standing Lookup) s)
+  known_sound : (o : Option PlainType) (p : Option PlainType) (v c : Option Val) (known : Bool) → ((t : PlainType) → o ≡ Some t → IsThere v t) → (o ≡ None → v ≡ None) → ((t : PlainType) → p ≡ Some t → IsThere c t) → IsSoundShape K N (value_or o (value_or p (no_value_shape known))) (λ s. with_known (option_or v c) (standing Lookup) s)
   known_sound (Some t) p v c known h free k = by (h t refl)
     where
-      by : IsThere v t → IsSoundShape K N (value_shape Lookup (fine t)) (λ s. with_known (first_of v c) (standing Lookup) s)
-      by there = subst (λ o. IsSoundShape K N (value_shape Lookup (fine t)) (λ s. with_known (first_of o c) (standing Lookup) s)) (sym there.there) (value_sound Lookup (fine t) there.value (λ f. there.typed))
+      by : IsThere v t → IsSoundShape K N (value_shape Lookup (fine t)) (λ s. with_known (option_or v c) (standing Lookup) s)
+      by there = subst (λ o. IsSoundShape K N (value_shape Lookup (fine t)) (λ s. with_known (option_or o c) (standing Lookup) s)) (sym there.there) (value_sound Lookup (fine t) there.value (λ f. there.typed))
   known_sound None (Some t) v c known h free k = by (k t refl)
     where
-      by : IsThere c t → IsSoundShape K N (value_shape Lookup (fine t)) (λ s. with_known (first_of v c) (standing Lookup) s)
+      by : IsThere c t → IsSoundShape K N (value_shape Lookup (fine t)) (λ s. with_known (option_or v c) (standing Lookup) s)
       by there =
-          subst (λ o. IsSoundShape K N (value_shape Lookup (fine t)) (λ s. with_known (first_of o c) (standing Lookup) s)) (sym (free refl))
-          (subst (λ o. IsSoundShape K N (value_shape Lookup (fine t)) (λ s. with_known (first_of None o) (standing Lookup) s)) (sym there.there) (value_sound Lookup (fine t) there.value (λ f. there.typed)))
+          subst (λ o. IsSoundShape K N (value_shape Lookup (fine t)) (λ s. with_known (option_or o c) (standing Lookup) s)) (sym (free refl))
+          (subst (λ o. IsSoundShape K N (value_shape Lookup (fine t)) (λ s. with_known (option_or None o) (standing Lookup) s)) (sym there.there) (value_sound Lookup (fine t) there.value (λ f. there.typed)))
   known_sound None None v c true h free k = record { each = λ fs shape follows types low s n. absurd cc }
   known_sound None None v c false h free k = record { each = λ fs shape follows types low s n. absurd cc }
 

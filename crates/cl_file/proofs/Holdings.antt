@@ -7,7 +7,7 @@ use Rattle.cl_c32.specs.declared.principal.Principal.{Principal}
 use Rattle.std.specs.Option.{is_some}
 use Rattle.std.specs.Map.{lookup}
 use Rattle.std.proofs.lemmas.Map.Made.{is_some-lookup}
-use Rattle.cl_post.specs.Post.{is_one}
+use Rattle.cl_c32.specs.Principals.{same_principal}
 use Rattle.cl_file.specs.Files.{total, holds, AreOnce}
 
 pub total_next : (hs : List (Principal × ℕ)) (i : ℕ) (h : Principal × ℕ) → i < length hs → Some h ≡ slice_get hs i → total (take i hs) + h.1 ≡ total (take (i + 1) hs)
@@ -18,8 +18,8 @@ none_there : (o : Option ℕ) → is_some o ≡ false → o ≡ None
 none_there None e = refl
 none_there (Some n) e = absurd cc
 
-pub not_found : (p : Principal) (hs : List (Principal × ℕ)) → holds hs p ≡ false → lookup (is_one p) hs ≡ None
-not_found p hs e = none_there (lookup (is_one p) hs) (is_some-lookup (is_one p) hs ∙ e)
+pub not_found : (p : Principal) (hs : List (Principal × ℕ)) → holds hs p ≡ false → lookup (same_principal p) hs ≡ None
+not_found p hs e = none_there (lookup (same_principal p) hs) (is_some-lookup (same_principal p) hs ∙ e)
 
 -- one more holder, who holds nothing yet
 pub once_next : (done hs : List (Principal × ℕ)) (h : Principal × ℕ) → AreOnce done hs → holds (done ++ hs) h.0 ≡ false → AreOnce done (hs ++ h ∷ [])

@@ -7,7 +7,7 @@ use Rattle.serde_json.specs.Data.{Data, Items, no_items, item}
 use Rattle.serde_json.specs.Find.{get, as_array, as_object}
 use Rattle.cl_c32.specs.declared.principal.Principal.{Principal}
 use Rattle.cl_json.specs.Json.{json_of}
-use Rattle.cl_post.specs.Post.{is_one}
+use Rattle.cl_c32.specs.Principals.{same_principal}
 use Rattle.cl_file.specs.Paths.{Read, and_then, said, each_from}
 use Rattle.cl_file.specs.Objects.{Values, Texts, Kind, plain, needed, only}
 use Rattle.cl_file.specs.Kinds.{whole, principal, an_amount}
@@ -29,7 +29,7 @@ tested b refused = if b then Ok tt else refused
 -- ---- holders
 
 abbrev pub holds : List (Principal × ℕ) → Principal → Bool
-holds holders p = list_any (is_one p) (keys_of holders)
+holds holders p = list_any (same_principal p) (keys_of holders)
 
 -- behind those that were read, none stands twice
 abbrev pub AreOnce : List (Principal × ℕ) → List (Principal × ℕ) → Type 0

@@ -69,10 +69,9 @@ uses_name items n name params = is_defined (take n items) name || repeats [] par
 
 -- ---- breaks
 
--- a rule before these, if it is broken
+-- a rule in front of others, where it is broken
 abbrev pub when : Bool → Rule → List Rule → List Rule
-when true rule rules = rule ∷ rules
-when false rule rules = rules
+when broken rule rules = if broken then rule ∷ rules else rules
 
 -- the rules that an item at a place breaks, with its own span
 abbrev pub rules_of : List Item → ℕ → Item → List Rule
@@ -91,8 +90,8 @@ abbrev pub breaks_of : List Tree → ℕ → Tree → List Break
 breaks_of items n e =
     map (λ at. broken_at at NotInProfile) (left_out_in e) ++ map (broken_at (span_of e)) (rules_of (map item_of items) n (item_of e))
 
--- a break is one of these
-abbrev pub IsAmong : Break → List Break → Type 0
+-- one of these
+abbrev pub IsAmong : {A : Type 0} → A → List A → Type 0
 IsAmong r [] = ⊥
 IsAmong r (q ∷ qs) = (r ≡ q) ⊎ IsAmong r qs
 

@@ -1,5 +1,5 @@
 -- The natives as one table, the keywords, the words that define, and the names that are left out.
-use Rattle.std.specs.Prelude.{ℕ, ◌==◌, ◌||◌, Bool, true, false, List, [], ◌∷◌, codes, map, nat_le, if◌then◌else◌, Option, Some, None}
+use Rattle.std.specs.Prelude.{ℕ, ◌==◌, ◌||◌, Bool, true, false, List, [], ◌∷◌, codes, map, nat_le, if◌then◌else◌, Option, Some, None, option_map}
 use Rattle.std.specs.Str.{bytes_eq}
 use Rattle.std.specs.List.{list_any}
 use Rattle.cl_shapes.specs.declared.name.CostName.{CostName}
@@ -47,6 +47,11 @@ first name head arity cost = record { name = name; head = head; arity = arity; c
 -- charged first; can be given by name
 abbrev pub first_starred : List ℕ → Head → Arity → CostName → Row
 first_starred name head arity cost = record { name = name; head = head; arity = arity; cost = cost; special = true; by_name = true }
+
+-- what a name stands for that is given to map, filter or fold: a native that can be given by name, and else a function
+abbrev pub given_by_name : {A B : Type 0} → (Row → B) → (A → B) → Option Row → Option A → Option B
+given_by_name as_native as_function None f = option_map as_function f
+given_by_name as_native as_function (Some row) f = if row.by_name then Some (as_native row) else None
 
 -- the row of each native
 abbrev pub row_of : Head → Row

@@ -9,6 +9,11 @@ use Rattle.cl_forms.specs.Forms.{Form, expression_of}
 abbrev pub same : List ℕ → List ℕ → Bool
 same = pointwise nat_eq
 
+-- what stands first under a name
+abbrev pub named_in : {A : Type 0} → List ℕ → List (List ℕ × A) → Option A
+named_in x [] = None
+named_in x (e ∷ es) = if same e.0 x then Some e.1 else named_in x es
+
 -- What may stand behind the first atom of a list, so far as names go: nothing special; a key; a contract, which a function
 -- follows; pairs that begin with keys.
 pub data Place : Type 0 where

@@ -75,3 +75,7 @@ ordered forms = visit_each (visit (length forms + 1) forms []) (places_of 0 form
 -- the names of the forms at these places
 abbrev pub names_at : List Form → List ℕ → List (List ℕ)
 names_at forms ns = filter_map (name_at forms) ns
+
+-- the forms at these places
+abbrev pub forms_at : List Form → List ℕ → List Form
+forms_at forms places = filter_map (slice_get forms) places

@@ -1,7 +1,9 @@
--- Shapes of lists that both the meaning and the rules read: a binding, a pair of a tuple, a contract beside another.
+-- What both the meaning and the rules read: a binding, a pair of a tuple, a principal that a literal names, what may be called.
 use Rattle.std.specs.Prelude.{ℕ, List, [], ◌∷◌, Option, Some, None}
+use Rattle.cl_types.specs.declared.sized.Access.{Access}
+use Rattle.cl_types.specs.declared.sized.Access.TheVariants.{Public, ReadOnly, Private}
 use Rattle.cl_c32.specs.declared.principal.Principal.{Principal}
-use Rattle.cl_sexpr.specs.Tree.{Tree, LeafAt, ListAt, Named, Forest, Empty, Then, Pairs, NoPair, Pair}
+use Rattle.cl_sexpr.specs.Tree.{Tree, LeafAt, ListAt, Leaf, Named, Standing, Local, Forest, Empty, Then, Pairs, NoPair, Pair}
 
 -- the items of a list
 abbrev pub trees_of : Forest → List Tree
@@ -30,3 +32,13 @@ bindings_of (e ∷ es) = and_binding (binding_of e) (bindings_of es)
 -- the contract of this name at the address of a contract
 abbrev pub beside : Principal → List ℕ → Principal
 beside p name = record p { contract = Some name }
+
+-- the principal that a literal names; a contract's name alone is that of the contract beside this one
+abbrev pub principal_named : Principal → Leaf → Option Principal
+principal_named own (Standing p) = Some p
+principal_named own (Local name) = Some (beside own name)
+principal_named own leaf = None
+
+-- what other contracts may call: a function of this access, unless it is private
+abbrev pub open_to_others : {A : Type 0} → Access → A → Option A
+open_to_others access f = elim access [ Public ↦ Some f | ReadOnly ↦ Some f | Private ↦ None ]

@@ -2,16 +2,16 @@
 use Rattle.std.specs.Prelude.{ℕ, ◌&&◌, ◌||◌, Bool, true, false, List, [], ◌∷◌, ◌++◌, length, if◌then◌else◌, option_and_then, Option, Some, None}
 use Rattle.cl_types.specs.Types.{PlainType}
 use Rattle.cl_types.specs.declared.sized.Access.{Access}
-use Rattle.cl_types.specs.declared.sized.Access.TheVariants.{Public, ReadOnly, Private}
+use Rattle.cl_types.specs.declared.sized.Access.TheVariants.{Public}
 use Rattle.cl_c32.specs.declared.principal.Principal.{Principal}
 use Rattle.cl_shapes.specs.declared.name.CostName.{CostName}
 use Rattle.cl_shapes.specs.declared.name.CostName.TheVariants.{Control, Call, Bind, ContractCall as ContractCallCost}
-use Rattle.cl_sexpr.specs.Tree.{Tree, LeafAt, Named, Standing, Local}
+use Rattle.cl_sexpr.specs.Tree.{Tree, LeafAt, Named}
 use Rattle.cl_values.specs.Tree.{Tree as Val, BoolV, ResponseV}
 use Rattle.cl_values.specs.Wire.{size_of}
 use Rattle.cl_forms.specs.declared.head.Head.{Head}
 use Rattle.cl_forms.specs.declared.head.Head.TheVariants.{OnValues, And, Or}
-use Rattle.cl_forms.specs.Shapes.{beside}
+use Rattle.cl_forms.specs.Shapes.{principal_named, open_to_others}
 use Rattle.cl_events.specs.State.{State, is_principal}
 use Rattle.cl_meaning.specs.Answers.{Answer, give, wrong, charged, and_then, returning, ending, with_known}
 use Rattle.cl_meaning.specs.Deployed.{Contract, Function, contract_at, function_in, function_of}
@@ -24,19 +24,13 @@ use Rattle.cl_meaning.specs.Values.{on_values}
 unfoldable pub call_form : List ℕ → Take → Enter → Scope → List Tree → State → Answer Val
 call_form x take enter S es s = and_then (parts take S es s) (λ vs. with_known (function_of x (home S)) (λ f. enter S (OwnFunction f) vs))
 
-abbrev pub if_callable : Function → Access → Option Function
-if_callable f Public = Some f
-if_callable f ReadOnly = Some f
-if_callable f Private = None
-
 -- a function that other contracts may call
 abbrev pub callable : Function → Option Function
-callable f = if_callable f f.access
+callable f = open_to_others f.access f
 
--- the principal that a literal names
+-- the principal that an item names as a literal
 abbrev pub target_of : Scope → Tree → Option Principal
-target_of S (LeafAt (Standing p) at) = Some p
-target_of S (LeafAt (Local c) at) = Some (beside S.frame.contract c)
+target_of S (LeafAt leaf at) = principal_named S.frame.contract leaf
 target_of S e = None
 
 -- a deployed contract other than this one

@@ -7,6 +7,7 @@ use Rattle.cl_c32.specs.declared.principal.Principal.{Principal}
 use Rattle.cl_sexpr.specs.Tree.{Tree}
 use Rattle.cl_values.specs.Tree.{Tree as Val}
 use Rattle.cl_forms.specs.Forms.{Form, FormKind, MapForm, FunctionForm}
+pub use Rattle.cl_forms.specs.Names.{named_in as value_of}
 use Rattle.cl_events.specs.State.{is_principal}
 
 -- a contract: its principal, its forms, the length of its text, and the values of its constants
@@ -59,11 +60,6 @@ is_map form = false
 abbrev pub has_map : List ℕ → Option Contract → Bool
 has_map x None = false
 has_map x (Some c) = is_map (form_of x c.forms)
-
--- the first value under a name
-abbrev pub value_of : List ℕ → List (List ℕ × Val) → Option Val
-value_of x [] = None
-value_of x (e ∷ es) = if bytes_eq e.0 x then Some e.1 else value_of x es
 
 -- the value of a contract's constant
 abbrev pub constant_of : List ℕ → Option Contract → Option Val

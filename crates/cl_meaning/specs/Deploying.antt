@@ -1,11 +1,12 @@
 -- A deployment: the forms in their order, each evaluated, charged, and put in the contract and the state.
-use Rattle.std.specs.Prelude.{ℕ, List, [], ◌∷◌, ◌++◌, filter_map, slice_get, Option, Some, None, unwrap_or, Result, Ok, Err}
+use Rattle.std.specs.Prelude.{ℕ, List, [], ◌∷◌, ◌++◌, Option, Some, None, unwrap_or, Result, Ok, Err}
 use Rattle.cl_shapes.specs.declared.name.CostName.TheVariants.{Deploy, Define}
 use Rattle.cl_values.specs.Tree.{Tree as Val, UintV}
 use Rattle.cl_values.specs.Wire.{size_of}
 use Rattle.cl_maps.specs.Maps.{put, empty}
 use Rattle.cl_tokens.specs.Ledger.{no_tokens}
 use Rattle.cl_forms.specs.Forms.{Form, FormKind, ConstantForm, VariableForm, MapForm, FungibleForm, NonFungibleForm, FunctionForm, ExpressionForm}
+pub use Rattle.cl_forms.specs.Order.{forms_at}
 use Rattle.cl_forms.specs.Order.{ordered}
 use Rattle.cl_events.specs.State.{State, place, with_variables, with_fungibles, with_nonfungibles}
 use Rattle.cl_meaning.specs.Answers.{Answer, give, wrong, charged, and_then, with_known}
@@ -45,10 +46,6 @@ defined W F x (ExpressionForm e) c s = and_then (top W F c e s) (λ v t. give c 
 unfoldable pub all_defined : Deployed → Frame → List Form → Contract → State → Answer Contract
 all_defined W F [] c s = give c s
 all_defined W F (f ∷ fs) c s = and_then (defined W F (unwrap_or f.name []) f.kind c s) (all_defined W F fs)
-
--- the forms at these places
-abbrev pub forms_at : List Form → List ℕ → List Form
-forms_at forms places = filter_map (slice_get forms) places
 
 abbrev pub forms_by : List Form → Result (List ℕ) (List ℕ) → Option (List Form)
 forms_by forms (Ok places) = Some (forms_at forms places)

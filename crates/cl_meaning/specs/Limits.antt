@@ -1,7 +1,7 @@
 -- The cost sum of an answer, and what a limit leaves of it.
 use Rattle.std.specs.Prelude.{ℕ, List, [], ◌∷◌, Result, Ok, Err}
 use Rattle.cl_shapes.specs.declared.cost.Cost5.{Cost5}
-use Rattle.cl_shapes.specs.declared.function.CostFn.{CostFn}
+pub use Rattle.cl_shapes.specs.Names.{CostTable as Costs}
 use Rattle.cl_shapes.specs.declared.limit.Over.{Over}
 use Rattle.cl_shapes.specs.declared.name.CostName.{CostName}
 use Rattle.cl_shapes.specs.Costs.{plus, zero_cost}
@@ -10,10 +10,6 @@ use Rattle.cl_shapes.specs.Limits.{Purse, spend}
 use Rattle.cl_values.specs.Tree.{Tree as Val}
 use Rattle.cl_events.specs.State.{State}
 use Rattle.cl_meaning.specs.Answers.{Outcome, Given, Thrown, Aborted, Wrong, Deeper, Cause, Answer, Note, Charged, Ended}
-
--- a cost function for each name
-abbrev pub Costs : Type 0
-Costs = CostName → CostFn
 
 -- a name, and the number at which it is charged
 abbrev pub Charge : Type 0

@@ -1,8 +1,7 @@
 -- What an expression means, and what the application of a function means, to a depth.
-use Rattle.std.specs.Prelude.{ℕ, zero, suc, List, [], ◌∷◌, Option, Some, None}
+use Rattle.std.specs.Prelude.{ℕ, zero, suc, List, Option, Some, None}
 use Rattle.cl_shapes.specs.declared.name.CostName.{CostName}
-use Rattle.cl_sexpr.specs.declared.sexpr.Span.{Span}
-use Rattle.cl_sexpr.specs.Tree.{Tree, LeafAt, ListAt, TupleAt, Named, Then, Pairs, NoPair, Pair, span_of}
+use Rattle.cl_sexpr.specs.Tree.{Tree, LeafAt, ListAt, TupleAt, Named, Then, span_of}
 use Rattle.cl_values.specs.Tree.{Tree as Val}
 use Rattle.cl_forms.specs.declared.head.Head.{Head}
 use Rattle.cl_forms.specs.declared.head.Head.TheVariants.{OnValues, OnToken, TupleOf, AsMaxLen, Get, VarGet, VarSet, MapGet, MapSet, MapInsert, MapDelete, FtBalance, FtSupply, StxBalance, NftOwner, Print, If, Let, Begin, And, Or, Asserts, Unwrap, UnwrapErr, Try, Match, AsContract, Map, Filter, Fold, ContractCall}

@@ -1,5 +1,6 @@
 -- Literals, keywords, bound names and constants.
-use Rattle.std.specs.Prelude.{ℕ, true, false, List, codes, if◌then◌else◌, Option, Some, None, Result, Ok, Err}
+use Rattle.std.specs.Prelude.{ℕ, true, false, List, codes, if◌then◌else◌, Result, Ok, Err}
+use Rattle.std.specs.Option.{option_or}
 use Rattle.std.specs.Str.{bytes_eq}
 use Rattle.cl_shapes.specs.declared.name.CostName.{CostName}
 use Rattle.cl_shapes.specs.declared.name.CostName.TheVariants.{Literal, Lookup, Context}
@@ -23,11 +24,6 @@ abbrev pub literal : Result Val ValueRefusal → State → Answer Val
 literal (Ok v) s = standing Literal v s
 literal (Err refusal) s = wrong s
 
--- the first of two that is there
-abbrev pub first_of : Option Val → Option Val → Option Val
-first_of (Some v) other = Some v
-first_of None other = other
-
 -- a keyword; or else a bound name; or else a constant of the contract
 unfoldable pub name_form : Scope → List ℕ → State → Answer Val
 name_form S x s =
@@ -37,7 +33,7 @@ name_form S x s =
     else if bytes_eq x (codes "tx-sender") then standing Context (PrincipalV S.frame.sender) s
     else if bytes_eq x (codes "contract-caller") then standing Context (PrincipalV S.frame.caller) s
     else if bytes_eq x (codes "block-height") then standing Context (UintV S.frame.height) s
-    else with_known (first_of (value_of x S.bound) (constant_of x (home S))) (standing Lookup) s
+    else with_known (option_or (value_of x S.bound) (constant_of x (home S))) (standing Lookup) s
 
 -- an expression of one token; a contract's name alone means the contract beside this one
 unfoldable pub leaf_form : Scope → Leaf → State → Answer Val

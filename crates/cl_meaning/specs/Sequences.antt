@@ -1,12 +1,12 @@
 -- map, filter and fold: charged after their arguments and before the applications, which come in the order of the entries.
-use Rattle.std.specs.Prelude.{ℕ, true, false, List, [], ◌∷◌, if◌then◌else◌, Option, Some, None}
+use Rattle.std.specs.Prelude.{ℕ, true, false, List, [], ◌∷◌, Option, Some, None, option_map}
 use Rattle.cl_shapes.specs.declared.name.CostName.TheVariants.{Iterate}
 use Rattle.cl_sexpr.specs.declared.sexpr.Span.{Span}
 use Rattle.cl_sexpr.specs.Tree.{Tree, LeafAt, Named}
 use Rattle.cl_values.specs.Tree.{Tree as Val, BoolV, ListV, items_of}
 use Rattle.cl_values.specs.Wire.{size_of}
 use Rattle.cl_values.specs.Sequences.{entries_of, like}
-use Rattle.cl_forms.specs.Heads.{Row, native}
+use Rattle.cl_forms.specs.Heads.{Row, native, given_by_name}
 use Rattle.cl_events.specs.State.{State}
 use Rattle.cl_values.specs.Computed.{Gives}
 use Rattle.cl_meaning.specs.Answers.{Answer, stop, give, wrong, charged, and_then, with_known, outcome_of}
@@ -16,12 +16,10 @@ use Rattle.cl_meaning.specs.Scope.{Scope, home, Callee, OwnFunction, ByName, Tak
 -- ---- what a name applies
 
 abbrev pub own : Option Function → Option Callee
-own None = None
-own (Some f) = Some (OwnFunction f)
+own f = option_map OwnFunction f
 
 abbrev pub by_row : Span → Option Row → Option Function → Option Callee
-by_row at None f = own f
-by_row at (Some row) f = if row.by_name then Some (ByName row at) else None
+by_row at row f = given_by_name (λ r. ByName r at) OwnFunction row f
 
 -- a native that can be given by name, or a function of the contract
 abbrev pub callee_of : Scope → List ℕ → Span → Option Callee

@@ -11,7 +11,7 @@ use Rattle.cl_values.specs.Sequences.{within_length}
 use Rattle.cl_values.specs.Tuples.{sorted_entries, part_at}
 use Rattle.cl_values.specs.Natives.{native_value}
 use Rattle.cl_events.specs.State.{State}
-use Rattle.cl_meaning.specs.Answers.{Answer, stop, give, wrong, charged, and_then, outcome_of}
+use Rattle.cl_meaning.specs.Answers.{Answer, stop, wrong, charged, and_then, outcome_of}
 use Rattle.cl_meaning.specs.Scope.{Scope, Take, parts, sizes}
 
 -- what a native on values is charged at: arithmetic and control by the number of its arguments, all else by the sum of their sizes

@@ -4,6 +4,7 @@ use Rattle.std.specs.Prelude.{if◌then◌else◌, filter_map}
 use Rattle.std.specs.List.{All}
 use Rattle.std.proofs.lemmas.List.Elements.{All-head, All-tail}
 use Rattle.cl_c32.specs.declared.principal.Principal.{Principal}
+use Rattle.cl_c32.proofs.Principals.{principals_equal, principal_itself}
 use Rattle.cl_shapes.specs.declared.cost.Cost5.{Cost5}
 use Rattle.cl_shapes.specs.Costs.{IsAtMost}
 use Rattle.cl_shapes.specs.Limits.{limit_of}
@@ -14,7 +15,7 @@ use Rattle.cl_meaning.specs.Limits.{Costs, Limited, Gave, Threw, AbortedBy, Pass
 use Rattle.cl_rules.specs.Context.{Known, Signature, known_at, signature_in, named_in, same_principal}
 use Rattle.cl_rules.specs.FormRules.{Defined}
 use Rattle.cl_rules.specs.Acceptance.{known_of}
-use Rattle.cl_contract_sound.proofs.Serving.{known_split, principal_equal, principal_same}
+use Rattle.cl_contract_sound.proofs.Serving.{known_split}
 use Rattle.cl_file.specs.declared.entry.Common.{Common}
 use Rattle.cl_file.specs.declared.entry.Entry.{Entry}
 use Rattle.cl_file.specs.declared.entry.Entry.TheVariants.{Deploy, Call, Block}
@@ -70,7 +71,7 @@ module _ (costs : Costs) where
       of_known q k h = by (same_principal p q) refl
         where
           by : (b : Bool) → same_principal p q ≡ b → IsToldOf k (if b then or_before o (told q) else told q)
-          by true e = absurd (none_known p ks k new (ap (λ r. known_at r ks) (principal_equal p q e) ∙ h))
+          by true e = absurd (none_known p ks k new (ap (λ r. known_at r ks) (principals_equal p q e) ∙ h))
           by false e = T.each q k h
 
       -- a deployment that deploys nothing
@@ -82,7 +83,7 @@ module _ (costs : Costs) where
     one_deployed n bounds named new own = record { each = λ q k h. by q k (known_split q ks n k h) }
       where
         here : IsToldOf n (if same_principal p p then Some bounds else told p)
-        here = subst (λ b. IsToldOf n (if b then Some bounds else told p)) (sym (principal_same p)) own
+        here = subst (λ b. IsToldOf n (if b then Some bounds else told p)) (sym (principal_itself p)) own
 
         by : (q : Principal) (k : Known) → (known_at q ks ≡ Some k) ⊎ ((n.principal ≡ q) × (n ≡ k)) → IsToldOf k (if same_principal p q then or_before (Some bounds) (told q) else told q)
         by q k (inl h) = of_known (Some bounds) new q k h

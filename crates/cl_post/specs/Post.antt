@@ -1,9 +1,11 @@
 -- Post-conditions (SIP-005): what a transaction may move.
 use Rattle.std.specs.Prelude.{ℕ, ◌+◌, ◌^◌, nat_eq, nat_le, nat_lt, Bool, true, false, not, ◌&&◌, List, [], ◌∷◌, length, Option, Some, None, if◌then◌else◌}
 use Rattle.std.specs.List.{list_any, list_all, sum_by}
+use Rattle.std.specs.Option.{option_or}
 use Rattle.std.specs.Str.{bytes_eq}
 use Rattle.std.specs.Ordering.{eq_by_cmp}
 use Rattle.cl_c32.specs.declared.principal.Principal.{Principal}
+use Rattle.cl_c32.specs.Principals.{same_principal}
 use Rattle.cl_maps.specs.Maps.{key_cmp}
 use Rattle.cl_values.specs.Tree.{Tree}
 use Rattle.cl_values.specs.Wire.{wire}
@@ -20,29 +22,18 @@ use Rattle.cl_post.specs.declared.condition.Condition.{Condition}
 
 -- ---- sameness
 
-abbrev pub is_name : List ℕ → List ℕ → Bool
-is_name a b = bytes_eq a b
-
-abbrev pub is_part : Option (List ℕ) → Option (List ℕ) → Bool
-is_part None None = true
-is_part (Some a) (Some b) = is_name a b
-is_part a b = false
-
-abbrev pub is_one : Principal → Principal → Bool
-is_one p q = nat_eq p.address.version q.address.version && bytes_eq p.address.hash q.address.hash && is_part p.contract q.contract
-
 abbrev pub is_value : Tree → Tree → Bool
 is_value v w = eq_by_cmp key_cmp (wire v) (wire w)
 
 abbrev pub is_asset : Asset → Asset → Bool
 is_asset Stx Stx = true
-is_asset (Ft p name) (Ft q other) = is_one p q && is_name name other
-is_asset (Nft p name id) (Nft q other other_id) = is_one p q && is_name name other && is_value id other_id
+is_asset (Ft p name) (Ft q other) = same_principal p q && bytes_eq name other
+is_asset (Nft p name id) (Nft q other other_id) = same_principal p q && bytes_eq name other && is_value id other_id
 is_asset a b = false
 
 -- a move of this asset by this principal
 unfoldable pub is_of : Principal → Asset → Move → Bool
-is_of p asset m = is_one p m.from && is_asset asset m.asset
+is_of p asset m = same_principal p m.from && is_asset asset m.asset
 
 -- ---- sums
 
@@ -97,11 +88,7 @@ abbrev pub unless_named : Mode → List Condition → List Move → Option ℕ
 unless_named Allow conditions moves = None
 unless_named Deny conditions moves = if all_named conditions moves then None else Some (length conditions)
 
-abbrev pub or_else : Option ℕ → Option ℕ → Option ℕ
-or_else (Some i) later = Some i
-or_else None later = later
-
 -- The first condition that fails. In deny mode, where each holds and some move is of an asset that no condition names for its
 -- principal, their number.
 unfoldable pub holds : List Move → Mode → List Condition → Option ℕ
-holds moves mode conditions = or_else (first_failing moves conditions) (unless_named mode conditions moves)
+holds moves mode conditions = option_or (first_failing moves conditions) (unless_named mode conditions moves)

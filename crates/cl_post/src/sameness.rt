@@ -1,6 +1,8 @@
 //! Whether a move is of an asset by a principal.
 ghost use Rattle.std.specs.Prelude.{◌≡◌};
-ghost use Rattle.cl_post.specs.Post.{is_one, is_name, is_value, is_asset, is_of};
+ghost use Rattle.std.specs.Str.{bytes_eq};
+ghost use Rattle.cl_c32.specs.Principals.{same_principal};
+ghost use Rattle.cl_post.specs.Post.{is_value, is_asset, is_of};
 
 use cl_c32::Principal;
 use cl_events::{Asset, Move};
@@ -8,13 +10,13 @@ use cl_types::Name;
 use cl_values::{Val, compare};
 
 fn is_one(a: &Principal, b: &Principal) -> bool
-    ensures { result ≡ is_one a.now b.now }
+    ensures { result ≡ same_principal a.now b.now }
 {
     a == b
 }
 
 fn is_name(a: &Name, b: &Name) -> bool
-    ensures { result ≡ is_name a.now b.now }
+    ensures { result ≡ bytes_eq a.now b.now }
 {
     a == b
 }

@@ -3,6 +3,7 @@ use Rattle.std.proofs.Common.{◌≡◌, ℕ, List, [], Option, Some, None, refl
 use Rattle.std.specs.Prelude.{IsSome}
 use Rattle.cl_types.specs.declared.sized.Access.TheVariants.{ReadOnly}
 use Rattle.cl_c32.specs.declared.principal.Principal.{Principal}
+use Rattle.cl_events.proofs.Holders.{holders_apart}
 use Rattle.cl_values.specs.Tree.{Tree as Val}
 use Rattle.cl_values.specs.Valid.{IsPrincipal}
 use Rattle.cl_events.specs.State.{State}
@@ -12,7 +13,6 @@ use Rattle.cl_meaning.specs.Top.{most_depth, call_from}
 use Rattle.cl_rules.specs.Context.{CostTable, Known, known_at}
 use Rattle.cl_contract_sound.specs.Nodes.{AreContracts}
 use Rattle.cl_contract_sound.proofs.OfTexts.{found_principal}
-use Rattle.cl_contract_sound.proofs.Serving.{holders_apart}
 use Rattle.cl_contract_sound.proofs.States.{at_contains, some_contract}
 use Rattle.cl_readonly_sound.specs.Untouched.{IsUntouched}
 use Rattle.cl_readonly_sound.specs.Laws.{StandsForText, DoesNotWrite}

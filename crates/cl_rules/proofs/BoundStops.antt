@@ -1,5 +1,5 @@
 -- Where a look at the bounds of forms in their order stops.
-use Rattle.std.proofs.Common.{◌≡◌, ◌⊎◌, inl, inr, ℕ, zero, suc, ◌≤◌, arith, Bool, true, false, List, [], ◌∷◌, ◌++◌, slice_get, Contains, Option, Some, None, refl, sym, ap, subst, ◌∙◌}
+use Rattle.std.proofs.Common.{◌≡◌, ◌⊎◌, inl, inr, ℕ, zero, suc, ◌≤◌, arith, Bool, true, false, List, [], ◌∷◌, ◌++◌, slice_get, Option, Some, None, refl, sym, ap, subst, ◌∙◌}
 use Rattle.std.specs.Prelude.{unwrap_or, option_map, if◌then◌else◌}
 use Rattle.cl_types.specs.Types.{PlainType}
 use Rattle.cl_types.specs.declared.sized.Access.{Access}
@@ -14,7 +14,7 @@ use Rattle.cl_rules.specs.Context.{CostTable, Bound, Signature, Known, Context, 
 use Rattle.cl_rules.specs.Verdicts.{Found}
 use Rattle.cl_rules.specs.FormRules.{Defined, nothing_defined, context_after}
 use Rattle.cl_rules.specs.FormTyping.{FormsTyped, form_typed, no_more, one_more}
-use Rattle.cl_rules.specs.Acceptance.{forms_at, most_cost, bound_at, bound_by, bound_of, nowhere, Bounded, FirstBound, DeploymentAbove}
+use Rattle.cl_rules.specs.Acceptance.{forms_at, most_cost, bound_at, bound_by, bound_of, nowhere, Bounded}
 use Rattle.cl_rules.specs.PlainProgram.{or_later, above_at, bound_stop}
 use Rattle.cl_rules.specs.Laws.{IsFirstAboveLimit}
 

@@ -17,21 +17,17 @@ use Rattle.cl_forms.specs.Placed.{AllPlaced}
 
 -- ---- spans of names that are left out
 
-abbrev SpanAmong : Span → List Span → Type 0
-SpanAmong s [] = ⊥
-SpanAmong s (u ∷ us) = (s ≡ u) ⊎ SpanAmong s us
-
-split : (s : Span) (xs ys : List Span) → SpanAmong s (xs ++ ys) → SpanAmong s xs ⊎ SpanAmong s ys
+split : (s : Span) (xs ys : List Span) → IsAmong s (xs ++ ys) → IsAmong s xs ⊎ IsAmong s ys
 split s [] ys h = inr h
 split s (x ∷ xs) ys (inl e) = inl (inl e)
 split s (x ∷ xs) ys (inr h) = elim (split s xs ys h) [ inl k ↦ inl (inr k) | inr k ↦ inr k ]
 
-if_one : (s at : Span) (b : Bool) → SpanAmong s (if b then at ∷ [] else []) → s ≡ at
+if_one : (s at : Span) (b : Bool) → IsAmong s (if b then at ∷ [] else []) → s ≡ at
 if_one s at true (inl e) = e
 if_one s at true (inr h) = absurd h
 if_one s at false h = absurd h
 
-leaf_one : (s at : Span) (l : Leaf) → SpanAmong s (left_out_leaf l at) → s ≡ at
+leaf_one : (s at : Span) (l : Leaf) → IsAmong s (left_out_leaf l at) → s ≡ at
 leaf_one s at (Named x) h = if_one s at (is_one_of left_out x) h
 leaf_one s at (Signed z) h = absurd h
 leaf_one s at (Unsigned n) h = absurd h
@@ -43,19 +39,19 @@ leaf_one s at (Local n) h = absurd h
 
 mutual
   -- they end in the item
-  ends_in : (e : Tree) → IsPlaced e → (s : Span) → SpanAmong s (left_out_in e) → ((span_of e).start < s.end) × (s.end ≤ (span_of e).end)
+  ends_in : (e : Tree) → IsPlaced e → (s : Span) → IsAmong s (left_out_in e) → ((span_of e).start < s.end) × (s.end ≤ (span_of e).end)
   ends_in (LeafAt l at) p s h = let e = ap (λ (u : Span). u.end) (leaf_one s at l h) in (omega (arith, p, e), omega (arith, e))
   ends_in (ListAt f at) p s h = let x = ends_of at.start at.end f p s h in (x.0, omega (arith, x.1))
   ends_in (TupleAt ps at) p s h = let x = ends_of_pairs at.start at.end ps p s h in (x.0, omega (arith, x.1))
 
-  ends_of : (low high : ℕ) (f : Forest) → ArePlaced low high f → (s : Span) → SpanAmong s (left_out_of f) → (low < s.end) × (s.end < high)
+  ends_of : (low high : ℕ) (f : Forest) → ArePlaced low high f → (s : Span) → IsAmong s (left_out_of f) → (low < s.end) × (s.end < high)
   ends_of low high Empty p s h = absurd h
   ends_of low high (Then e es) p s h = elim (split s (left_out_in e) (left_out_of es) h) [
     | inl k ↦ let x = ends_in e p.1 s k in (omega (arith, p.0, x.0), omega (arith, x.1, forest_room (span_of e).end high es p.2))
     | inr k ↦ let x = ends_of (span_of e).end high es p.2 s k in (omega (arith, p.0, tree_room e p.1, x.0), x.1)
   ]
 
-  ends_of_pairs : (low high : ℕ) (ps : Pairs) → ArePairsPlaced low high ps → (s : Span) → SpanAmong s (left_out_of_pairs ps) → (low < s.end) × (s.end < high)
+  ends_of_pairs : (low high : ℕ) (ps : Pairs) → ArePairsPlaced low high ps → (s : Span) → IsAmong s (left_out_of_pairs ps) → (low < s.end) × (s.end < high)
   ends_of_pairs low high NoPair p s h = absurd h
   ends_of_pairs low high (Pair key e ps) p s h = elim (split s (left_out_in e) (left_out_of_pairs ps) h) [
     | inl k ↦ let x = ends_in e p.1 s k in (omega (arith, p.0, x.0), omega (arith, x.1, pairs_room (span_of e).end high ps p.2))
@@ -63,7 +59,7 @@ mutual
   ]
 
 -- of two that end alike both are in the first item, or both behind it
-two_sides : (e : Tree) → IsPlaced e → (us : List Span) (s u : Span) → s.end ≡ u.end → ((v : Span) → SpanAmong v us → (span_of e).end < v.end) → (SpanAmong s (left_out_in e) → SpanAmong u (left_out_in e) → s ≡ u) → (SpanAmong s us → SpanAmong u us → s ≡ u) → SpanAmong s (left_out_in e) ⊎ SpanAmong s us → SpanAmong u (left_out_in e) ⊎ SpanAmong u us → s ≡ u
+two_sides : (e : Tree) → IsPlaced e → (us : List Span) (s u : Span) → s.end ≡ u.end → ((v : Span) → IsAmong v us → (span_of e).end < v.end) → (IsAmong s (left_out_in e) → IsAmong u (left_out_in e) → s ≡ u) → (IsAmong s us → IsAmong u us → s ≡ u) → IsAmong s (left_out_in e) ⊎ IsAmong s us → IsAmong u (left_out_in e) ⊎ IsAmong u us → s ≡ u
 two_sides e p us s u q behind left right (inl h) (inl k) = left h k
 two_sides e p us s u q behind left right (inr h) (inr k) = right h k
 two_sides e p us s u q behind left right (inl h) (inr k) = absurd (omega (arith, q, (ends_in e p s h).1, behind u k))
@@ -71,16 +67,16 @@ two_sides e p us s u q behind left right (inr h) (inl k) = absurd (omega (arith,
 
 mutual
   -- and one place is the end of one of them
-  one_end_in : (e : Tree) → IsPlaced e → (s u : Span) → s.end ≡ u.end → SpanAmong s (left_out_in e) → SpanAmong u (left_out_in e) → s ≡ u
+  one_end_in : (e : Tree) → IsPlaced e → (s u : Span) → s.end ≡ u.end → IsAmong s (left_out_in e) → IsAmong u (left_out_in e) → s ≡ u
   one_end_in (LeafAt l at) p s u q h k = leaf_one s at l h ∙ sym (leaf_one u at l k)
   one_end_in (ListAt f at) p s u q h k = one_end_of at.start at.end f p s u q h k
   one_end_in (TupleAt ps at) p s u q h k = one_end_of_pairs at.start at.end ps p s u q h k
 
-  one_end_of : (low high : ℕ) (f : Forest) → ArePlaced low high f → (s u : Span) → s.end ≡ u.end → SpanAmong s (left_out_of f) → SpanAmong u (left_out_of f) → s ≡ u
+  one_end_of : (low high : ℕ) (f : Forest) → ArePlaced low high f → (s u : Span) → s.end ≡ u.end → IsAmong s (left_out_of f) → IsAmong u (left_out_of f) → s ≡ u
   one_end_of low high Empty p s u q h k = absurd h
   one_end_of low high (Then e es) p s u q h k = two_sides e p.1 (left_out_of es) s u q (λ v x. (ends_of (span_of e).end high es p.2 v x).0) (λ x y. one_end_in e p.1 s u q x y) (λ x y. one_end_of (span_of e).end high es p.2 s u q x y) (split s (left_out_in e) (left_out_of es) h) (split u (left_out_in e) (left_out_of es) k)
 
-  one_end_of_pairs : (low high : ℕ) (ps : Pairs) → ArePairsPlaced low high ps → (s u : Span) → s.end ≡ u.end → SpanAmong s (left_out_of_pairs ps) → SpanAmong u (left_out_of_pairs ps) → s ≡ u
+  one_end_of_pairs : (low high : ℕ) (ps : Pairs) → ArePairsPlaced low high ps → (s u : Span) → s.end ≡ u.end → IsAmong s (left_out_of_pairs ps) → IsAmong u (left_out_of_pairs ps) → s ≡ u
   one_end_of_pairs low high NoPair p s u q h k = absurd h
   one_end_of_pairs low high (Pair key e ps) p s u q h k = two_sides e p.1 (left_out_of_pairs ps) s u q (λ v x. (ends_of_pairs (span_of e).end high ps p.2 v x).0) (λ x y. one_end_in e p.1 s u q x y) (λ x y. one_end_of_pairs (span_of e).end high ps p.2 s u q x y) (split s (left_out_in e) (left_out_of_pairs ps) h) (split u (left_out_in e) (left_out_of_pairs ps) k)
 
@@ -88,7 +84,7 @@ mutual
 
 -- a break by a name that is left out, or by one of the other rules with the item's span
 abbrev ByName : Tree → Break → Type 0
-ByName e r = (at : Span) × SpanAmong at (left_out_in e) × (r ≡ broken_at at NotInProfile)
+ByName e r = (at : Span) × IsAmong at (left_out_in e) × (r ≡ broken_at at NotInProfile)
 
 abbrev RuleAmong : Rule → List Rule → Type 0
 RuleAmong r [] = ⊥
@@ -102,7 +98,7 @@ in_rules e [] r h = absurd h
 in_rules e (q ∷ qs) r (inl k) = (q, inl refl, k)
 in_rules e (q ∷ qs) r (inr k) = let x = in_rules e qs r k in (x.0, inr x.1, x.2)
 
-in_breaks : (e : Tree) (ats : List Span) (rules : List Rule) (r : Break) → IsAmong r (map (λ at. broken_at at NotInProfile) ats ++ map (broken_at (span_of e)) rules) → ((at : Span) × SpanAmong at ats × (r ≡ broken_at at NotInProfile)) ⊎ ByRule e rules r
+in_breaks : (e : Tree) (ats : List Span) (rules : List Rule) (r : Break) → IsAmong r (map (λ at. broken_at at NotInProfile) ats ++ map (broken_at (span_of e)) rules) → ((at : Span) × IsAmong at ats × (r ≡ broken_at at NotInProfile)) ⊎ ByRule e rules r
 in_breaks e [] rules r h = inr (in_rules e rules r h)
 in_breaks e (at ∷ ats) rules r (inl k) = inl (at, inl refl, k)
 in_breaks e (at ∷ ats) rules r (inr k) = elim (in_breaks e ats rules r k) [ inl x ↦ inl (x.0, inr x.1, x.2) | inr x ↦ inr x ]

@@ -1,6 +1,5 @@
 -- Which texts are accepted, and the first break of a text that isn't.
 use Rattle.std.specs.Prelude.{◌≡◌, ℕ, ◌-◌, ◌≤◌, ◌^◌, Bool, true, false, List, [], ◌∷◌, ◌++◌, length, Contains, slice_get, unwrap_or, Option, Some, None, Ok}
-use Rattle.std.specs.List.{filter_map}
 use Rattle.cl_types.specs.Types.{PlainType}
 use Rattle.cl_types.specs.declared.sized.Access.{Access}
 use Rattle.cl_types.specs.declared.sized.Access.TheVariants.{Public, ReadOnly}
@@ -16,6 +15,7 @@ use Rattle.cl_sexpr.specs.Tree.{Tree, Leaf, Forest}
 use Rattle.cl_sexpr.specs.Text.{Reads, Breaks as BreaksText}
 use Rattle.cl_forms.specs.Forms.{Form, FormKind, FunctionForm}
 use Rattle.cl_forms.specs.FormBreaks.{AreForms, IsFirstBreak as IsFirstFormRule}
+pub use Rattle.cl_forms.specs.Order.{forms_at}
 use Rattle.cl_forms.specs.Order.{ordered}
 use Rattle.cl_forms.specs.Cycle.{IsOfTheCycle}
 use Rattle.cl_forms.specs.Shapes.{trees_of}
@@ -33,10 +33,6 @@ pub record Ordered (text : List ℕ) (forms : List Form) (order : List ℕ) : Ty
   pub reads : Reads text items
   pub are_forms : AreForms (trees_of items) forms
   pub order_is : ordered forms ≡ Ok order
-
--- the forms at these places
-abbrev pub forms_at : List Form → List ℕ → List Form
-forms_at forms order = filter_map (slice_get forms) order
 
 -- the forms of a text are typed in their order, in the contract of this principal among deployed ones; this is defined
 pub record TypedAs (deployed : List Known) (principal : Principal) (text : List ℕ) (forms : List Form) (order : List ℕ) (defined : Defined) : Type 0 where

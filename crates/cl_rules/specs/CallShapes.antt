@@ -1,16 +1,16 @@
 -- Shapes of what applies functions: calls, map, filter and fold.
-use Rattle.std.specs.Prelude.{ℕ, ◌||◌, ◌&&◌, not, min, nat_eq, Bool, true, false, List, [], ◌∷◌, map, drop, length, if◌then◌else◌, Option, Some, None}
+use Rattle.std.specs.Prelude.{ℕ, ◌||◌, ◌&&◌, not, min, nat_eq, Bool, true, false, List, [], ◌∷◌, map, drop, length, if◌then◌else◌, Option, Some, None, option_map, option_and_then}
 use Rattle.std.specs.List.{list_all, list_any}
 use Rattle.cl_types.specs.Types.{PlainType, NoType, ListType, admits}
 use Rattle.cl_types.specs.Lattice.{least_supertype}
 use Rattle.cl_types.specs.Sized.{length_of}
 use Rattle.cl_c32.specs.declared.principal.Principal.{Principal}
 use Rattle.cl_shapes.specs.Costs.{times}
-use Rattle.cl_sexpr.specs.Tree.{Tree, LeafAt, Named, Standing, Local, Leaf}
-use Rattle.cl_forms.specs.Heads.{Row, native, takes}
+use Rattle.cl_sexpr.specs.Tree.{Tree, LeafAt, Named, Leaf}
+use Rattle.cl_forms.specs.Heads.{Row, native, takes, given_by_name}
 use Rattle.cl_forms.specs.declared.head.Head.{Head}
 use Rattle.cl_forms.specs.declared.head.Head.TheVariants.{OnValues, And, Or}
-use Rattle.cl_forms.specs.Shapes.{beside}
+use Rattle.cl_forms.specs.Shapes.{principal_named}
 use Rattle.cl_rules.specs.Faults.{sound_shape}
 use Rattle.cl_types.specs.TypeKinds.{is_bool, is_undetermined, is_sequence, entry_of}
 use Rattle.cl_rules.specs.NativeTypes.{Ruled, fine, of_kind, if_kind, wrong_kind, undetermined, made, and_lub, and_ruled, native_type}
@@ -43,14 +43,13 @@ call_shape (Some f) B es = record { faults = record sound_shape { argument_count
 
 -- ---- functions of other contracts
 
--- a contract's principal, written as a literal
+-- a principal that is a contract
 abbrev pub contract_of : Principal → Option Principal
 contract_of p = elim p.contract [ None ↦ None | Some name ↦ Some p ]
 
+-- the contract that a literal names
 abbrev pub contract_literal : Principal → Leaf → Option Principal
-contract_literal own (Standing p) = contract_of p
-contract_literal own (Local name) = Some (beside own name)
-contract_literal own leaf = None
+contract_literal own leaf = option_and_then contract_of (principal_named own leaf)
 
 abbrev pub target_or_not : Context → Option Principal → First Known
 target_or_not G None = NoName
@@ -101,12 +100,10 @@ pub data Usable : Type 0 where
   ANative : Row → Usable
 
 abbrev pub usable_function : Option Signature → Option Usable
-usable_function None = None
-usable_function (Some f) = Some (AFunction f)
+usable_function f = option_map AFunction f
 
 abbrev pub usable_row : Option Row → Option Signature → Option Usable
-usable_row None f = usable_function f
-usable_row (Some row) f = if row.by_name then Some (ANative row) else None
+usable_row row f = given_by_name ANative AFunction row f
 
 abbrev pub usable : Context → List ℕ → Option Usable
 usable G x = usable_row (native x) (signature_in x G.functions)

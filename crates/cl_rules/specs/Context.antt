@@ -1,25 +1,22 @@
 -- What stands around an expression: the forms before it in the order of evaluation, the deployed contracts, and the names
 -- that are bound.
-use Rattle.std.specs.Prelude.{ℕ, ◌&&◌, ◌||◌, nat_eq, Bool, true, false, List, [], ◌∷◌, ◌++◌, codes, if◌then◌else◌, Option, Some, None, is_some}
+use Rattle.std.specs.Prelude.{ℕ, ◌||◌, Bool, true, false, List, [], ◌∷◌, ◌++◌, codes, if◌then◌else◌, Option, Some, None, is_some}
 use Rattle.std.specs.List.{list_any}
-use Rattle.std.specs.Cmp.Lexicographic.{pointwise}
 use Rattle.cl_types.specs.Types.{PlainType, NoType, BoolType, UintType, PrincipalType, OptionalType}
 use Rattle.cl_types.specs.declared.sized.Access.{Access}
-use Rattle.cl_types.specs.declared.sized.Access.TheVariants.{Public, ReadOnly, Private}
 use Rattle.cl_c32.specs.declared.principal.Principal.{Principal}
+pub use Rattle.cl_c32.specs.Principals.{same_part, same_principal}
 use Rattle.cl_shapes.specs.declared.cost.Cost5.{Cost5}
 use Rattle.cl_shapes.specs.Costs.{plus, zero_cost}
-use Rattle.cl_shapes.specs.declared.function.CostFn.{CostFn}
+pub use Rattle.cl_shapes.specs.Names.{CostTable}
 use Rattle.cl_shapes.specs.Functions.{cost_at}
 use Rattle.cl_shapes.specs.declared.name.CostName.{CostName}
 use Rattle.cl_shapes.specs.declared.name.CostName.TheVariants.{Literal, Context as ContextCost}
+pub use Rattle.cl_forms.specs.Names.{same, named_in}
+use Rattle.cl_forms.specs.Shapes.{open_to_others}
 use Rattle.cl_forms.specs.Heads.{native, is_reserved, is_one_of, define_words}
 
 -- ---- costs
-
--- a cost function for each name
-abbrev pub CostTable : Type 0
-CostTable = CostName → CostFn
 
 -- what is counted, under a table
 abbrev pub Bound : Type 0
@@ -71,26 +68,9 @@ Names = List (List ℕ × PlainType)
 
 -- ---- what stands under a name
 
-abbrev pub same : List ℕ → List ℕ → Bool
-same = pointwise nat_eq
-
--- what stands first under a name
-abbrev pub named_in : {A : Type 0} → List ℕ → List (List ℕ × A) → Option A
-named_in x [] = None
-named_in x (e ∷ es) = if same e.0 x then Some e.1 else named_in x es
-
 abbrev pub signature_in : List ℕ → List Signature → Option Signature
 signature_in x [] = None
 signature_in x (f ∷ fs) = if same f.name x then Some f else signature_in x fs
-
-abbrev pub same_part : Option (List ℕ) → Option (List ℕ) → Bool
-same_part None None = true
-same_part (Some x) (Some y) = same x y
-same_part p q = false
-
--- two principals are one
-abbrev pub same_principal : Principal → Principal → Bool
-same_principal p q = nat_eq p.address.version q.address.version && same p.address.hash q.address.hash && same_part p.contract q.contract
 
 abbrev pub known_at : Principal → List Known → Option Known
 known_at p [] = None
@@ -135,7 +115,7 @@ keyword x =
 -- a function that other contracts may call
 abbrev pub if_callable : Option Signature → Option Signature
 if_callable None = None
-if_callable (Some f) = elim f.access [ Public ↦ Some f | ReadOnly ↦ Some f | Private ↦ None ]
+if_callable (Some f) = open_to_others f.access f
 
 -- another contract than the own one, which is deployed
 abbrev pub another_at : Principal → List Known → Principal → Option Known

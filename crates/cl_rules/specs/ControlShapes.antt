@@ -7,6 +7,7 @@ use Rattle.cl_shapes.specs.declared.name.CostName.{CostName}
 use Rattle.cl_shapes.specs.declared.name.CostName.TheVariants.{Literal, Lookup, Bind}
 use Rattle.cl_sexpr.specs.Tree.{Tree, LeafAt, ListAt, Leaf, Named, Signed, Unsigned, Bytes, Ascii, Unicode, Standing, Local}
 use Rattle.cl_forms.specs.Heads.{Row}
+pub use Rattle.cl_forms.specs.Items.{atom_of}
 use Rattle.cl_forms.specs.Shapes.{trees_of, binding_of, bindings_of}
 use Rattle.cl_rules.specs.Faults.{sound_shape, sound_types}
 use Rattle.cl_types.specs.TypeKinds.{is_bool, is_response, is_undetermined}
@@ -131,10 +132,6 @@ let_shape row G B (ListAt bs at ∷ body) = let_with row G B (trees_of bs) body
 let_shape row G B (e ∷ body) = unlooked (record sound_shape { argument_count = nat_eq (length body) 0; bad_binding = true })
 
 -- ---- match
-
-abbrev pub atom_of : Tree → Option (List ℕ)
-atom_of (LeafAt (Named x) at) = Some x
-atom_of e = None
 
 abbrev pub is_atom : Tree → Bool
 is_atom e = is_some (atom_of e)

@@ -1,11 +1,8 @@
 -- What an expression or a form may break, as conditions that hold or don't, and the rules that are broken, in rising order.
-use Rattle.std.specs.Prelude.{Bool, false, List, [], ◌∷◌, if◌then◌else◌}
+use Rattle.std.specs.Prelude.{Bool, false, List, [], ◌∷◌}
 use Rattle.cl_sexpr.specs.declared.rule.Rule.{Rule}
 use Rattle.cl_sexpr.specs.declared.rule.Rule.TheVariants.{UnknownName, ArgumentCount, ArgumentKind, NotSame, TooLarge, TooDeep, Undetermined, ThrownDiffer, NotResponse, UnusedResponse, ShadowedName, NoSuchKey, NoSuchVariable, NoSuchMap, NoSuchToken, NoSuchContract, NoSuchFunction, NotAFunction, LiteralExpected, EmptyForm, BadBinding, TooDeepCalls, KeyTwice, NotAValue}
-
--- a rule in front of others, where its condition holds
-abbrev pub when : Bool → Rule → List Rule → List Rule
-when holds rule rules = if holds then rule ∷ rules else rules
+pub use Rattle.cl_forms.specs.FormBreaks.{when}
 
 -- What an expression's own shape breaks, whatever its parts are. Each condition is named by its rule.
 pub record ShapeFaults : Type 0 where

@@ -4,6 +4,7 @@ use Rattle.cl_sexpr.specs.declared.sexpr.Span.{Span}
 use Rattle.cl_sexpr.specs.declared.rule.Rule.{Rule}
 use Rattle.cl_sexpr.specs.Rules.{number_of}
 use Rattle.cl_sexpr.specs.Tree.{Tree, span_of}
+pub use Rattle.cl_forms.specs.FormBreaks.{IsAmong as Among}
 use Rattle.cl_rules.specs.Faults.{shape_rules, type_rules}
 use Rattle.cl_rules.specs.Context.{Context, Names}
 use Rattle.cl_rules.specs.Verdicts.{Found}
@@ -44,10 +45,6 @@ mutual
     past_part : {B C : Names} {e d : Tree} {p : Plan} → LookedIn G p C d → LookedIn G (Part B e p) C d
     at_gives : {B C : Names} {e d : Tree} {k : Found → Plan} → Looked G B e C d → LookedIn G (Gives B e k) C d
     past_gives : {B C : Names} {e d : Tree} {k : Found → Plan} {f : Found} → Typed G B e f → LookedIn G (k f) C d → LookedIn G (Gives B e k) C d
-
-abbrev pub Among : Rule → List Rule → Type 0
-Among r [] = ⊥
-Among r (q ∷ qs) = (r ≡ q) ⊎ Among r qs
 
 -- the expression itself breaks this rule: by its shape, or where its parts are typed
 pub data Breaks (G : Context) (B : Names) (e : Tree) (r : Rule) : Type 0 where

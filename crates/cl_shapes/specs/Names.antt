@@ -4,6 +4,10 @@ use Rattle.cl_shapes.specs.Functions.{Constant, Linear, CostFn}
 pub use Rattle.cl_shapes.specs.declared.name.CostName.{CostName}
 pub use Rattle.cl_shapes.specs.declared.name.CostName.TheVariants.{Literal, Lookup, Context, Control, Call, Bind, Arith, Compare, Hash, Wrap, Make, Take, Scan, Iterate, ReadVar, WriteVar, ReadMap, WriteMap, ReadToken, WriteToken, Event, ContractCall, Deploy, Define}
 
+-- a cost function for each name
+abbrev pub CostTable : Type 0
+CostTable = CostName → CostFn
+
 abbrev pub cost_names : List CostName
 cost_names =
     Literal ∷ Lookup ∷ Context ∷ Control ∷ Call ∷ Bind ∷ Arith ∷ Compare ∷ Hash ∷ Wrap ∷ Make ∷ Take ∷ Scan ∷ Iterate

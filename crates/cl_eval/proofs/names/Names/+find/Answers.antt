@@ -1,4 +1,5 @@
 use Rattle.std.proofs.Common.{◌≡◌, ◌≢◌, ◌∷◌, [], List, ℕ, length, true, false, Option, Some, None, Result, Ok, Err, refl, sym, ap, ◌∙◌, subst, arith}
+use Rattle.std.specs.Option.{option_or}
 use Rattle.std.specs.Prelude.{is_some, option_map}
 use Rattle.std.proofs.lemmas.Result.{err_from_is_err_and}
 use Rattle.cl_state.specs.Stack.{Stack}
@@ -9,6 +10,7 @@ use Rattle.cl_events.specs.State.{place as key_of}
 use Rattle.cl_maps.specs.Maps.{get, put}
 use Rattle.cl_meaning.specs.Answers.{with_known, Wrong}
 use Rattle.cl_meaning.specs.Data.{variable_set, set_entry, insert_entry, entry_at}
+use Rattle.cl_meaning.specs.Deployed.{value_of}
 use Rattle.cl_meaning.specs.Limits.{limited, Gave}
 use Rattle.cl_meaning.proofs.LimitLaws.{limited-stop, charge_within}
 use Rattle.cl_eval.specs.declared.stop.Stop.TheVariants.{NoMemory}
@@ -20,8 +22,8 @@ use Rattle.cl_eval.proofs.names.Names.+find.Goals as goal
 
 pub returns-in-Some : goal.returns-in-Some
 returns-in-Some t c =
-    c.or_first_under.ensures ∙ ap (λ o. Rattle.cl_meaning.specs.Names.first_of o (Rattle.cl_meaning.specs.Deployed.value_of c.args.name.now c.self.inside.own.now)) c.find.ensures ∙ Laws.value_in_both c.args.name.now c.in-Some.outer.now.values c.self.inside.own.now ∙ ap (Rattle.cl_meaning.specs.Deployed.value_of c.args.name.now) (ap (λ (n : Rattle.cl_eval.specs.Named.Named). n.values) (ap (λ o. Rattle.cl_eval.specs.Named.named o c.self.inside.own.now) (sym c.in-Some.is) ∙ c.self.view_is))
+    c.or_first_under.ensures ∙ ap (λ o. option_or o (value_of c.args.name.now c.self.inside.own.now)) c.find.ensures ∙ Laws.value_in_both c.args.name.now c.in-Some.outer.now.values c.self.inside.own.now ∙ ap (value_of c.args.name.now) (ap (λ (n : Rattle.cl_eval.specs.Named.Named). n.values) (ap (λ o. Rattle.cl_eval.specs.Named.named o c.self.inside.own.now) (sym c.in-Some.is) ∙ c.self.view_is))
 
 pub returns-in-None : goal.returns-in-None
 returns-in-None t c =
-    c.first_under.ensures ∙ ap (Rattle.cl_meaning.specs.Deployed.value_of c.args.name.now) (ap (λ (n : Rattle.cl_eval.specs.Named.Named). n.values) (ap (λ o. Rattle.cl_eval.specs.Named.named o c.self.inside.own.now) (sym c.in-None.is) ∙ c.self.view_is))
+    c.first_under.ensures ∙ ap (value_of c.args.name.now) (ap (λ (n : Rattle.cl_eval.specs.Named.Named). n.values) (ap (λ o. Rattle.cl_eval.specs.Named.named o c.self.inside.own.now) (sym c.in-None.is) ∙ c.self.view_is))
