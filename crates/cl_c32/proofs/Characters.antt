@@ -1,6 +1,5 @@
 -- Characters and their digits.
-use Rattle.std.proofs.Common.{◌≡◌, ℕ, zero, suc, ◌+◌, ◌<◌, ◌==◌, ◌&&◌, Bool, true, false, List, [], ◌∷◌, ◌++◌, length, map, take, replicate, drop, get_or, Option, Some, None, cond, inl, inr, refl, sym, ap, subst, ◌∙◌, arith, lit<}
-use Rattle.std.proofs.lemmas.List.{drop_more}
+use Rattle.std.proofs.Common.{◌≡◌, ℕ, zero, suc, ◌+◌, ◌<◌, ◌≤◌, ◌==◌, ◌&&◌, Bool, true, false, List, [], ◌∷◌, ◌++◌, length, map, take, replicate, get_or, Option, Some, None, cond, inl, inr, refl, sym, ap, subst, ◌∙◌, arith, lit<}
 use Rattle.std.proofs.lemmas.Bool.{cases_order}
 use Rattle.std.proofs.lemmas.Bool.Decides.{nat_tests}
 use Rattle.std.proofs.lemmas.List.Elements.{All-append, All-map, All-replicate, All-take}
@@ -8,15 +7,8 @@ use Rattle.std.specs.List.{All, position_from}
 use Rattle.std.specs.Cmp.{first_so, second_so}
 use Rattle.std.specs.Option.{option_eq}
 use Rattle.std.specs.Prelude.{unwrap_or, is_none, nat_eq}
+use Rattle.cl_c32.specs.declared.alphabet.TheConstants.{DIGITS}
 use Rattle.cl_c32.specs.Alphabet.{alphabet, character_of, digit_of, digit_value}
-
--- the element at i passes
-pub position-here : (p : ℕ → Bool) (xs : List ℕ) (i : ℕ) → i < length xs → p (get_or xs i 0) ≡ true → position_from p i (drop i xs) ≡ Some i
-position-here p xs i h e = ap (position_from p i) (drop_more xs i 0 h) ∙ ap (λ b. cond b (Some i) (position_from p (i + 1) (drop (i + 1) xs))) e
-
--- the element at i doesn't pass
-pub position-later : (p : ℕ → Bool) (xs : List ℕ) (i : ℕ) → i < length xs → p (get_or xs i 0) ≡ false → position_from p i (drop i xs) ≡ position_from p (i + 1) (drop (i + 1) xs)
-position-later p xs i h e = ap (position_from p i) (drop_more xs i 0 h) ∙ ap (λ b. cond b (Some i) (position_from p (i + 1) (drop (i + 1) xs))) e
 
 -- where the first element that passes stands
 pub position-found : (p : ℕ → Bool) (i : ℕ) (xs : List ℕ) (k : ℕ) → position_from p i xs ≡ Some k → (j : ℕ) × ((k ≡ i + j) × (j < length xs) × (p (get_or xs j 0) ≡ true))
@@ -85,6 +77,39 @@ digit_of-character_of d h = found-below 32 d all_found h
 
 pub digit_value-character_of : (d : ℕ) → d < 32 → digit_value (character_of d) ≡ d
 digit_value-character_of d h = ap (λ o. unwrap_or o 0) (digit_of-character_of d h)
+
+-- ---- the table of digits
+
+are_read : ℕ → List ℕ → Bool
+are_read c [] = true
+are_read c (d ∷ ds) = nat_eq d (unwrap_or (digit_of c) 255) && are_read (suc c) ds
+
+all_read : are_read 0 DIGITS ≡ true
+unfolding alphabet digit_of are_read
+all_read = refl
+
+read-at : (c : ℕ) (ds : List ℕ) (i k : ℕ) → are_read c ds ≡ true → i < length ds → k ≡ c + i → get_or ds i 0 ≡ unwrap_or (digit_of k) 255
+unfolding are_read
+read-at c [] i k e h n = absurd (omega arith)
+read-at c (d ∷ ds) zero k e h n =
+    let here : d ≡ unwrap_or (digit_of c) 255 = grind (arith, nat_tests, first_so (nat_eq d (unwrap_or (digit_of c) 255)) (are_read (suc c) ds) e) in
+    here ∙ ap (λ x. unwrap_or (digit_of x) 255) (let same : c ≡ k = omega (arith, n) in same)
+read-at c (d ∷ ds) (suc i) k e h n =
+    read-at (suc c) ds i k (second_so (nat_eq d (unwrap_or (digit_of c) 255)) (are_read (suc c) ds) e) (omega (arith, h)) (omega (arith, n))
+
+pub digit_of-read : (c : ℕ) → c < 256 → get_or DIGITS c 0 < 32 → Some (get_or DIGITS c 0) ≡ digit_of c
+digit_of-read c h small = by (digit_of c) (read-at 0 DIGITS c c all_read h (omega arith))
+  where
+    by : (o : Option ℕ) → get_or DIGITS c 0 ≡ unwrap_or o 255 → Some (get_or DIGITS c 0) ≡ o
+    by None e = absurd (omega (arith, e, small))
+    by (Some d) e = ap Some e
+
+pub digit_of-unread : (c : ℕ) → c < 256 → 32 ≤ get_or DIGITS c 0 → None ≡ digit_of c
+digit_of-unread c h great = by (digit_of c) refl (read-at 0 DIGITS c c all_read h (omega arith))
+  where
+    by : (o : Option ℕ) → digit_of c ≡ o → get_or DIGITS c 0 ≡ unwrap_or o 255 → None ≡ o
+    by None f e = refl
+    by (Some d) f e = let below = (digit_of-found c d f).0 in absurd (omega (arith, e, great, below))
 
 -- the digits of characters, and zeros behind them
 pub digit_values-below : (cs ds : List ℕ) (k n : ℕ) → ds ≡ map digit_value cs ++ replicate k 0 → All (λ d. d < 32) (take n ds)

@@ -1,16 +1,16 @@
 -- The bytes of addresses and their digits.
-use Rattle.std.proofs.Common.{◌≡◌, ℕ, ◌+◌, ◌-◌, ◌^◌, ◌<◌, ◌≤◌, ◌==◌, true, false, Bool, cond, if◌then◌else◌, List, ◌++◌, length, take, drop, replicate, Some, None, sym, ap, ◌∙◌, subst, arith, eq-eqb, lit≤, lit<, lt_of_lt_of_le, Ok, Err}
+use Rattle.std.proofs.Common.{◌≡◌, ℕ, suc, ◌+◌, ◌-◌, ◌^◌, ◌<◌, ◌≤◌, ◌==◌, true, false, Bool, cond, if◌then◌else◌, List, ◌++◌, length, take, drop, replicate, Some, None, sym, ap, ◌∙◌, subst, arith, eq-eqb, lit≤, lit<, lt_of_lt_of_le, Ok, Err}
 use Rattle.std.specs.List.{All}
 use Rattle.std.proofs.lemmas.Bool.Decides.{nat_tests}
 use Rattle.std.proofs.lemmas.List.{length-drop, take_all, take_rest}
 use Rattle.std.proofs.lemmas.List.Elements.{All-drop, All-replicate}
 use Rattle.std.proofs.lemmas.Nat.{pow-add, mul-pow}
-use Rattle.std.proofs.Math.Nat.{pow-le-pow_left, pow-le-pow_right}
+use Rattle.std.proofs.Math.Nat.{pow-le-pow_left}
 use Rattle.cl_c32.specs.Digits.{number_in, digits_in, leading_zeros, regrouped_digits}
 use Rattle.std.specs.Str.{bytes_eq}
 use Rattle.cl_c32.specs.Codec.{body_of_digits, checked_address, checksum_of}
 use Rattle.cl_c32.specs.declared.codec.C32Refusal.TheVariants.{BadChecksum}
-use Rattle.cl_c32.proofs.Numbers.{number_in-lt, number_in-zeros, digits_in-below, number_in-digits_in, digits_in-number_in, take-leading_zeros, length-digits_in-le, leading_zeros-le, regrouped_digits-from, length-regrouped_digits, zeros-append-rest}
+use Rattle.cl_c32.proofs.Numbers.{number_in-lt, number_in-zeros, digits_in-number_in, take-leading_zeros, length-digits_in-le, leading_zeros-le, regrouped_digits-from, length-regrouped_digits, zeros-append-rest}
 
 -- ---- the bytes of digits
 
@@ -18,47 +18,39 @@ pub body_of_digits-by : (ds : List ℕ) (t : Bool) → (length (regrouped_digits
 unfolding body_of_digits
 body_of_digits-by ds t e = ap (λ b. cond b (Some (regrouped_digits 32 256 ds)) None) e
 
--- cells with the number, and with as many zeros in front
-pub body_of_digits-found : (ds out : List ℕ) → length out ≡ 24 → All (λ d. d < 256) out → number_in 256 out ≡ number_in 32 ds → leading_zeros ds ≡ leading_zeros out → body_of_digits ds ≡ Some out
+-- 30 bytes with the number, and with six zeros in front more than the digits have
+pub body_of_digits-found : (ds out : List ℕ) → length out ≡ 30 → All (λ d. d < 256) out → number_in 256 out ≡ number_in 32 ds → leading_zeros out ≡ leading_zeros ds + 6 → body_of_digits ds ≡ Some (drop 6 out)
 body_of_digits-found ds out l h e z =
-    let same : regrouped_digits 32 256 ds ≡ out =
+    let zeros = leading_zeros ds in
+    let rest = drop (leading_zeros out) out in
+    let front : leading_zeros out ≡ suc (suc (suc (suc (suc (suc zeros))))) = omega (arith, z) in
+    let same : regrouped_digits 32 256 ds ≡ drop 6 out =
     regrouped_digits-from 32 256 ds out (lit≤ tt) h e
-    ∙ ap (λ xs. xs ++ drop (leading_zeros out) out) (take-leading_zeros ds ∙ ap (λ k. replicate k 0) z)
-    ∙ zeros-append-rest out
+    ∙ ap (λ xs. xs ++ rest) (take-leading_zeros ds)
+    ∙ sym (ap (λ k. drop 6 (replicate k 0 ++ rest)) front)
+    ∙ ap (drop 6) (zeros-append-rest out)
     in
-    body_of_digits-by ds true (eq-eqb (length (regrouped_digits 32 256 ds)) 24 (ap length same ∙ l)) ∙ ap Some same
+    let long : length (drop 6 out) ≡ 24 = length-drop 6 out ∙ ap (λ k. k - 6) l in
+    body_of_digits-by ds true (eq-eqb (length (regrouped_digits 32 256 ds)) 24 (ap length same ∙ long)) ∙ ap Some same
 
 not_24 : (ds : List ℕ) → (length (regrouped_digits 32 256 ds) ≡ 24 → ⊥) → body_of_digits ds ≡ None
 not_24 ds h = body_of_digits-by ds false (grind (arith, nat_tests))
 
 -- another number of zeros in front
-pub body_of_digits-other_zeros : (ds out : List ℕ) → length out ≡ 24 → All (λ d. d < 256) out → number_in 256 out ≡ number_in 32 ds → (leading_zeros ds ≡ leading_zeros out → ⊥) → body_of_digits ds ≡ None
+pub body_of_digits-other_zeros : (ds out : List ℕ) → length out ≡ 30 → All (λ d. d < 256) out → number_in 256 out ≡ number_in 32 ds → (leading_zeros out ≡ leading_zeros ds + 6 → ⊥) → body_of_digits ds ≡ None
 body_of_digits-other_zeros ds out l h e differ =
     let digits : digits_in 256 (number_in 32 ds) ≡ drop (leading_zeros out) out =
     ap (digits_in 256) (sym e) ∙ digits_in-number_in 256 out (lit≤ tt) h in
-    let long : length (digits_in 256 (number_in 32 ds)) ≡ 24 - leading_zeros out =
+    let long : length (digits_in 256 (number_in 32 ds)) ≡ 30 - leading_zeros out =
     ap length digits ∙ length-drop (leading_zeros out) out ∙ ap (λ k. k - leading_zeros out) l in
     let whole = length-regrouped_digits 32 256 ds in
     let within = leading_zeros-le out in
     not_24 ds (λ is_24. differ (omega (arith, whole, long, within, l, is_24)))
 
--- a number that 24 bytes don't hold
-pub body_of_digits-too_great : (ds : List ℕ) → (number_in 32 ds < 256 ^ 24 → ⊥) → body_of_digits ds ≡ None
-body_of_digits-too_great ds great =
-    let n = number_in 32 ds in
-    let whole = length-regrouped_digits 32 256 ds in
-    let small : number_in 256 (digits_in 256 n) < 256 ^ length (digits_in 256 n) =
-    number_in-lt 256 (digits_in 256 n) (digits_in-below 256 n (lit≤ tt)) in
-    let small' : n < 256 ^ length (digits_in 256 n) =
-    subst (λ k. k < 256 ^ length (digits_in 256 n)) (number_in-digits_in 256 n (lit≤ tt)) small in
-    not_24 ds (λ is_24.
-    let short : length (digits_in 256 n) ≤ 24 = omega (arith, whole, is_24) in
-    great (lt_of_lt_of_le small' (pow-le-pow_right {n = 256} (lit< tt) {i = length (digits_in 256 n)} {j = 24} short)))
-
 -- ---- the digits of bytes
 
 -- 39 digits hold the number
-pub number-fits : (bs : List ℕ) → length bs ≡ 24 → All (λ b. b < 256) bs → number_in 256 bs < 32 ^ 39
+number-fits : (bs : List ℕ) → length bs ≡ 24 → All (λ b. b < 256) bs → number_in 256 bs < 32 ^ 39
 number-fits bs l h = lt_of_lt_of_le (subst (λ k. number_in 256 bs < 256 ^ k) l (number_in-lt 256 bs h)) (lit≤ tt)
 
 -- a text has room for them
@@ -86,10 +78,10 @@ front-below bs front e =
     subst (All (λ d. d < 32)) (sym (ap (λ k. take k bs) e ∙ take-leading_zeros bs)) (All-replicate (λ d. d < 32) (leading_zeros bs) 0 (lit< tt))
 
 -- the zeros in front, and the rest of the cells with the number
-pub regrouped_digits-parts : (bs out : List ℕ) (front first : ℕ) → All (λ d. d < 32) out → number_in 32 out ≡ number_in 256 bs → front ≡ leading_zeros bs → first ≡ leading_zeros out → length out ≡ 39
-    → take front bs ++ take (39 - first) (drop first out) ≡ regrouped_digits 256 32 bs
+pub regrouped_digits-parts : (bs out : List ℕ) (front first : ℕ) → All (λ d. d < 32) out → number_in 32 out ≡ number_in 256 bs → front ≡ leading_zeros bs → first ≡ leading_zeros out → length out ≡ 40
+    → take front bs ++ take (40 - first) (drop first out) ≡ regrouped_digits 256 32 bs
 regrouped_digits-parts bs out front first h e z f l =
-    let rest : take (39 - first) (drop first out) ≡ drop first out = ap (λ k. take (k - first) (drop first out)) (sym l) ∙ take_rest out first in
+    let rest : take (40 - first) (drop first out) ≡ drop first out = ap (λ k. take (k - first) (drop first out)) (sym l) ∙ take_rest out first in
     (λ i. take (z i) bs ++ (rest ∙ ap (λ k. drop k out) f) i) ∙ sym (regrouped_digits-from 256 32 bs out (lit≤ tt) h e)
 
 -- ---- the checksum

@@ -8,7 +8,7 @@ ghost use Rattle.cl_c32.specs.Codec.{checksum_of, body_of, address_text, bad_pla
 use crate::address::Address;
 use crate::address_text::AddressText;
 use crate::alphabet::{character_of, digit_of};
-use crate::digits::{convert, leading_zeros};
+use crate::digits::{bytes_of_digits, digits_of_bytes, leading_zeros};
 use sha2::{Digest, Sha256};
 
 /// Why a text is no address.
@@ -63,9 +63,10 @@ fn push_body(text: &mut AddressText, body: &[u8; 24])
     requires { length text.old ≤ 2 }
     ensures { text.new ≡ text.old ++ map character_of (regrouped_digits 256 32 body.now) }
 {
-    let mut digits = [0; 39];
-    // 39 digits hold any 24 bytes.
-    let _fits = convert(body, 256, &mut digits, 32);
+    // One byte more makes whole groups.
+    let mut padded = [0; 25];
+    padded[1..25].copy_from_slice(body);
+    let digits = digits_of_bytes(&padded);
     let zeros = leading_zeros(body);
     push_digits(text, &body[..zeros]);
     let first = leading_zeros(&digits);
@@ -119,17 +120,21 @@ fn digits_of(characters: &[u8]) -> [u8; 47]
     digits
 }
 
-// The 24 bytes that digits stand for.
+// The 24 bytes that digits stand for: in the 30 bytes of 48 digits, six zeros more stand in front.
 fn body_of_digits(digits: &[u8]) -> Option<[u8; 24]>
-    requires { All (λ d. d < 32) digits.now }
+    requires room { length digits.now ≤ 48 }
+    requires digits { All (λ d. d < 32) digits.now }
     ensures { result ≡ body_of_digits digits.now }
 {
-    let mut body = [0; 24];
-    if convert(digits, 32, &mut body, 256) && leading_zeros(digits) == leading_zeros(&body) {
-        Some(body)
-    } else {
-        None
+    let mut padded = [0; 48];
+    padded[48 - digits.len()..].copy_from_slice(digits);
+    let bytes = bytes_of_digits(&padded);
+    if leading_zeros(&bytes) != leading_zeros(digits) + 6 {
+        return None;
     }
+    let mut body = [0; 24];
+    body.copy_from_slice(&bytes[6..30]);
+    Some(body)
 }
 
 // The address of a version and a body, if its checksum is the right one.
@@ -153,7 +158,8 @@ fn checked_address(version: u8, body: &[u8; 24]) -> Result<Address, C32Refusal>
 // The address of the digits behind the `S`.
 #[tactic(auto, unfolding(crate::specs::Codec::address_of_digits))]
 fn address_of_digits(digits: &[u8]) -> Result<Address, C32Refusal>
-    requires { All (λ d. d < 32) digits.now }
+    requires room { length digits.now ≤ 48 }
+    requires digits { All (λ d. d < 32) digits.now }
     ensures { result ≡ address_of_digits digits.now }
 {
     let Some((version, digits)) = digits.split_first() else {
