@@ -1,7 +1,6 @@
 -- Parameters bound to values, one after another.
-use Rattle.std.proofs.Common.{◌≡◌, ℕ, zero, suc, ◌+◌, ◌<◌, ◌≤◌, List, [], ◌∷◌, ◌++◌, length, get_or, drop, Result, Ok, Err, refl, sym, ap, ◌∙◌, subst, arith, length-append}
-use Rattle.std.proofs.Common.{Vec, Global}
-use Rattle.std.proofs.lemmas.List.{drop_all, length-drop}
+use Rattle.std.proofs.Common.{◌≡◌, ℕ, suc, ◌+◌, ◌<◌, ◌≤◌, List, [], ◌∷◌, ◌++◌, length, get_or, take, drop, Result, Ok, Err, refl, sym, ap, ◌∙◌, subst, arith}
+use Rattle.std.proofs.lemmas.List.{drop_all, take_all, length-drop}
 use Rattle.cl_types.specs.Types.{PlainType}
 use Rattle.cl_shapes.specs.Limits.{Purse, spend}
 use Rattle.cl_shapes.specs.declared.name.CostName.TheVariants.{Bind}
@@ -12,20 +11,19 @@ use Rattle.cl_meaning.specs.Answers.{Wrong, Answer, charged, wrong}
 use Rattle.cl_meaning.specs.Scope.{Bound}
 use Rattle.cl_meaning.specs.Calls.{bound_to}
 use Rattle.cl_meaning.specs.Limits.{Costs, cost_of}
+use Rattle.cl_eval.specs.Named.{paired}
 use Rattle.cl_eval.specs.Watching.{Seen, Lost, watched, Stops, Binds}
 use Rattle.cl_eval.proofs.WatchLaws.{watched-stop}
 use Rattle.cl_eval.specs.declared.stop.Stop.{Stop}
 use Rattle.cl_eval.specs.Runs.{Pays}
 use Rattle.cl_eval.proofs.WatchSteps.{stops_eq, charge_spent, charge_refused}
 use Rattle.cl_eval.proofs.Parts.{next_part}
+use Rattle.cl_eval.proofs.Pairing.{Params, paired-nil, none_taken, there, more_pairs}
 
-abbrev pub Params : Type 0
-Params = List (List ℕ × PlainType)
-
--- from here on, whatever follows
-abbrev pub SameFrom : Costs → Purse → Params → List Val → Purse → Bound → Params → List Val → Type 0
-SameFrom costs p params values q bound left rest =
-    (body : Bound → State → Answer Val) (s : State) (sp : Seen) → watched costs p sp (bound_to body [] params values s) ≡ watched costs q sp (bound_to body bound left rest s)
+-- from this place on, whatever follows
+abbrev pub SameFrom : Costs → Purse → Params → List Val → Purse → ℕ → Type 0
+SameFrom costs p params values q i =
+    (body : Bound → State → Answer Val) (s : State) (sp : Seen) → watched costs p sp (bound_to body [] params values s) ≡ watched costs q sp (bound_to body (paired params (take i values)) (drop i params) (drop i values) s)
 
 one_more : (body : Bound → State → Answer Val) (bound : Bound) (x : List ℕ × PlainType) (params : Params) (v : Val) (values : List Val) (s : State) → bound_to body bound (x ∷ params) (v ∷ values) s ≡ charged Bind (size_of v) (bound_to body (bound ++ (x.0, v) ∷ []) params values s)
 unfolding bound_to
@@ -35,62 +33,63 @@ none_more : (body : Bound → State → Answer Val) (bound : Bound) (s : State) 
 unfolding bound_to
 none_more body bound s = refl
 
-too_many : (body : Bound → State → Answer Val) (bound : Bound) (v : Val) (values : List Val) (s : State) → bound_to body bound [] (v ∷ values) s ≡ wrong s
+too_many : (body : Bound → State → Answer Val) (bound : Bound) (values : List Val) (s : State) → 0 < length values → bound_to body bound [] values s ≡ wrong s
 unfolding bound_to
-too_many body bound v values s = refl
+too_many body bound [] s h = absurd (omega arith)
+too_many body bound (v ∷ values) s h = refl
 
-too_few : (body : Bound → State → Answer Val) (bound : Bound) (x : List ℕ × PlainType) (params : Params) (s : State) → bound_to body bound (x ∷ params) [] s ≡ wrong s
+too_few : (body : Bound → State → Answer Val) (bound : Bound) (params : Params) (s : State) → 0 < length params → bound_to body bound params [] s ≡ wrong s
 unfolding bound_to
-too_few body bound x params s = refl
+too_few body bound [] s h = absurd (omega arith)
+too_few body bound (x ∷ params) s h = refl
 
--- a turn: the parameter at this place is bound to the next value
-pub bind_turn : (costs : Costs) (p q : Purse) (sp : Seen) (body : Bound → State → Answer Val) (bound more : Bound) (params : Params) (place : ℕ) (x : List ℕ × PlainType) (v : Val) (m : ℕ) (values : List Val) (s : State) → place ≡ length bound → place < length params → x ≡ get_or params place x → more ≡ bound ++ (x.0, v) ∷ [] → m ≡ size_of v → spend p (cost_of costs Bind m) ≡ Ok q → watched costs p sp (bound_to body bound (drop (length bound) params) (v ∷ values) s) ≡ watched costs q sp (bound_to body more (drop (length more) params) values s)
-bind_turn costs p q sp body bound more params place x v m values s at here read pushed size spent =
-    let next : place + 1 ≡ length more = omega (arith, at, ap length pushed, length-append bound ((x.0, v) ∷ [])) in
-    ap (λ n. watched costs p sp (bound_to body bound (drop n params) (v ∷ values) s)) (sym at)
-    ∙ ap (λ l. watched costs p sp (bound_to body bound l (v ∷ values) s)) (next_part params place x here read)
-    ∙ ap (watched costs p sp) (one_more body bound x (drop (place + 1) params) v values s)
-    ∙ charge_spent costs p q sp Bind m (size_of v) (bound_to body (bound ++ (x.0, v) ∷ []) (drop (place + 1) params) values s) size spent
-    ∙ ap (λ b. watched costs q sp (bound_to body b (drop (place + 1) params) values s)) (sym pushed)
-    ∙ ap (λ n. watched costs q sp (bound_to body more (drop n params) values s)) next
+pub bind_starts : (costs : Costs) (p : Purse) (params : Params) (values : List Val) → SameFrom costs p params values p 0
+bind_starts costs p params values body s sp =
+    ap (λ b. watched costs p sp (bound_to body b params values s)) (sym (ap (paired params) (none_taken values) ∙ paired-nil params))
 
-there : (params : Params) (i : ℕ) → i < length params → (x : List ℕ × PlainType) × (x ≡ get_or params i x)
-there [] i h = absurd (omega arith)
-there (x ∷ params) zero h = (x, refl)
-there (x ∷ params) (suc i) h = there params i (omega arith)
+-- the parameter at this place is bound to the value there
+at_place : (costs : Costs) (p : Purse) (sp : Seen) (body : Bound → State → Answer Val) (bound : Bound) (params : Params) (values : List Val) (i : ℕ) (x : List ℕ × PlainType) (v : Val) (s : State) → i < length params → i < length values → x ≡ get_or params i x → v ≡ get_or values i v → watched costs p sp (bound_to body bound (drop i params) (drop i values) s) ≡ watched costs p sp (charged Bind (size_of v) (bound_to body (bound ++ (x.0, v) ∷ []) (drop (i + 1) params) (drop (i + 1) values) s))
+at_place costs p sp body bound params values i x v s h k hx hv =
+    ap (λ l. watched costs p sp (bound_to body bound l (drop i values) s)) (next_part params i x h hx)
+    ∙ ap (λ l. watched costs p sp (bound_to body bound (x ∷ drop (i + 1) params) l s)) (next_part values i v k hv)
+    ∙ ap (watched costs p sp) (one_more body bound x (drop (i + 1) params) v (drop (i + 1) values) s)
 
-pub bind_stops : (costs : Costs) (p q : Purse) (sp : Seen) (body : Bound → State → Answer Val) (bound : Bound) (params : Params) (place : ℕ) (v : Val) (m : ℕ) (values : List Val) (s : State) (e : Stop) → place ≡ length bound → place < length params → m ≡ size_of v → Pays costs p Bind m (Err e) q → Stops (watched costs p sp (bound_to body bound (drop (length bound) params) (v ∷ values) s)) e q sp s
-bind_stops costs p q sp body bound params place v m values s e at here size pays =
-    let first = there params place here in
-    stops_eq _ _ e q sp s
-    (ap (λ n. watched costs p sp (bound_to body bound (drop n params) (v ∷ values) s)) (sym at)
-    ∙ ap (λ l. watched costs p sp (bound_to body bound l (v ∷ values) s)) (next_part params place first.0 here first.1)
-    ∙ ap (watched costs p sp) (one_more body bound first.0 (drop (place + 1) params) v values s))
-    (charge_refused costs p q sp Bind m (size_of v) (bound_to body (bound ++ (first.0.0, v) ∷ []) (drop (place + 1) params) values s) e s size pays)
+pub bind_turn : (costs : Costs) (p q : Purse) (sp : Seen) (body : Bound → State → Answer Val) (params : Params) (values : List Val) (i : ℕ) (v : Val) (m : ℕ) (s : State) → i < length params → i < length values → v ≡ get_or values i v → m ≡ size_of v → spend p (cost_of costs Bind m) ≡ Ok q → watched costs p sp (bound_to body (paired params (take i values)) (drop i params) (drop i values) s) ≡ watched costs q sp (bound_to body (paired params (take (i + 1) values)) (drop (i + 1) params) (drop (i + 1) values) s)
+bind_turn costs p q sp body params values i v m s h k hv size spent =
+    let first = there params i h in
+    let next : suc i ≡ i + 1 = omega arith in
+    let bound : Bound = paired params (take i values) in
+    at_place costs p sp body bound params values i first.0 v s h k first.1 hv
+    ∙ charge_spent costs p q sp Bind m (size_of v) (bound_to body (bound ++ (first.0.0, v) ∷ []) (drop (i + 1) params) (drop (i + 1) values) s) size spent
+    ∙ ap (λ b. watched costs q sp (bound_to body b (drop (i + 1) params) (drop (i + 1) values) s)) (sym (more_pairs params values i first.0 v h k first.1 hv) ∙ ap (λ n. paired params (take n values)) next)
 
-pub bind_past : (costs : Costs) (p : Purse) (sp : Seen) (body : Bound → State → Answer Val) (bound : Bound) (params : Params) (v : Val) (values : List Val) (s : State) → length params ≤ length bound → watched costs p sp (bound_to body bound (drop (length bound) params) (v ∷ values) s) ≡ Lost p sp
-bind_past costs p sp body bound params v values s h =
-    ap (λ l. watched costs p sp (bound_to body bound l (v ∷ values) s)) (drop_all (length bound) params h) ∙ ap (watched costs p sp) (too_many body bound v values s)
-    ∙ watched-stop costs p sp Wrong s
+pub bind_stops : (costs : Costs) (p q : Purse) (sp : Seen) (body : Bound → State → Answer Val) (bound : Bound) (params : Params) (values : List Val) (i : ℕ) (v : Val) (m : ℕ) (s : State) (e : Stop) → i < length params → i < length values → v ≡ get_or values i v → m ≡ size_of v → Pays costs p Bind m (Err e) q → Stops (watched costs p sp (bound_to body bound (drop i params) (drop i values) s)) e q sp s
+bind_stops costs p q sp body bound params values i v m s e h k hv size pays =
+    let first = there params i h in
+    stops_eq _ _ e q sp s (at_place costs p sp body bound params values i first.0 v s h k first.1 hv)
+    (charge_refused costs p q sp Bind m (size_of v) (bound_to body (bound ++ (first.0.0, v) ∷ []) (drop (i + 1) params) (drop (i + 1) values) s) e s size pays)
 
-left_over : (costs : Costs) (p : Purse) (sp : Seen) (body : Bound → State → Answer Val) (bound : Bound) (params : Params) (s : State) → 0 < length params → watched costs p sp (bound_to body bound params [] s) ≡ Lost p sp
-left_over costs p sp body bound [] s h = absurd (omega arith)
-left_over costs p sp body bound (x ∷ params) s h = ap (watched costs p sp) (too_few body bound x params s) ∙ watched-stop costs p sp Wrong s
+pub bind_past : (costs : Costs) (p : Purse) (sp : Seen) (body : Bound → State → Answer Val) (bound : Bound) (params : Params) (values : List Val) (i : ℕ) (s : State) → length params ≤ i → i < length values → watched costs p sp (bound_to body bound (drop i params) (drop i values) s) ≡ Lost p sp
+bind_past costs p sp body bound params values i s h k =
+    let left : 0 < length (drop i values) = omega (arith, k, length-drop i values) in
+    ap (λ l. watched costs p sp (bound_to body bound l (drop i values) s)) (drop_all i params h) ∙ ap (watched costs p sp) (too_many body bound (drop i values) s left) ∙ watched-stop costs p sp Wrong s
 
-none_of : (values : List Val) → length values ≡ 0 → values ≡ []
-none_of [] h = refl
-none_of (v ∷ values) h = absurd (omega arith)
+pub bind_short : (costs : Costs) (p : Purse) (sp : Seen) (body : Bound → State → Answer Val) (bound : Bound) (params : Params) (values : List Val) (i : ℕ) (s : State) → i < length params → length values ≤ i → watched costs p sp (bound_to body bound (drop i params) (drop i values) s) ≡ Lost p sp
+bind_short costs p sp body bound params values i s h k =
+    let left : 0 < length (drop i params) = omega (arith, h, length-drop i params) in
+    ap (λ l. watched costs p sp (bound_to body bound (drop i params) l s)) (drop_all i values k) ∙ ap (watched costs p sp) (too_few body bound (drop i params) s left) ∙ watched-stop costs p sp Wrong s
 
-pub bind_short : (costs : Costs) (p : Purse) (sp : Seen) (body : Bound → State → Answer Val) (bound : Bound) (params : Params) (values : List Val) (s : State) → length bound < length params → length values ≡ 0 → watched costs p sp (bound_to body bound (drop (length bound) params) values s) ≡ Lost p sp
-bind_short costs p sp body bound params values s h k =
-    let left : 0 < length (drop (length bound) params) = omega (arith, h, length-drop (length bound) params) in
-    ap (λ l. watched costs p sp (bound_to body bound (drop (length bound) params) l s)) (none_of values k) ∙ left_over costs p sp body bound (drop (length bound) params) s left
-
-pub bind_end : (costs : Costs) (p : Purse) (sp : Seen) (body : Bound → State → Answer Val) (bound : Bound) (params : Params) (values : List Val) (s : State) → length params ≤ length bound → length values ≡ 0 → watched costs p sp (bound_to body bound (drop (length bound) params) values s) ≡ watched costs p sp (body bound s)
-bind_end costs p sp body bound params values s h k =
-    ap (λ l. watched costs p sp (bound_to body bound l values s)) (drop_all (length bound) params h) ∙ ap (λ l. watched costs p sp (bound_to body bound [] l s)) (none_of values k)
-    ∙ ap (watched costs p sp) (none_more body bound s)
+pub bind_end : (costs : Costs) (p : Purse) (sp : Seen) (body : Bound → State → Answer Val) (params : Params) (values : List Val) (i : ℕ) (s : State) → length params ≤ i → length values ≤ i → watched costs p sp (bound_to body (paired params (take i values)) (drop i params) (drop i values) s) ≡ watched costs p sp (body (paired params values) s)
+bind_end costs p sp body params values i s h k =
+    ap (λ l. watched costs p sp (bound_to body (paired params (take i values)) l (drop i values) s)) (drop_all i params h)
+    ∙ ap (λ l. watched costs p sp (bound_to body (paired params (take i values)) [] l s)) (drop_all i values k)
+    ∙ ap (watched costs p sp) (none_more body (paired params (take i values)) s)
+    ∙ ap (λ l. watched costs p sp (body (paired params l) s)) (take_all i values k)
 
 -- what `?` hands on
-pub binds_not : (costs : Costs) (p q : Purse) (params : Params) (values : List Val) (r : Result (Vec (List ℕ × Val) Global) Stop) (e : Stop) → (x : Stop) × (r ≡ Err x) × (x ≡ e) → ((body : Bound → State → Answer Val) (s : State) (sp : Seen) → Stops (watched costs p sp (bound_to body [] params values s)) e q sp s) → Binds costs p params values r q
+pub binds_not : (costs : Costs) (p q : Purse) (params : Params) (values : List Val) (r : Result (Unit {0}) Stop) (e : Stop) → (x : Stop) × (r ≡ Err x) × (x ≡ e) → ((body : Bound → State → Answer Val) (s : State) (sp : Seen) → Stops (watched costs p sp (bound_to body [] params values s)) e q sp s) → Binds costs p params values r q
 binds_not costs p q params values r e h stops = subst (λ x. Binds costs p params values x q) (sym (h.1 ∙ ap Err h.2)) stops
+
+-- the values as the code hands them on
+pub given_as : (costs : Costs) (p : Purse) (sp : Seen) (body : Bound → State → Answer Val) (params : Params) (values seen : List Val) (s : State) → seen ≡ values → watched costs p sp (bound_to body [] params values s) ≡ watched costs p sp (bound_to body [] params seen s)
+given_as costs p sp body params values seen s h = ap (λ l. watched costs p sp (bound_to body [] params l s)) (sym h)

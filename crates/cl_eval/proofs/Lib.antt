@@ -3,6 +3,7 @@ pub mod Lasts
 pub mod Ways
 pub mod Closing
 pub mod Parts
+pub mod Pairing
 pub mod Binding
 pub mod Laws
 pub mod Forms

@@ -21,6 +21,7 @@ use Rattle.cl_eval.specs.declared.stop.Stop.TheVariants.{Thrown, Arithmetic, Pan
 use Rattle.cl_eval.specs.declared.context.Context.{Context}
 use Rattle.cl_types.specs.declared.fault.Fault.{Fault}
 use Rattle.cl_types.specs.declared.fault.Fault.TheVariants.{Refused, NoMemory as OutOfMemory}
+use Rattle.cl_eval.specs.Named.{paired}
 use Rattle.cl_eval.specs.Seen.{costs_of}
 
 -- what was seen so far, where that is told
@@ -107,9 +108,9 @@ abbrev pub Walks : {A : Type 0} → Context → Purse → Seen → Answer A → 
 Walks c p j a r q k s = Ends (watched (costs_of c) p j a) r q k s
 
 -- whatever follows, on whatever state: parameters are bound to values and it goes on with them, or it stops there
-abbrev pub Binds : Costs → Purse → List (List ℕ × PlainType) → List Val → Result (Vec (List ℕ × Val) Global) Stop → Purse → Type 0
-Binds costs p params values (Ok bound) q =
-    (body : Bound → State → Answer Val) (s : State) (k : Seen) → watched costs p k (bound_to body [] params values s) ≡ watched costs q k (body bound.items s)
+abbrev pub Binds : Costs → Purse → List (List ℕ × PlainType) → List Val → Result (Unit {0}) Stop → Purse → Type 0
+Binds costs p params values (Ok u) q =
+    (body : Bound → State → Answer Val) (s : State) (k : Seen) → watched costs p k (bound_to body [] params values s) ≡ watched costs q k (body (paired params values) s)
 Binds costs p params values (Err stop) q =
     (body : Bound → State → Answer Val) (s : State) (k : Seen) → Stops (watched costs p k (bound_to body [] params values s)) stop q k s
 

@@ -14,34 +14,31 @@ use cl_code::Function;
 use cl_costs::CostTable;
 use cl_shapes::{CostName, Meter};
 use cl_state::World;
-use cl_types::{Access, Name};
+use cl_types::Access;
 use cl_values::{Kind, Val};
-use std::alloc::Global;
 
-/// Binds the parameters to the values, each charged by its size.
+/// Charges for the parameters that are bound to the values, each by the size of its value.
 pub(crate) fn bind(
-    alloc: Global,
     costs: &CostTable,
     function: &Function,
-    values: Vec<Val>,
+    values: &[Val],
     meter: &mut Meter,
-) -> Result<Vec<(Name, Val)>, Stop>
-    ensures { Binds (function_of costs.now) meter.old function.now.params.items values.items result meter.new }
+) -> Result<(), Stop>
+    ensures { Binds (function_of costs.now) meter.old function.now.params.items values.now result meter.new }
 {
-    let mut bound = Vec::new(alloc);
-    for value in values {
-        let place = bound.len();
+    let count = values.len();
+    for place in 0..count {
         if place >= function.params.len() {
             return Err(Stop::Stuck);
         }
+        let value = &values[place];
         let size = u64::from(value.size());
         pay(costs, meter, CostName::Bind, size)?;
-        bound.push((function.params[place].0, value))?;
     }
-    if bound.len() < function.params.len() {
+    if count < function.params.len() {
         return Err(Stop::Stuck);
     }
-    Ok(bound)
+    Ok(())
 }
 
 /// The last of one or more values.

@@ -65,8 +65,9 @@ pub(crate) fn enter<W: Watch>(
         return Err(Stop::Stuck);
     }
     pay(context.costs, meter, CostName::Call, values.len() as u64)?;
-    let bound = bind(context.alloc, context.costs, function, values, meter)?;
-    let names = Names::alone(&bound);
+    let given = values.as_slice();
+    bind(context.costs, function, given, meter)?;
+    let names = Names::of_call(function, given);
     evaluate_body(context, function, &names, depth - 1, world, meter, watch)
 }
 

@@ -28,7 +28,7 @@ pub(crate) fn row_at(
     ensures row { IfOk result (λ row. option_map (λ r. r.items) row ≡ row_at place sequences.now) }
     ensures count { IfOk result (λ row. IfSome row (λ r. length r.items ≡ length sequences.now)) }
 {
-    let mut row = Vec::new(alloc);
+    let mut row = Vec::with_capacity(alloc, sequences.len())?;
     for sequence in sequences {
         match entry_at(alloc, sequence, place)? {
             Some(entry) => row.push(entry)?,
@@ -55,8 +55,8 @@ pub(crate) fn width(sequences: &[Val]) -> Option<usize>
 pub(crate) fn alone(alloc: Global, value: Val) -> Result<Vec<Val>, NoMemory>
     ensures { IfOk result (λ values. values.items ≡ value ∷ []) }
 {
-    let mut values = Vec::new(alloc);
-    values.push(value)?;
+    let mut values = Vec::with_capacity(alloc, 1)?;
+    values.push_reserved(value);
     Ok(values)
 }
 
@@ -64,8 +64,8 @@ pub(crate) fn alone(alloc: Global, value: Val) -> Result<Vec<Val>, NoMemory>
 pub(crate) fn pair(alloc: Global, first: Val, second: Val) -> Result<Vec<Val>, NoMemory>
     ensures { IfOk result (λ values. values.items ≡ first ∷ second ∷ []) }
 {
-    let mut values = Vec::new(alloc);
-    values.push(first)?;
-    values.push(second)?;
+    let mut values = Vec::with_capacity(alloc, 2)?;
+    values.push_reserved(first);
+    values.push_reserved(second);
     Ok(values)
 }

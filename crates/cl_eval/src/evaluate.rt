@@ -158,10 +158,10 @@ pub(crate) fn evaluate_parts<W: Watch>(
     ensures grew { amount (W.seen watch.old) ≤ amount (W.seen watch.new) }
     ensures count { IfOk result (λ values. length values.items ≡ length codes.now) }
 {
-    let mut values = Vec::new(context.alloc);
+    let mut values = Vec::with_capacity(context.alloc, codes.len())?;
     for code in codes {
         let value = evaluate(context, names, code, below, world, meter, watch)?;
-        values.push(value)?;
+        values.push_reserved(value);
     }
     Ok(values)
 }

@@ -24,6 +24,7 @@ mod names;
 mod natives;
 mod on_names;
 mod on_parts;
+mod own;
 mod payment;
 mod scopes;
 mod sieve;

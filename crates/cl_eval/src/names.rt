@@ -2,7 +2,10 @@
 ghost use Rattle.std.specs.Prelude.{◌≡◌, ◌++◌, [], option_copied};
 ghost use Rattle.std.specs.Option.{option_or};
 ghost use Rattle.cl_meaning.specs.Deployed.{value_of};
+ghost use Rattle.cl_eval.specs.Named.{own_seen, paired};
 
+use crate::own::Own;
+use cl_code::Function;
 use cl_types::Name;
 use cl_values::Val;
 use std::marker::Model;
@@ -12,17 +15,17 @@ use std::marker::Model;
 #[derive(Drop)]
 pub(crate) struct Names<'a> {
     outer: Option<&'a Names<'a>>,
-    own: &'a [(Name, Val)],
+    own: Own<'a>,
 }
 
 impl<'a> Model for Names<'a> {
-    ghost use Rattle.cl_eval.specs.Named.{Named, named, named_code};
+    ghost use Rattle.cl_eval.specs.Named.{Named, named, named_code, own_seen};
 
     ghost Value = { Named };
 
     ghost coded = { named_code };
 
-    ghost view = { λ n. named n.outer n.own.now };
+    ghost view = { λ n. named n.outer (own_seen n.own) };
 
     ghost size = { λ n. n.depth };
 }
@@ -32,7 +35,20 @@ impl<'a> Names<'a> {
     pub(crate) fn alone(own: &'a [(Name, Val)]) -> Names<'a>
         ensures { result.values ≡ own.now }
     {
-        Names { outer: None, own }
+        Names {
+            outer: None,
+            own: Own::Pairs(own),
+        }
+    }
+
+    /// The parameters of a function that is called with values.
+    pub(crate) fn of_call(function: &'a Function, values: &'a [Val]) -> Names<'a>
+        ensures { result.values ≡ paired function.now.params.items values.now }
+    {
+        Names {
+            outer: None,
+            own: Own::Call(function, values),
+        }
     }
 
     /// The names of a scope within another.
@@ -41,7 +57,7 @@ impl<'a> Names<'a> {
     {
         Names {
             outer: Some(outer),
-            own,
+            own: Own::Pairs(own),
         }
     }
 
@@ -50,34 +66,18 @@ impl<'a> Names<'a> {
         ensures { option_copied result ≡ value_of name.now self.now.values }
     {
         match self.outer {
-            Some(outer) => or_first_under(outer.find(name), self.own, name),
-            None => first_under(self.own, name),
+            Some(outer) => or_first_under(outer.find(name), &self.own, name),
+            None => self.own.first_under(name),
         }
     }
 }
 
 /// What was found, or else the first value of a name among these.
-fn or_first_under<'a>(
-    found: Option<&'a Val>,
-    own: &'a [(Name, Val)],
-    name: &Name,
-) -> Option<&'a Val>
-    ensures { option_copied result ≡ option_or (option_copied found.entry) (value_of name.now own.now) }
+fn or_first_under<'a>(found: Option<&'a Val>, own: &Own<'a>, name: &Name) -> Option<&'a Val>
+    ensures { option_copied result ≡ option_or (option_copied found.entry) (value_of name.now (own_seen own.now)) }
 {
     match found {
         Some(value) => Some(value),
-        None => first_under(own, name),
+        None => own.first_under(name),
     }
-}
-
-/// The first value of a name among these.
-fn first_under<'a>(own: &'a [(Name, Val)], name: &Name) -> Option<&'a Val>
-    ensures { option_copied result ≡ value_of name.now own.now }
-{
-    for entry in own {
-        if entry.0.bytes() == name.bytes() {
-            return Some(&entry.1);
-        }
-    }
-    None
 }

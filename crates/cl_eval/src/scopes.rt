@@ -110,7 +110,7 @@ fn evaluate_with<W: Watch>(
     ensures grew { amount (W.seen watch.old) ≤ amount (W.seen watch.new) }
 {
     pay_for(context.costs, meter, CostName::Bind, &value)?;
-    let mut own = Vec::new(context.alloc);
+    let mut own = Vec::with_capacity(context.alloc, 1)?;
     own.push((name.name, value))?;
     evaluate_in(context, names, &own, code, below, world, meter, watch)
 }
@@ -182,7 +182,7 @@ fn evaluate_bindings<W: Watch>(
     ensures below { world.new.stack.below ≡ world.old.stack.below }
     ensures grew { amount (W.seen watch.old) ≤ amount (W.seen watch.new) }
 {
-    let mut own = Vec::new(context.alloc);
+    let mut own = Vec::with_capacity(context.alloc, bindings.len())?;
     let mut place = 0;
     for binding in bindings {
         let value = evaluate_in(

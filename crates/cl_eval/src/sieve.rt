@@ -21,7 +21,7 @@ use std::alloc::Global;
 fn flags(alloc: Global, results: &[Val]) -> Result<Option<Vec<bool>>, NoMemory>
     ensures { IfOk result (λ flags. option_map (λ bs. bs.items) flags ≡ flags_of results.now) }
 {
-    let mut flags = Vec::new(alloc);
+    let mut flags = Vec::with_capacity(alloc, results.len())?;
     for value in results {
         match truth_of(value) {
             Some(holds) => flags.push(holds)?,

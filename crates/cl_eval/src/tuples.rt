@@ -79,7 +79,7 @@ pub(crate) fn evaluate_as_max_len<W: Watch>(
 fn names_of(alloc: Global, bindings: &[Binding]) -> Result<Vec<Name>, NoMemory>
     ensures { IfOk result (λ names. names.items ≡ bound_names bindings.now) }
 {
-    let mut names = Vec::new(alloc);
+    let mut names = Vec::with_capacity(alloc, bindings.len())?;
     for binding in bindings {
         names.push(binding.word.name)?;
     }
@@ -90,7 +90,7 @@ fn names_of(alloc: Global, bindings: &[Binding]) -> Result<Vec<Name>, NoMemory>
 fn with_keys(alloc: Global, keys: &[Name], values: Vec<Val>) -> Result<Vec<(Name, Val)>, NoMemory>
     ensures { IfOk result (λ parts. parts.items ≡ zip keys.now values.items) }
 {
-    let mut parts = Vec::new(alloc);
+    let mut parts = Vec::with_capacity(alloc, keys.len())?;
     for value in values {
         let place = parts.len();
         if place >= keys.len() {

@@ -51,6 +51,7 @@ use Rattle.cl_meaning.specs.Answers.{stop, outcome_of}
 use Rattle.cl_eval.specs.Applying.{callee_seen}
 use Rattle.cl_eval.specs.Rows.{rows_from, entries_from}
 use Rattle.cl_eval.proofs.Parts.{onto, onto-nil}
+use Rattle.cl_eval.proofs.Binding.{given_as}
 use Rattle.cl_eval.proofs.IterateLaws
 use Rattle.cl_eval.proofs.Iterating
 use Rattle.cl_eval.proofs.Rows
@@ -181,7 +182,7 @@ on_names::evaluate_on_name-returns-in_ok-values-in-All-clause-meant g t c fits =
 pub evaluate::evaluate_parts-returns-in_err-value-clause-meant : goal.evaluate::evaluate_parts-returns-in_err-value-clause-meant
 evaluate::evaluate_parts-returns-in_err-value-clause-meant g t c fits =
     let here : c.loop-code.code-index < length c.args.codes.now = omega arith in
-    hands_on_all _ _ c.in_err-value.field-0.0 _ _ _ (err_from_is_err_and c.from_residual.result c.from_residual.ensures.1)
+    hands_on_all _ _ c.in_err-value.field-0.0 _ _ _ (err_from_is_err_and c.from_residual-in_err-value.result c.from_residual-in_err-value.ensures.1)
     (stops_eq _ _ _ _ _ _ (c.loop-code.invariant.so_far fits) (parts_turn_stop _ _ _ _ _ _ _ _ _ _ _ _ _ _ here c.code-item.is (c.in_err-value.ensures.meant fits)))
 
 pub evaluate::evaluate_parts-loop-code-preserved : goal.evaluate::evaluate_parts-loop-code-preserved
@@ -189,10 +190,11 @@ evaluate::evaluate_parts-loop-code-preserved g t c = record {
   so_far = λ fits.
       let here : c.loop-code.code-index < length c.args.codes.now = omega arith in
       c.loop-code.invariant.so_far fits
-      ∙ parts_turn _ _ _ _ _ _ _ _ _ _ _ _ _ _ _ here c.code-item.is c.in_ok-push.ensures.items (c.in_ok-value.ensures.meant fits);
+      ∙ parts_turn _ _ _ _ _ _ _ _ _ _ _ _ _ _ _ here c.code-item.is c.push_reserved.ensures.items (c.in_ok-value.ensures.meant fits);
   below = c.in_ok-value.ensures.below ∙ c.loop-code.invariant.below;
   grew = omega (arith, c.in_ok-value.ensures.grew, c.loop-code.invariant.grew);
-  count = omega (arith, c.loop-code.invariant.count, c.in_ok-push.ensures.len);
+  room = omega (arith, c.loop-code.invariant.room, c.push_reserved.ensures.capacity);
+  count = omega (arith, c.loop-code.invariant.count, c.push_reserved.ensures.len);
 }
 
 pub evaluate::evaluate_parts-returns-clause-meant : goal.evaluate::evaluate_parts-returns-clause-meant
@@ -431,7 +433,7 @@ scopes::evaluate_with-returns-in_err-pay_for-clause-meant g t c fits = pay_fails
 
 pub scopes::evaluate_with-returns-clause-meant : goal.scopes::evaluate_with-returns-clause-meant
 scopes::evaluate_with-returns-clause-meant g t c fits =
-    ends_so _ _ _ _ _ _ (charge_within _ _ _ _ _ _ _ c.in_ok-pay_for.ensures ∙ Lets.bound_in (costs_of c.args.context.now) _ _ (means c.args.below) (scope c.args.context.now c.args.names.now) c.args.names.now.values _ _ _ _ _ _ _ refl c.deref.ensures.value (c.in_ok-push.ensures.items ∙ ap (λ l. l ++ (c.args.name.now.name, c.args.value) ∷ []) c.new-own.ensures.items)) (c.evaluate_in.ensures.meant fits)
+    ends_so _ _ _ _ _ _ (charge_within _ _ _ _ _ _ _ c.in_ok-pay_for.ensures ∙ Lets.bound_in (costs_of c.args.context.now) _ _ (means c.args.below) (scope c.args.context.now c.args.names.now) c.args.names.now.values _ _ _ _ _ _ _ refl c.deref.ensures.value (c.in_ok-push.ensures.items ∙ ap (λ l. l ++ (c.args.name.now.name, c.args.value) ∷ []) c.in_ok-own.ensures.items)) (c.evaluate_in.ensures.meant fits)
 
 pub scopes::evaluate_in-returns-clause-meant : goal.scopes::evaluate_in-returns-clause-meant
 scopes::evaluate_in-returns-clause-meant g t c fits = ends_so _ _ _ _ _ _ (ap (λ b. watched (costs_of c.args.context.now) c.args.meter.now (g.W.Watch.seen c.args.watch.now) (means c.args.below (scope_of c.args.context.now b) (expression_of c.args.code.now) c.args.world.now.stack.top)) (sym c.within-inner.ensures)) (c.evaluate.ensures.meant fits)
@@ -459,7 +461,7 @@ scopes::evaluate_let-returns-clause-meant g t c at fits =
 pub scopes::evaluate_bindings-returns-in_err-value-clause-meant : goal.scopes::evaluate_bindings-returns-in_err-value-clause-meant
 scopes::evaluate_bindings-returns-in_err-value-clause-meant g t c body fits =
     let here : c.loop-binding.binding-index < length c.args.bindings.now = omega arith in
-    Lets.binds_not _ _ _ (λ own. scope_of c.args.context.now (c.args.names.now.values ++ own)) _ _ c.in_err-value.field-0.0 _ _ _ (err_from_is_err_and c.from_residual.result c.from_residual.ensures.1) (stops_eq _ _ _ _ _ _ (c.loop-binding.invariant.so_far body fits ∙ Lets.let_next (costs_of c.args.context.now) c.loop-binding.meter (g.W.Watch.seen c.loop-binding.watch) (means c.args.below) body (scope c.args.context.now c.args.names.now) c.args.names.now.values c.args.bindings.now c.args.codes.now c.loop-binding.binding-index c.loop-binding.place _ _ c.loop-binding.world.stack.top c.loop-binding.own.items _ _ refl c.deref.ensures.value c.loop-binding.invariant.at here c.requires c.binding-item.is c.index-codes-place.is) (stops_then _ _ _ _ _ _ _ _ _ (c.in_err-value.ensures.meant fits)))
+    Lets.binds_not _ _ _ (λ own. scope_of c.args.context.now (c.args.names.now.values ++ own)) _ _ c.in_err-value.field-0.0 _ _ _ (err_from_is_err_and c.from_residual-in_err-value.result c.from_residual-in_err-value.ensures.1) (stops_eq _ _ _ _ _ _ (c.loop-binding.invariant.so_far body fits ∙ Lets.let_next (costs_of c.args.context.now) c.loop-binding.meter (g.W.Watch.seen c.loop-binding.watch) (means c.args.below) body (scope c.args.context.now c.args.names.now) c.args.names.now.values c.args.bindings.now c.args.codes.now c.loop-binding.binding-index c.loop-binding.place _ _ c.loop-binding.world.stack.top c.loop-binding.own.items _ _ refl c.deref.ensures.value c.loop-binding.invariant.at here c.requires c.binding-item.is c.index-codes-place.is) (stops_then _ _ _ _ _ _ _ _ _ (c.in_err-value.ensures.meant fits)))
 
 pub scopes::evaluate_bindings-returns-in_err-pay_for-clause-meant : goal.scopes::evaluate_bindings-returns-in_err-pay_for-clause-meant
 scopes::evaluate_bindings-returns-in_err-pay_for-clause-meant g t c body fits =
@@ -478,7 +480,7 @@ scopes::evaluate_bindings-loop-binding-preserved g t c = record {
 
 pub scopes::evaluate_bindings-loop-binding-init : goal.scopes::evaluate_bindings-loop-binding-init
 scopes::evaluate_bindings-loop-binding-init g t c = record {
-  so_far = λ body fits. Lets.let_start _ _ _ (means c.args.below) body (scope c.args.context.now c.args.names.now) c.args.names.now.values _ _ _ c.new-own.ensures.items;
+  so_far = λ body fits. Lets.let_start _ _ _ (means c.args.below) body (scope c.args.context.now c.args.names.now) c.args.names.now.values _ _ _ c.in_ok-own.ensures.items;
   below = refl;
   grew = omega arith;
   at = refl;
@@ -504,13 +506,13 @@ calls::enter-returns-then-depth-eq0-clause-meant g t c outer fits = applied_none
 pub calls::enter-returns-in_err-pay-clause-meant : goal.calls::enter-returns-in_err-pay-clause-meant
 calls::enter-returns-in_err-pay-clause-meant g t c outer fits = pay_fails _ _ c.in_err-pay.field-0.0 _ _ _ _ _ _ _ _ (err_from_is_err_and c.from_residual.result c.from_residual.ensures.1) (ap (watched _ _ _) (applied_down _ _ _ _ _ _ (omega arith) (omega (arith, c.args.values.ok.0)))) c.in_err-pay.ensures
 
-pub calls::enter-returns-in_err-bound-clause-meant : goal.calls::enter-returns-in_err-bound-clause-meant
-calls::enter-returns-in_err-bound-clause-meant g t c outer fits =
-    hands_on _ _ c.in_err-bound.field-0.0 _ _ _ (err_from_is_err_and c.from_residual-in_err-bound.result c.from_residual-in_err-bound.ensures.1) (stops_eq _ _ _ _ _ _ (ap (watched _ _ _) (applied_down _ _ _ _ _ _ (omega arith) (omega (arith, c.args.values.ok.0))) ∙ charge_within _ _ _ _ _ _ _ c.in_ok-pay.ensures) (c.in_err-bound.ensures _ _ _))
+pub calls::enter-returns-in_err-bind-clause-meant : goal.calls::enter-returns-in_err-bind-clause-meant
+calls::enter-returns-in_err-bind-clause-meant g t c outer fits =
+    hands_on _ _ c.in_err-bind.field-0.0 _ _ _ (err_from_is_err_and c.from_residual-in_err-bind.result c.from_residual-in_err-bind.ensures.1) (stops_eq _ _ _ _ _ _ (ap (watched _ _ _) (applied_down _ _ _ _ _ _ (omega arith) (omega (arith, c.args.values.ok.0))) ∙ charge_within _ _ _ _ _ _ _ c.in_ok-pay.ensures ∙ given_as _ _ _ _ _ _ _ _ c.as_slice-given.ensures.value) (c.in_err-bind.ensures _ _ _))
 
 pub calls::enter-returns-clause-meant : goal.calls::enter-returns-clause-meant
 calls::enter-returns-clause-meant g t c outer fits =
-    ends_so _ _ _ _ _ _ (ap (watched _ _ _) (applied_down _ _ _ _ _ _ (omega arith) (omega (arith, c.args.values.ok.0))) ∙ charge_within _ _ _ _ _ _ _ c.in_ok-pay.ensures ∙ c.in_ok-bound.ensures _ _ _ ∙ Lets.body_bound _ _ _ (means (c.args.depth - 1)) (scope_of c.args.context.now outer) (function_seen c.args.function.now) _ _ _ _ c.alone-names.ensures c.deref.ensures.value) (c.evaluate_body.ensures.meant outer fits)
+    ends_so _ _ _ _ _ _ (ap (watched _ _ _) (applied_down _ _ _ _ _ _ (omega arith) (omega (arith, c.args.values.ok.0))) ∙ charge_within _ _ _ _ _ _ _ c.in_ok-pay.ensures ∙ given_as _ _ _ _ _ _ _ _ c.as_slice-given.ensures.value ∙ c.in_ok-bind.ensures _ _ _ ∙ Lets.body_bound _ _ _ (means (c.args.depth - 1)) (scope_of c.args.context.now outer) (function_seen c.args.function.now) _ _ _ _ c.of_call-names.ensures refl) (c.evaluate_body.ensures.meant outer fits)
 
 pub calls::evaluate_body-returns-in_ok-push_layer-clause-meant : goal.calls::evaluate_body-returns-in_ok-push_layer-clause-meant
 calls::evaluate_body-returns-in_ok-push_layer-clause-meant g t c outer fits =
@@ -817,14 +819,18 @@ evaluate::evaluate-returns-in_err-saw-clause-meant g t c fits =
     memory_ends _ _ _ _ _ _ (err_from_is_err_and c.from_residual-in_err-saw.result c.from_residual-in_err-saw.ensures.1)
     (means_down _ _ _ _ _ _ _ (omega arith) ∙ watched-ending _ _ _ _ _) (node_unseen _ _ _ _ _ _ _ (c.in_ok-value.ensures.meant fits) c.in_err-saw.ensures)
 
-pub evaluate::evaluate_parts-returns-in_err-push-clause-meant : goal.evaluate::evaluate_parts-returns-in_err-push-clause-meant
-evaluate::evaluate_parts-returns-in_err-push-clause-meant g t c fits =
-    let here : c.loop-code.code-index < length c.args.codes.now = omega arith in
-    onto_memory _ _ _ _ _ (c.loop-code.values.items ++ c.in_ok-value.value ∷ []) _ _ (err_from_is_err_and c.from_residual-in_err-push.result c.from_residual-in_err-push.ensures.1)
-    (c.loop-code.invariant.so_far fits ∙ parts_turn _ _ _ _ _ _ _ _ _ _ _ _ _ _ _ here c.code-item.is refl (c.in_ok-value.ensures.meant fits))
+pub evaluate::evaluate_parts-returns-in_err-values-clause-meant : goal.evaluate::evaluate_parts-returns-in_err-values-clause-meant
+evaluate::evaluate_parts-returns-in_err-values-clause-meant g t c fits = onto_memory _ _ _ _ _ [] _ _ (err_from_is_err_and c.from_residual.result c.from_residual.ensures.1) (onto-nil _)
+
+pub scopes::evaluate_with-returns-in_err-own-clause-meant : goal.scopes::evaluate_with-returns-in_err-own-clause-meant
+scopes::evaluate_with-returns-in_err-own-clause-meant g t c fits = memory_fails _ _ _ _ _ _ _ _ (err_from_is_err_and c.from_residual-in_err-own.result c.from_residual-in_err-own.ensures.1) (charge_within _ _ _ _ _ _ _ c.in_ok-pay_for.ensures)
 
 pub scopes::evaluate_with-returns-in_err-push-clause-meant : goal.scopes::evaluate_with-returns-in_err-push-clause-meant
 scopes::evaluate_with-returns-in_err-push-clause-meant g t c fits = memory_fails _ _ _ _ _ _ _ _ (err_from_is_err_and c.from_residual-in_err-push.result c.from_residual-in_err-push.ensures.1) (charge_within _ _ _ _ _ _ _ c.in_ok-pay_for.ensures)
+
+pub scopes::evaluate_bindings-returns-in_err-own-clause-meant : goal.scopes::evaluate_bindings-returns-in_err-own-clause-meant
+scopes::evaluate_bindings-returns-in_err-own-clause-meant g t c body fits =
+    Lets.binds_memory _ _ _ (λ own. scope_of c.args.context.now (c.args.names.now.values ++ own)) _ _ _ _ _ _ (err_from_is_err_and c.from_residual.result c.from_residual.ensures.1) refl (starts _ _ _ _)
 
 pub scopes::evaluate_bindings-returns-in_err-push-clause-meant : goal.scopes::evaluate_bindings-returns-in_err-push-clause-meant
 scopes::evaluate_bindings-returns-in_err-push-clause-meant g t c body fits =

@@ -12,6 +12,7 @@ use Rattle.cl_values.specs.Tree.{Tree as Val}
 use Rattle.cl_meaning.specs.Sequences.{each, folded}
 use Rattle.cl_eval.specs.Applying.{callee_seen}
 use Rattle.cl_eval.specs.Rows.{rows_from, entries_from}
+use Rattle.std.specs.Vec.{vec_capacity}
 use Rattle.cl_eval.proofs.+evaluate.Given as goal
 
 abbrev pub invariant-evaluate::evaluate_parts-loop-code : goal.invariant-evaluate::evaluate_parts-loop-code
@@ -22,6 +23,7 @@ invariant-evaluate::evaluate_parts-loop-code g l = record {
       ≡ onto l.values.items (watched (costs_of l.context) l.meter (g.W.Watch.seen l.watch) (parts (means l.below) (scope l.context l.names) (map expression_of (drop l.code-index l.codes)) l.world.stack.top));
   below : l.world.stack.below ≡ l.initial.world.stack.below;
   grew : amount (g.W.Watch.seen l.initial.watch) ≤ amount (g.W.Watch.seen l.watch);
+  room : length l.codes ≤ vec_capacity l.values;
   count : length l.values.items ≡ l.code-index;
 }
 

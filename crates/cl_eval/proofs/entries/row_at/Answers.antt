@@ -13,8 +13,8 @@ returns-in-None c =
 
 pub loop-sequence-init : goal.loop-sequence-init
 loop-sequence-init c = record {
-  so_far = ap (λ l. option_map (λ r. l ++ r) (row_at c.args.place c.args.sequences.now)) c.new-row.ensures.items ∙ row_starts c.args.sequences.now c.args.place;
-  count = ap length c.new-row.ensures.items;
+  so_far = ap (λ l. option_map (λ r. l ++ r) (row_at c.args.place c.args.sequences.now)) c.in_ok-row.ensures.items ∙ row_starts c.args.sequences.now c.args.place;
+  count = ap length c.in_ok-row.ensures.items;
 }
 
 pub loop-sequence-preserved : goal.loop-sequence-preserved

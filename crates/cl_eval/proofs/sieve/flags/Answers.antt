@@ -9,7 +9,7 @@ returns-in-None c =
     flags_stop _ _ _ _ _ _ here c.value-item.is c.in-None.is c.truth_of.ensures c.loop-value.invariant
 
 pub loop-value-init : goal.loop-value-init
-loop-value-init c = ap (λ l. option_map (λ bs. l ++ bs) (flags_of c.args.results.now)) c.new-flags.ensures.items ∙ flags_start (flags_of c.args.results.now)
+loop-value-init c = ap (λ l. option_map (λ bs. l ++ bs) (flags_of c.args.results.now)) c.in_ok-flags.ensures.items ∙ flags_start (flags_of c.args.results.now)
 
 pub loop-value-preserved : goal.loop-value-preserved
 loop-value-preserved c =
