@@ -32,7 +32,7 @@ pub use native::{Arity, Native};
 pub use no_value::NoValue;
 pub use prefix::prefix_of;
 pub use refusal::ValueRefusal;
-pub use size::characters_size;
+pub use size::{characters_size, size_up_to};
 pub use texts::is_text_byte;
 pub use val::Val;
 pub use value::{Kind, Value};
