@@ -50,6 +50,10 @@ def folds(folder, count):
     return ["call", written(folder, "f.clar", source), "f", f"(list{' u7' * count})"], 0, f"value u{7 * count}"
 
 
+def made_calls(folder, count):
+    return ["gen", "7", str(count)], 0, f"calls {count} ok"
+
+
 ROWS = [
     ("int of a sum, read, checked, evaluated", ints, 8000, 32000, 1060),
     ("element of a list, `wire`", wire, 100, 1000, 840),
@@ -58,6 +62,7 @@ ROWS = [
     ("transfer of a token, `run`", transfers, 1000, 8000, 80000),
     ("`map-insert` of a new key, `run --state`", inserts, 1000, 4000, 30000),
     ("entry of a `fold`", folds, 100, 1000, 1750),
+    ("call of a workload, `gen`", made_calls, 1000, 10000, 5000),
 ]
 print("| Unit | Sizes | Instructions | Aim |\n|---|---|---|---|")
 for name, of, first, second, aim in ROWS:
