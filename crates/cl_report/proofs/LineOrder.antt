@@ -1,13 +1,15 @@
 -- Lists of lines: what stands in them, and lines in order.
-use Rattle.std.proofs.Common.{◌≡◌, ℕ, suc, List, [], ◌∷◌, ◌++◌, refl, ap, sym, subst, ◌∙◌, arith}
-use Rattle.std.specs.Prelude.{Bool, true, false, ◌||◌, map, Contains}
+use Rattle.std.proofs.Common.{◌≡◌, ℕ, suc, List, [], ◌∷◌, refl, ap, sym, subst, ◌∙◌, arith}
+use Rattle.std.specs.Prelude.{Bool, true, false, cond, ◌||◌, map, Contains}
 use Rattle.std.specs.List.{list_any, AllByRecursion as ByRecursion}
-use Rattle.std.specs.List.Sorted.{IsStrictlySortedBy}
-use Rattle.std.specs.declared.cmp.Ordering.TheVariants.{Less, Equal, Greater}
-use Rattle.std.specs.Ordering.{is_eq, match_ordering}
+use Rattle.std.specs.List.{dedup, dedup_from}
+use Rattle.std.specs.List.Sorted.{IsPermutation, IsSorted, IsStrictlySortedBy}
+use Rattle.std.specs.declared.cmp.Ordering.TheVariants.{Less}
+use Rattle.std.specs.Ordering.{eq_by_cmp}
 use Rattle.std.specs.Cmp.{both_ways, eq_by_cmp_equiv}
-use Rattle.std.specs.BTreeSet.{insert_key}
-use Rattle.std.proofs.lemmas.List.Folds.{list_any-append}
+use Rattle.std.proofs.lemmas.Cmp.{on_total}
+use Rattle.std.proofs.lemmas.List.Kept.{IsStrictlySortedBy-dedup}
+use Rattle.std.proofs.lemmas.List.Sorted.{list_any-IsPermutation}
 use Rattle.std.proofs.lemmas.Map.Views.{list_any-from_Contains}
 use Rattle.std.proofs.lemmas.Map.Lookups.{btree_set_from_contains, exact_bytes}
 use Rattle.cl_maps.specs.Maps.{key_cmp}
@@ -33,42 +35,13 @@ one_list xs ys rise climb there back =
     btree_set_from_contains keys_total (record { keys = xs }) (record { keys = ys }) rise climb
     (λ line. both_ways _ _ (λ is. listed ys line (there line (stands xs line is))) (λ is. listed xs line (back line (stands ys line is)))) exact_bytes
 
--- ------------------------------------------------------------ a line more
+-- ------------------------------------------------------------ sorted, each once
 
-repeated : (a b : Bool) → (a || b) ≡ (a || (a || b))
-repeated true b = refl
-repeated false b = refl
-
-swapped : (a b c : Bool) → (a || (b || c)) ≡ (b || (a || c))
-swapped true true c = refl
-swapped true false c = refl
-swapped false b c = refl
-
-turned : (a b : Bool) → (a || b) ≡ (b || (a || false))
-turned true true = refl
-turned true false = refl
-turned false true = refl
-turned false false = refl
-
-any_inserted : (line new : List ℕ) (lines : List (List ℕ)) → list_any (is_key line) (insert_key key_cmp lines new) ≡ (is_key line new || list_any (is_key line) lines)
-any_inserted line new [] = refl
-any_inserted line new (x ∷ xs) =
-    elim (key_cmp new x) as (λ r. key_cmp new x ≡ r → list_any (is_key line) (match_ordering r (new ∷ x ∷ xs) (x ∷ xs) (x ∷ insert_key key_cmp xs new)) ≡ (is_key line new || (is_key line x || list_any (is_key line) xs))) [
-      | Less ↦ λ _. refl
-      | Equal ↦ λ is. repeated (is_key line x) (list_any (is_key line) xs) ∙ ap (λ k. is_key line k || (is_key line x || list_any (is_key line) xs)) (sym (same_keys new x (ap is_eq is)))
-      | Greater ↦ λ _. ap (λ b. is_key line x || b) (any_inserted line new xs) ∙ swapped (is_key line x) (is_key line new) (list_any (is_key line) xs)
-    ] refl
+twice : (a b : Bool) → (a || b) ≡ (a || (a || b))
+twice true b = refl
+twice false b = refl
 
 module _ {K : Type 0} (bytes : K → List ℕ) where
-  inserted_bytes : (ks : List K) (k : K) → map bytes (insert_key (λ a b. key_cmp (bytes a) (bytes b)) ks k) ≡ insert_key key_cmp (map bytes ks) (bytes k)
-  inserted_bytes [] k = refl
-  inserted_bytes (x ∷ xs) k =
-      elim (key_cmp (bytes k) (bytes x)) as (λ r. map bytes (match_ordering r (k ∷ x ∷ xs) (x ∷ xs) (x ∷ insert_key (λ a b. key_cmp (bytes a) (bytes b)) xs k)) ≡ match_ordering r (bytes k ∷ bytes x ∷ map bytes xs) (bytes x ∷ map bytes xs) (bytes x ∷ insert_key key_cmp (map bytes xs) (bytes k))) [
-        | Less ↦ refl
-        | Equal ↦ refl
-        | Greater ↦ ap (λ rest. bytes x ∷ rest) (inserted_bytes xs k)
-      ]
-
   below_bytes : (k : K) (ks : List K) → ByRecursion (λ x. key_cmp (bytes k) (bytes x) ≡ Less) ks → ByRecursion (λ x. key_cmp (bytes k) x ≡ Less) (map bytes ks)
   below_bytes k [] low = tt
   below_bytes k (x ∷ xs) low = (low.0, below_bytes k xs low.1)
@@ -78,18 +51,35 @@ module _ {K : Type 0} (bytes : K → List ℕ) where
   rising_bytes [] rise = tt
   rising_bytes (k ∷ ks) rise = (below_bytes k ks rise.0, rising_bytes ks rise.1)
 
-  -- no lines
-  pub none_set : (ks : List K) → ks ≡ [] → IsSetOf [] (map bytes ks)
-  unfolding IsStrictlySortedBy
-  none_set ks is = subst (λ xs. IsSetOf [] (map bytes xs)) (sym is) (record { rising = rising_bytes [] tt; same = λ line. refl })
+  any_bytes : (p : List ℕ → Bool) (ks : List K) → list_any p (map bytes ks) ≡ list_any (λ k. p (bytes k)) ks
+  any_bytes p [] = refl
+  any_bytes p (k ∷ ks) = ap (λ b. p (bytes k) || b) (any_bytes p ks)
 
-  -- a line more, behind the given ones
-  pub set_more : (given : List (List ℕ)) (ks new : List K) (k : K) → IsSetOf given (map bytes ks) → new ≡ insert_key (λ a b. key_cmp (bytes a) (bytes b)) ks k
-      → IsStrictlySortedBy (λ a b. key_cmp (bytes a) (bytes b)) new → IsSetOf (given ++ bytes k ∷ []) (map bytes new)
-  set_more given ks new k set is rise = record {
-    rising = rising_bytes new rise;
+  module _ (same : K → K → Bool) (told : (x y : K) → same x y ≡ eq_by_cmp key_cmp (bytes x) (bytes y)) (line : List ℕ) where
+    abbrev is : K → Bool
+    is k = is_key line (bytes k)
+
+    alike : (x k : K) → same x k ≡ true → is x ≡ is k
+    alike x k one = ap (is_key line) (same_keys (bytes x) (bytes k) (sym (told x k) ∙ one))
+
+    any_behind : (k : K) (xs : List K) → list_any is (dedup_from same k xs) ≡ (is k || list_any is xs)
+    any_behind k [] = refl
+    any_behind k (x ∷ xs) =
+        elim (same x k) as (λ b. same x k ≡ b → list_any is (cond b (dedup_from same k xs) (k ∷ dedup_from same x xs)) ≡ (is k || (is x || list_any is xs))) [
+          | true ↦ λ one. any_behind k xs ∙ twice (is k) (list_any is xs) ∙ ap (λ b. is k || (b || list_any is xs)) (sym (alike x k one))
+          | false ↦ λ _. ap (λ b. is k || b) (any_behind x xs)
+        ] refl
+
+    any_kept : (xs : List K) → list_any is (dedup same xs) ≡ list_any is xs
+    any_kept [] = refl
+    any_kept (x ∷ xs) = any_behind x xs
+
+  -- what is left of the given lines, sorted and each once, is their set
+  pub set_of_sorted : (same : K → K → Bool) → ((x y : K) → same x y ≡ eq_by_cmp key_cmp (bytes x) (bytes y)) → (given sorted kept : List K)
+      → IsPermutation given sorted → IsSorted (λ a b. key_cmp (bytes a) (bytes b)) sorted → kept ≡ dedup same sorted → IsSetOf (map bytes given) (map bytes kept)
+  set_of_sorted same told given sorted kept moved rise left = subst (λ ks. IsSetOf (map bytes given) (map bytes ks)) (sym left) (record {
+    rising = rising_bytes (dedup same sorted) (IsStrictlySortedBy-dedup (on_total bytes keys_total) told sorted rise);
     same = λ line.
-        ap (list_any (is_key line)) (ap (map bytes) is ∙ inserted_bytes ks k) ∙ any_inserted line (bytes k) (map bytes ks)
-        ∙ ap (λ b. is_key line (bytes k) || b) (set.same line) ∙ turned (is_key line (bytes k)) (list_any (is_key line) given)
-        ∙ sym (list_any-append (is_key line) given (bytes k ∷ []));
-  }
+        any_bytes (is_key line) (dedup same sorted) ∙ any_kept same told line sorted
+        ∙ sym (list_any-IsPermutation (λ k. is_key line (bytes k)) given sorted moved) ∙ sym (any_bytes (is_key line) given);
+  })

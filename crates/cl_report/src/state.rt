@@ -11,7 +11,6 @@ use cl_state::{RowKind, StateRow, World};
 use cl_types::{Name, NoMemory};
 use cl_values::Val;
 use std::alloc::Global;
-use std::collections::BTreeSet;
 
 #[tactic(auto, unfolding(crate::specs::RowLines::row_word))]
 fn row_word(kind: RowKind) -> &'static str
@@ -78,19 +77,28 @@ fn row_lines(
     alloc: Global,
     addresses: &mut AddressCache,
     rows: &[StateRow],
-) -> Result<BTreeSet<Vec<u8>>, NoMemory>
-    ensures { IfOk result (λ lines. IsSetOf (map (λ r. row_line r) rows.now) (map (λ line. line.items) lines.keys)) }
+) -> Result<Vec<Vec<u8>>, NoMemory>
+    ensures { IfOk result (λ lines. map (λ line. line.items) lines.items ≡ map (λ r. row_line r) rows.now) }
 {
-    let mut lines = BTreeSet::new(alloc);
+    let mut lines = Vec::with_capacity(alloc, rows.len())?;
     for row in rows {
         let line = row_line(alloc, addresses, row)?;
-        lines.insert(line)?;
+        lines.push(line)?;
     }
     Ok(lines)
 }
 
-fn ended(alloc: Global, lines: &BTreeSet<Vec<u8>>) -> Result<Vec<u8>, NoMemory>
-    ensures { IfOk result (λ text. text.items ≡ ended (map (λ line. line.items) lines.now.keys)) }
+/// The lines rising, each once.
+fn rising(mut lines: Vec<Vec<u8>>) -> Result<Vec<Vec<u8>>, NoMemory>
+    ensures { IfOk result (λ set. IsSetOf (map (λ line. line.items) lines.items) (map (λ line. line.items) set.items)) }
+{
+    lines.sort()?;
+    lines.dedup();
+    Ok(lines)
+}
+
+fn ended(alloc: Global, lines: &[Vec<u8>]) -> Result<Vec<u8>, NoMemory>
+    ensures { IfOk result (λ text. text.items ≡ ended (map (λ line. line.items) lines.now)) }
 {
     let mut text = Vec::new(alloc);
     for line in lines {
@@ -107,5 +115,6 @@ pub fn state_lines(alloc: Global, world: &World) -> Result<Vec<u8>, NoMemory>
     let rows = world.rows()?;
     let mut addresses = AddressCache::new(alloc)?;
     let lines = row_lines(alloc, &mut addresses, &rows)?;
-    ended(alloc, &lines)
+    let set = rising(lines)?;
+    ended(alloc, &set)
 }
