@@ -1,50 +1,51 @@
 //! How costs and bounds print.
-ghost use Rattle.std.specs.Prelude.{◌≡◌, ◌++◌, IfOk, string_bytes};
+ghost use Rattle.std.specs.Prelude.{◌≡◌, ◌++◌, IfOk, codes, decimal};
 ghost use Rattle.cl_report.specs.Costs.{cost_text, cost_line, deployment_line, bound_line, bound_lines, bounds_lines};
 
 use cl_shapes::Cost5;
 use cl_text::print_type;
 use cl_tx::Bounds;
 use cl_types::{Name, NoMemory, SizedTy};
-use std::alloc::{AllocError, Global};
+use itoa::Buffer;
+use std::alloc::Global;
+
+fn write_next(out: &mut Vec<u8>, number: u128) -> Result<(), NoMemory>
+    ensures { IfOk result (λ _. out.new.items ≡ out.old.items ++ (codes " " ++ decimal number)) }
+{
+    out.extend_from_slice(b" ")?;
+    out.extend_from_slice(Buffer::new().format(number).as_bytes())?;
+    Ok(())
+}
 
 #[tactic(auto, unfolding(crate::specs::Costs::cost_text))]
-fn cost_text(alloc: Global, cost: &Cost5) -> Result<String, AllocError>
-    ensures { IfOk result (λ text. string_bytes text ≡ cost_text cost.now) }
+fn write_numbers(out: &mut Vec<u8>, cost: &Cost5) -> Result<(), NoMemory>
+    ensures { IfOk result (λ _. out.new.items ≡ out.old.items ++ cost_text cost.now) }
 {
-    let Cost5 {
-        runtime,
-        read_count,
-        read_length,
-        write_count,
-        write_length,
-    } = *cost;
-    format!(in alloc; "{runtime} {read_count} {read_length} {write_count} {write_length}")
+    out.extend_from_slice(Buffer::new().format(cost.runtime).as_bytes())?;
+    write_next(out, cost.read_count)?;
+    write_next(out, cost.read_length)?;
+    write_next(out, cost.write_count)?;
+    write_next(out, cost.write_length)?;
+    Ok(())
 }
 
 /// Writes what an entry was charged, where it has a cost.
-pub(crate) fn write_cost(
-    out: &mut Vec<u8>,
-    alloc: Global,
-    cost: &Option<Cost5>,
-) -> Result<(), NoMemory>
+pub(crate) fn write_cost(out: &mut Vec<u8>, cost: &Option<Cost5>) -> Result<(), NoMemory>
     ensures { IfOk result (λ _. out.new.items ≡ out.old.items ++ cost_line cost.now) }
 {
     if let Some(cost) = cost {
-        let text = cost_text(alloc, cost)?;
         out.extend_from_slice(b"  cost ")?;
-        out.extend_from_slice(text.as_bytes())?;
+        write_numbers(out, cost)?;
         out.extend_from_slice(b"\n")?;
     }
     Ok(())
 }
 
-fn write_deployment(out: &mut Vec<u8>, alloc: Global, bound: &Cost5) -> Result<(), NoMemory>
+fn write_deployment(out: &mut Vec<u8>, bound: &Cost5) -> Result<(), NoMemory>
     ensures { IfOk result (λ _. out.new.items ≡ out.old.items ++ deployment_line bound.now) }
 {
-    let text = cost_text(alloc, bound)?;
     out.extend_from_slice(b"  deploy-bound ")?;
-    out.extend_from_slice(text.as_bytes())?;
+    write_numbers(out, bound)?;
     out.extend_from_slice(b"\n")?;
     Ok(())
 }
@@ -59,12 +60,11 @@ fn write_bound(
 ) -> Result<(), NoMemory>
     ensures { IfOk result (λ _. out.new.items ≡ out.old.items ++ bound_line name.now bound.now returns.now) }
 {
-    let text = cost_text(alloc, bound)?;
     let type_text = print_type(alloc, returns)?;
     out.extend_from_slice(b"  bound ")?;
     out.extend_from_slice(name.bytes())?;
     out.extend_from_slice(b" ")?;
-    out.extend_from_slice(text.as_bytes())?;
+    write_numbers(out, bound)?;
     out.extend_from_slice(b" ")?;
     out.extend_from_slice(&type_text)?;
     out.extend_from_slice(b"\n")?;
@@ -99,7 +99,7 @@ pub(crate) fn write_bounds(
 {
     match bounds {
         Some(bounds) => {
-            write_deployment(out, alloc, &bounds.deploy)?;
+            write_deployment(out, &bounds.deploy)?;
             write_functions(out, alloc, bounds.functions.as_slice(), types)
         }
         None => Ok(()),

@@ -15,6 +15,7 @@ use cl_text::print_value;
 use cl_tx::{Entry, Outcome, TxResult};
 use cl_types::NoMemory;
 use cl_values::Val;
+use itoa::Buffer;
 use std::alloc::Global;
 
 // A word and a value behind it.
@@ -50,11 +51,11 @@ fn write_outcome(out: &mut Vec<u8>, alloc: Global, outcome: &Outcome) -> Result<
     Ok(())
 }
 
-fn write_height(out: &mut Vec<u8>, alloc: Global, height: u64) -> Result<(), NoMemory>
+fn write_height(out: &mut Vec<u8>, height: u64) -> Result<(), NoMemory>
     ensures { IfOk result (λ _. out.new.items ≡ out.old.items ++ (codes " block " ++ decimal height)) }
 {
-    let text = format!(in alloc; " block {height}")?;
-    out.extend_from_slice(text.as_bytes())?;
+    out.extend_from_slice(b" block ")?;
+    out.extend_from_slice(Buffer::new().format(height).as_bytes())?;
     Ok(())
 }
 
@@ -88,7 +89,7 @@ fn write_entry(
             out.extend_from_slice(function.as_slice())?;
             out.extend_from_slice(b" ")?;
         }
-        Entry::Block { height } => write_height(out, alloc, *height)?,
+        Entry::Block { height } => write_height(out, *height)?,
     }
     Ok(())
 }
@@ -104,8 +105,7 @@ fn write_first(
 ) -> Result<(), NoMemory>
     ensures { IfOk result (λ _. out.new.items ≡ out.old.items ++ entry_line number entry.now outcome.now) }
 {
-    let text = format!(in alloc; "{number}")?;
-    out.extend_from_slice(text.as_bytes())?;
+    out.extend_from_slice(Buffer::new().format(number).as_bytes())?;
     write_entry(out, alloc, addresses, entry)?;
     write_outcome(out, alloc, outcome)?;
     out.extend_from_slice(b"\n")?;
@@ -158,6 +158,9 @@ pub fn lines(
     lines_with(alloc, &mut addresses, number, entry, given)
 }
 
+/// As many bytes as the lines of most entries take.
+const FEW: usize = 192;
+
 /// The same lines as those of `lines`, by the texts of addresses that are kept from entry to entry.
 #[tactic(auto, unfolding(crate::specs::Lines::lines_of))]
 pub fn lines_with(
@@ -169,9 +172,9 @@ pub fn lines_with(
 ) -> Result<Vec<u8>, NoMemory>
     ensures { IfOk result (λ text. text.items ≡ lines_of number entry.now given.now) }
 {
-    let mut out = Vec::new(alloc);
+    let mut out = Vec::with_capacity(alloc, FEW)?;
     write_first(&mut out, alloc, addresses, number, entry, &given.outcome)?;
-    write_cost(&mut out, alloc, &given.cost)?;
+    write_cost(&mut out, &given.cost)?;
     write_bounds(&mut out, alloc, &given.bounds, given.types.as_slice())?;
     write_events(
         &mut out,

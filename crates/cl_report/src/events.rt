@@ -8,14 +8,15 @@ use cl_events::{Event, EventKind};
 use cl_text::print_value;
 use cl_types::{Name, NoMemory};
 use cl_values::Val;
+use itoa::Buffer;
 use std::alloc::Global;
 
 #[tactic(auto, unfolding(crate::specs::Events::amount_text))]
-fn write_amount(out: &mut Vec<u8>, alloc: Global, amount: u128) -> Result<(), NoMemory>
+fn write_amount(out: &mut Vec<u8>, amount: u128) -> Result<(), NoMemory>
     ensures { IfOk result (λ _. out.new.items ≡ out.old.items ++ amount_text amount) }
 {
-    let text = format!(in alloc; " u{amount}")?;
-    out.extend_from_slice(text.as_bytes())?;
+    out.extend_from_slice(b" u")?;
+    out.extend_from_slice(Buffer::new().format(amount).as_bytes())?;
     Ok(())
 }
 
@@ -59,11 +60,11 @@ fn write_two(
     write_who(out, addresses, to)
 }
 
-fn write_token(out: &mut Vec<u8>, alloc: Global, token: &Name, amount: u128) -> Result<(), NoMemory>
+fn write_token(out: &mut Vec<u8>, token: &Name, amount: u128) -> Result<(), NoMemory>
     ensures { IfOk result (λ _. out.new.items ≡ out.old.items ++ (name_text token.now ++ amount_text amount)) }
 {
     write_name(out, token)?;
-    write_amount(out, alloc, amount)
+    write_amount(out, amount)
 }
 
 fn write_asset(out: &mut Vec<u8>, alloc: Global, token: &Name, id: &Val) -> Result<(), NoMemory>
@@ -102,7 +103,7 @@ fn write_details(
     match kind {
         EventKind::Print(value) => write_value(out, alloc, value),
         EventKind::FtMint { token, amount, to } => {
-            write_token(out, alloc, token, *amount)?;
+            write_token(out, token, *amount)?;
             write_who(out, addresses, to)
         }
         EventKind::FtTransfer {
@@ -111,7 +112,7 @@ fn write_details(
             from,
             to,
         } => {
-            write_token(out, alloc, token, *amount)?;
+            write_token(out, token, *amount)?;
             write_two(out, addresses, from, to)
         }
         EventKind::FtBurn {
@@ -119,7 +120,7 @@ fn write_details(
             amount,
             from,
         } => {
-            write_token(out, alloc, token, *amount)?;
+            write_token(out, token, *amount)?;
             write_who(out, addresses, from)
         }
         EventKind::NftMint { token, id, to } => {
@@ -140,11 +141,11 @@ fn write_details(
             write_who(out, addresses, from)
         }
         EventKind::StxTransfer { amount, from, to } => {
-            write_amount(out, alloc, *amount)?;
+            write_amount(out, *amount)?;
             write_two(out, addresses, from, to)
         }
         EventKind::StxBurn { amount, from } => {
-            write_amount(out, alloc, *amount)?;
+            write_amount(out, *amount)?;
             write_who(out, addresses, from)
         }
     }

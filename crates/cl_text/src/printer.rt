@@ -9,6 +9,7 @@ ghost use Rattle.cl_text.specs.Printed.{escape_letter, ascii_text, code_text, un
 use cl_c32::{ContractName, Principal, encode};
 use cl_types::{Name, NoMemory};
 use cl_values::{Kind, Val, Value};
+use itoa::Buffer;
 use std::alloc::Global;
 
 /// The text of a value: a literal that stands for it. It is ASCII whatever the value holds.
@@ -37,18 +38,17 @@ pub(crate) fn write_bytes(out: &mut Vec<u8>, bytes: &[u8]) -> Result<(), NoMemor
     Ok(())
 }
 
-fn write_int(out: &mut Vec<u8>, alloc: Global, number: i128) -> Result<(), NoMemory>
+fn write_int(out: &mut Vec<u8>, number: i128) -> Result<(), NoMemory>
     ensures { IfOk result (λ _. out.new.items ≡ out.old.items ++ signed_decimal number) }
 {
-    let text = format!(in alloc; "{number}")?;
-    write_bytes(out, text.as_bytes())
+    write_bytes(out, Buffer::new().format(number).as_bytes())
 }
 
-fn write_uint(out: &mut Vec<u8>, alloc: Global, number: u128) -> Result<(), NoMemory>
+fn write_uint(out: &mut Vec<u8>, number: u128) -> Result<(), NoMemory>
     ensures { IfOk result (λ _. out.new.items ≡ out.old.items ++ (codes "u" ++ decimal number)) }
 {
-    let text = format!(in alloc; "u{number}")?;
-    write_bytes(out, text.as_bytes())
+    write_bytes(out, b"u")?;
+    write_bytes(out, Buffer::new().format(number).as_bytes())
 }
 
 fn write_buff(out: &mut Vec<u8>, alloc: Global, bytes: &[u8]) -> Result<(), NoMemory>
@@ -175,8 +175,8 @@ fn write_value(out: &mut Vec<u8>, alloc: Global, value: &Value) -> Result<(), No
     ensures { IfOk result (λ _. out.new.items ≡ out.old.items ++ printed value.now) }
 {
     match &value.kind {
-        Kind::Int(number) => write_int(out, alloc, *number),
-        Kind::Uint(number) => write_uint(out, alloc, *number),
+        Kind::Int(number) => write_int(out, *number),
+        Kind::Uint(number) => write_uint(out, *number),
         Kind::Bool(truth) => write_word(out, *truth),
         Kind::Buff(bytes) => write_buff(out, alloc, bytes),
         Kind::Ascii(bytes) => write_ascii(out, bytes),
