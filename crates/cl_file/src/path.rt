@@ -7,6 +7,7 @@ ghost use Rattle.cl_file.specs.declared.refusal.TxRefusal.TheVariants.{Field, Ba
 
 use crate::TxRefusal;
 use cl_types::{Fault, Text};
+use itoa::Buffer;
 use std::alloc::{AllocError, Global};
 
 /// What comes of reading a part of the file.
@@ -16,14 +17,18 @@ pub(crate) type Read<T> = Result<T, Fault<TxRefusal>>;
 pub(crate) fn below(alloc: Global, path: &str, name: &str) -> Result<String, AllocError>
     ensures { IfOk result (λ s. string_bytes s ≡ below path.now name.now) }
 {
-    format!(in alloc; "{path}/{name}")
+    let mut text = String::with_capacity(alloc, path.len() + 1 + name.len())?;
+    text.push_str(path)?;
+    text.push_str("/")?;
+    text.push_str(name)?;
+    Ok(text)
 }
 
 /// The path of an item.
 pub(crate) fn place(alloc: Global, path: &str, i: usize) -> Result<String, AllocError>
     ensures { IfOk result (λ s. string_bytes s ≡ below path.now (decimal i)) }
 {
-    format!(in alloc; "{path}/{i}")
+    below(alloc, path, Buffer::new().format(i))
 }
 
 /// The fault of a member that is absent or unknown.
