@@ -1,12 +1,12 @@
 -- Levels that are pushed, changed and popped.
-use Rattle.std.proofs.Common.{◌≡◌, ℕ, List, [], ◌∷◌, ◌++◌, map, reverse, Option, Some, refl, append_assoc, append-nil, sym, ap, ◌∙◌}
+use Rattle.std.proofs.Common.{◌≡◌, ℕ, ◌+◌, List, [], ◌∷◌, ◌++◌, length, take, get_or, set, map, reverse, Bool, true, false, Option, Some, arith, refl, append_assoc, append-nil, sym, ap, ◌∙◌}
 use Rattle.std.specs.List.{flat_map}
-use Rattle.std.proofs.lemmas.List.{flat_map_more, map_push, reverse-append}
+use Rattle.std.proofs.lemmas.List.{flat_map_more, map_push, reverse-append, length-set, take_all, take_more, take_more_set}
 use Rattle.cl_sexpr.specs.declared.reading.Level.{Level}
 use Rattle.cl_sexpr.specs.declared.reading.Reading.{Reading}
 use Rattle.cl_sexpr.specs.Tree.{Tree, forest, pairs}
 use Rattle.cl_sexpr.specs.Token.{Token, Open, Key, tree_tokens, forest_tokens, pairs_tokens, with_item}
-use Rattle.cl_sexpr.specs.Progress.{level_tokens, open_of, opens, Gains}
+use Rattle.cl_sexpr.specs.Progress.{level_tokens, open_of, opens, Gains, TakesItem, LevelTakes}
 
 pub forest_tokens_push : (xs : List Tree) (t : Tree) → forest_tokens (forest (xs ++ t ∷ [])) ≡ forest_tokens (forest xs) ++ tree_tokens t
 forest_tokens_push [] t = append-nil (tree_tokens t)
@@ -39,3 +39,15 @@ top_gains old new t o n i = record {
 -- a key and its item make a pair
 pub pair_made : (xs : List (List ℕ × Tree)) (k : List ℕ) (t : Tree) → pairs_tokens (pairs (xs ++ (k, t) ∷ [])) ++ [] ≡ (pairs_tokens (pairs xs) ++ Key k ∷ []) ++ tree_tokens t
 pair_made xs k t = append-nil (pairs_tokens (pairs (xs ++ (k, t) ∷ []))) ∙ (pairs_tokens_push xs k t ∙ sym (append_assoc (pairs_tokens (pairs xs)) (Key k ∷ []) (tree_tokens t)))
+
+-- the innermost level stands last, and is changed there
+pub innermost : (xs : List Level) (n : ℕ) (x : Level) → n + 1 ≡ length xs → x ≡ get_or xs n x → xs ≡ take n xs ++ x ∷ []
+innermost xs n x h e = sym (take_all (n + 1) xs (omega (arith, h))) ∙ (take_more xs n x (omega (arith, h)) ∙ ap (λ (y : Level). take n xs ++ y ∷ []) (sym e))
+
+pub innermost_set : (xs : List Level) (n : ℕ) (y : Level) → n + 1 ≡ length xs → set xs n y ≡ take n xs ++ y ∷ []
+innermost_set xs n y h = sym (take_all (n + 1) (set xs n y) (omega (arith, h, length-set xs n y))) ∙ take_more_set xs n y (omega (arith, h))
+
+-- an item is added to the innermost level
+pub level_takes : (old new : Reading) (front : List Level) (l m : Level) (item : Tree) → old.«open».items ≡ front ++ l ∷ [] → new.«open».items ≡ front ++ m ∷ [] → new.items.items ≡ old.items.items → (b : Bool) → LevelTakes l m item b → TakesItem old new item b
+level_takes old new front l m item o n i true t = level_gains old new front l m (tree_tokens item) with_item o n i t.0 t.1
+level_takes old new front l m item o n i false t = rw (o, opens_push front l) (t (reverse (map open_of front)))

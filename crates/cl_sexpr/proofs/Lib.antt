@@ -11,5 +11,6 @@ pub mod Sizes
 pub mod Places
 pub mod LiteralsFit
 pub mod Lexing
+pub mod Numbers
 pub mod Standing
 pub mod TextsRead

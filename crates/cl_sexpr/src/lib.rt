@@ -5,6 +5,7 @@ mod bracket;
 mod bytes;
 mod leaf;
 mod lexer;
+mod number;
 mod order;
 mod quote;
 mod reader;

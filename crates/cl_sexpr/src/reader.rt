@@ -5,13 +5,16 @@ ghost use Rattle.cl_sexpr.specs.declared.rule.Break.{Break as Broken};
 ghost use Rattle.cl_sexpr.specs.Tree.{Forest, forest, forest_size};
 ghost use Rattle.cl_sexpr.specs.Token.{Opens, OpensTuple, Faulty, leaf_in, in_place, wants_key};
 ghost use Rattle.cl_sexpr.specs.Text.{closes_none, opens_none, misplaced, break_at, Reads, Breaks, ReadsOrBreaks};
-ghost use Rattle.cl_sexpr.specs.Lexed.{leaf, token};
+ghost use Rattle.cl_sexpr.specs.declared.lexer.Token.TheVariants.{Item};
+ghost use Rattle.cl_sexpr.specs.Lexed.{leaf, token, Lexes, number_leaf};
 ghost use Rattle.cl_sexpr.specs.Progress.{opens, Takes};
 ghost use Rattle.cl_sexpr.specs.Advances.{Advances};
 
 use crate::bracket::Bracket;
+use crate::bytes::{is_separator, split_byte};
 use crate::leaf::Leaf;
 use crate::lexer::{Token, token_at};
+use crate::number::{Number, number_at};
 use crate::reading::{Level, Phase, Reading};
 use crate::rule::{Break, Refusal, Rule, broken};
 use crate::sexpr::{Sexpr, Span};
@@ -138,8 +141,8 @@ fn take(
     }
 }
 
-// Reads one token on.
-fn take_next<'a>(
+// Reads any token on.
+fn take_token<'a>(
     reading: &mut Reading,
     alloc: Global,
     bytes: &'a [u8],
@@ -164,6 +167,52 @@ fn take_next<'a>(
             }
         }
         Err(fault) => Err(fault),
+    }
+}
+
+// Reads a number on that these bytes begin with.
+fn take_number<'a>(
+    reading: &mut Reading,
+    number: Number,
+    size: usize,
+    bytes: &'a [u8],
+    at: u32,
+) -> Result<(&'a [u8], u32), Fault<Break>>
+    requires number { Lexes (Item (number_leaf number)) size at bytes.now }
+    requires room { at + length bytes.now < 2 ^ 31 }
+    ensures found { IfOk result (λ next. Advances reading.old reading.new at bytes.now next.1 next.0.now) }
+    ensures shorter { IfOk result (λ next. length next.0.now < length bytes.now) }
+    ensures broken { IfRefused result (λ r. break_at (opens reading.old) at bytes.now ≡ Some r) }
+{
+    let (_, more) = bytes.split_at(size);
+    let end = at + size as u32;
+    if reading.add(number.item(Span { start: at, end }))? {
+        Ok((more, end))
+    } else {
+        Err(Fault::Refused(broken(Rule::BadTuple, at, end)))
+    }
+}
+
+// Reads one token on. Separators and numbers go a short way, since most tokens are such.
+fn take_next<'a>(
+    reading: &mut Reading,
+    alloc: Global,
+    bytes: &'a [u8],
+    at: u32,
+) -> Result<(&'a [u8], u32), Fault<Break>>
+    requires some { 0 < length bytes.now }
+    requires room { at + length bytes.now < 2 ^ 31 }
+    ensures found { IfOk result (λ next. Advances reading.old reading.new at bytes.now next.1 next.0.now) }
+    ensures shorter { IfOk result (λ next. length next.0.now < length bytes.now) }
+    ensures broken { IfRefused result (λ r. break_at (opens reading.old) at bytes.now ≡ Some r) }
+{
+    let (first, more) = split_byte(bytes);
+    if is_separator(first) {
+        return Ok((more, at + 1));
+    }
+    match number_at(bytes) {
+        Some((number, size)) => take_number(reading, number, size, bytes, at),
+        None => take_token(reading, alloc, bytes, at),
     }
 }
 

@@ -1,33 +1,22 @@
-use Rattle.std.proofs.Common.{◌∷◌, List, refl, arith, ap}
+use Rattle.std.proofs.Common.{◌≡◌, ◌+◌, ◌-◌, length, take, refl, arith}
+use Rattle.std.specs.Vec.{with_item}
 use Rattle.std.proofs.lemmas.List.{nil_from_length}
-use Rattle.cl_sexpr.specs.declared.reading.Level.TheVariants.{List as ListLevel, Tuple as TupleLevel}
-use Rattle.cl_sexpr.specs.declared.reading.Phase.TheVariants.{AfterColon, AfterItem}
-use Rattle.cl_sexpr.specs.Token.{Token, Opens, OpensTuple, tree_tokens, with_item}
-use Rattle.cl_sexpr.proofs.Levels.{top_gains, level_gains, forest_tokens_push, pair_made}
+use Rattle.std.proofs.lemmas.Result.{IfOk-weaker}
+use Rattle.cl_sexpr.specs.Progress.{TakesItem, LevelTakes}
+use Rattle.cl_sexpr.proofs.Levels.{top_gains, innermost, innermost_set, level_takes}
 use Rattle.cl_sexpr.proofs.reading.Reading.add.Goals as goal
 
 pub returns-in_ok-push-in-None : goal.returns-in_ok-push-in-None
 returns-in_ok-push-in-None c =
-    top_gains c.args.self.now (record { items = c.push.new.self; «open» = c.pop.new.self }) c.args.item (nil_from_length c.args.self.now.open.items (omega (arith, c.in-None.ensures.cases.0, c.args.self.now.open.ok.0))) (nil_from_length c.pop.new.self.items (omega (arith, c.in-None.ensures.cases.1, c.pop.new.self.ok.0))) c.in_ok-push-in-None.ensures.items
+    let none = nil_from_length c.args.self.now.open.items (omega (arith, c.in-None.ensures.item.3)) in
+    top_gains c.args.self.now (record { items = c.push.new.self; «open» = c.args.self.now.open }) c.args.item none none c.in_ok-push-in-None.ensures.items
 
-pub returns-in_ok-push-in-Some-List-2 : goal.returns-in_ok-push-in-Some-List-2
-returns-in_ok-push-in-Some-List-2 c =
-    let l = ListLevel c.in-Some-List.place c.in-Some-List.items in
-    let m = ListLevel c.in-Some-List.place c.push-in-Some-List.new.self in
-    level_gains c.args.self.now (record { items = c.args.self.now.items; «open» = c.push-in-Some-List-2.new.self }) c.pop.new.self.items l m (tree_tokens c.args.item) with_item
-    (rw c.in-Some-List.field-0-is at c.in-Some-List.ensures.items)
-    c.in_ok-push-in-Some-List-2.ensures.items
-    refl
-    (rw c.in_ok-push-in-Some-List.ensures.items (ap (λ (x : List Token). Opens c.in-Some-List.place.place ∷ x) (forest_tokens_push c.in-Some-List.items.items c.args.item)))
-    (λ os. refl)
-
-pub returns-in_ok-push-in-AfterColon-2 : goal.returns-in_ok-push-in-AfterColon-2
-returns-in_ok-push-in-AfterColon-2 c =
-    let l = TupleLevel c.in-Some-Tuple.place c.in-Some-Tuple.pairs (AfterColon c.in-AfterColon.key) in
-    let m = TupleLevel c.in-Some-Tuple.place c.push-in-AfterColon.new.self AfterItem in
-    level_gains c.args.self.now (record { items = c.args.self.now.items; «open» = c.push-in-AfterColon-2.new.self }) c.pop.new.self.items l m (tree_tokens c.args.item) with_item
-    (rw (c.in-Some-Tuple.field-0-is, c.in-AfterColon.is) at c.in-Some-Tuple.ensures.items)
-    c.in_ok-push-in-AfterColon-2.ensures.items
-    refl
-    (rw c.in_ok-push-in-AfterColon.ensures.items (ap (λ (x : List Token). OpensTuple c.in-Some-Tuple.place.place ∷ x) (pair_made c.in-Some-Tuple.pairs.items c.in-AfterColon.key c.args.item)))
-    (λ os. refl)
+pub returns-in-Some : goal.returns-in-Some
+returns-in-Some c =
+    let levels = c.args.self.now.open in
+    let n = levels.len - 1 in
+    let level = c.in-Some.level.now in
+    let last : n + 1 ≡ length levels.items = omega (arith, c.in-Some.ensures.item.3.0, levels.ok.0) in
+    IfOk-weaker c.add.result (LevelTakes level c.add.new.self c.args.item) (TakesItem c.args.self.now (record { items = c.args.self.now.items; «open» = with_item levels n c.add.new.self }) c.args.item)
+    (level_takes c.args.self.now (record { items = c.args.self.now.items; «open» = with_item levels n c.add.new.self }) (take n levels.items) level c.add.new.self c.args.item (innermost levels.items n level last c.in-Some.ensures.value) (innermost_set levels.items n c.add.new.self last) refl)
+    c.add.ensures
