@@ -12,5 +12,6 @@ pub mod Places
 pub mod LiteralsFit
 pub mod Lexing
 pub mod Numbers
+pub mod Names
 pub mod Standing
 pub mod TextsRead

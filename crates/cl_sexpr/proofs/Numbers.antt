@@ -2,7 +2,7 @@
 use Rattle.std.proofs.Common.{◌≡◌, ℕ, zero, suc, ◌+◌, ◌<◌, ◌≤◌, ◌==◌, ◌&&◌, ◌^◌, not, List, [], ◌∷◌, length, take, get_or, cond, Bool, true, false, Option, Some, None, Ok, refl, sym, arith, ap, ◌∙◌, subst}
 use Rattle.std.specs.Prelude.{position, unwrap_or, nat_lt, pos}
 use Rattle.std.specs.List.{list_all, prefix_len}
-use Rattle.std.proofs.lemmas.Bool.{and_parts, ltb-false}
+use Rattle.std.proofs.lemmas.Bool.{and_parts, ltb-false, cond-true, cond-false}
 use Rattle.std.proofs.lemmas.Bool.Decides.{nat_tests}
 use Rattle.std.proofs.lemmas.List.{length-take-le}
 use Rattle.cl_types.specs.Name.{is_digit}
@@ -20,11 +20,11 @@ use Rattle.cl_sexpr.specs.Progress.{opens, Takes, TakesItem}
 
 -- ---- digits among the bytes
 
-digits_so : (p : ℕ → Bool) → ((c : ℕ) → is_digit c ≡ true → p c ≡ true) → (ds : List ℕ) → list_all is_digit ds ≡ true → list_all p ds ≡ true
-digits_so p so [] h = refl
-digits_so p so (c ∷ cs) h =
-    let parts = and_parts (is_digit c) (list_all is_digit cs) h in
-    rw (so c parts.0, digits_so p so cs parts.1) refl
+pub all_so : (p q : ℕ → Bool) → ((c : ℕ) → p c ≡ true → q c ≡ true) → (cs : List ℕ) → list_all p cs ≡ true → list_all q cs ≡ true
+all_so p q so [] h = refl
+all_so p q so (c ∷ cs) h =
+    let parts = and_parts (p c) (list_all p cs) h in
+    rw (so c parts.0, all_so p q so cs parts.1) refl
 
 digit_runs : (c : ℕ) → is_digit c ≡ true → is_run_byte c ≡ true
 digit_runs c h = grind (arith, nat_tests)
@@ -50,7 +50,7 @@ all_pass p (c ∷ cs) h =
 not_below : (n : ℕ) → nat_lt n n ≡ false
 not_below n = grind (arith, nat_tests)
 
-none_else : (p : ℕ → Bool) (xs : List ℕ) → list_all p xs ≡ true → position (λ c. not (p c)) xs ≡ None
+pub none_else : (p : ℕ → Bool) (xs : List ℕ) → list_all p xs ≡ true → position (λ c. not (p c)) xs ≡ None
 none_else p xs h =
     ap (λ (n : ℕ). cond (nat_lt n (length xs)) (Some n) None) (all_pass p xs h) ∙ ap (λ (b : Bool). cond b (Some (length xs)) None) (not_below (length xs))
 
@@ -79,37 +79,31 @@ no_hex c cs h = by (c == 48) cs h
     by true [] h = refl
     by true (d ∷ ds) h = digit_other d 120 (and_parts (is_digit d) (list_all is_digit ds) h).0 (omega arith)
 
-yes : {A : Type 0} (b : Bool) (x y : A) → b ≡ true → cond b x y ≡ x
-yes b x y e = ap (λ (c : Bool). cond c x y) e
-
-no : {A : Type 0} (b : Bool) (x y : A) → b ≡ false → cond b x y ≡ y
-no b x y e = ap (λ (c : Bool). cond c x y) e
-
 int_leaf : (c : ℕ) (cs : List ℕ) → list_all is_digit (c ∷ cs) ≡ true → value_of (c ∷ cs) < 2 ^ 64 → leaf_of (c ∷ cs) ≡ Ok (Signed (pos (value_of (c ∷ cs))))
 int_leaf c cs h small =
     let fits : nat_lt (value_of (c ∷ cs)) (2 ^ 127) ≡ true = grind (arith, nat_tests) in
-    yes (list_all is_digit (c ∷ cs)) _ _ h ∙ yes (nat_lt (value_of (c ∷ cs)) (2 ^ 127)) _ _ fits
+    cond-true (list_all is_digit (c ∷ cs)) _ _ h ∙ cond-true (nat_lt (value_of (c ∷ cs)) (2 ^ 127)) _ _ fits
 
 uint_leaf : (d : ℕ) (ds : List ℕ) → list_all is_digit (d ∷ ds) ≡ true → value_of (d ∷ ds) < 2 ^ 64 → leaf_of (117 ∷ d ∷ ds) ≡ Ok (Unsigned (value_of (d ∷ ds)))
 uint_leaf d ds h small =
     let fits : nat_lt (value_of (d ∷ ds)) (2 ^ 128) ≡ true = grind (arith, nat_tests) in
-    yes (list_all is_digit (d ∷ ds)) _ _ h ∙ yes (nat_lt (value_of (d ∷ ds)) (2 ^ 128)) _ _ fits
+    cond-true (list_all is_digit (d ∷ ds)) _ _ h ∙ cond-true (nat_lt (value_of (d ∷ ds)) (2 ^ 128)) _ _ fits
 
 int_run : (at c : ℕ) (cs : List ℕ) → list_all is_digit (c ∷ cs) ≡ true → value_of (c ∷ cs) < 2 ^ 64 → run_token at (c ∷ cs) ≡ Ok (Is (Signed (pos (value_of (c ∷ cs)))) (record { start = at; end = at + length (c ∷ cs) }))
 unfolding run_token
 int_run at c cs h small =
     let parts = and_parts (is_digit c) (list_all is_digit cs) h in
     let span : Span = record { start = at; end = at + length (c ∷ cs) } in
-    ap (λ (o : Option ℕ). unless_bad at o (allowed_run span (c ∷ cs))) (none_else is_allowed (c ∷ cs) (digits_so is_allowed digit_allowed (c ∷ cs) h))
-    ∙ (no (c == 39) _ _ (digit_above c 39 parts.0 (omega arith))
-    ∙ (no (c == 48 && begins 120 cs) _ _ (no_hex c cs parts.1)
+    ap (λ (o : Option ℕ). unless_bad at o (allowed_run span (c ∷ cs))) (none_else is_allowed (c ∷ cs) (all_so is_digit is_allowed digit_allowed (c ∷ cs) h))
+    ∙ (cond-false (c == 39) _ _ (digit_above c 39 parts.0 (omega arith))
+    ∙ (cond-false (c == 48 && begins 120 cs) _ _ (no_hex c cs parts.1)
     ∙ ap (in_span span) (int_leaf c cs h small)))
 
 uint_run : (at d : ℕ) (ds : List ℕ) → list_all is_digit (d ∷ ds) ≡ true → value_of (d ∷ ds) < 2 ^ 64 → run_token at (117 ∷ d ∷ ds) ≡ Ok (Is (Unsigned (value_of (d ∷ ds))) (record { start = at; end = at + length (117 ∷ d ∷ ds) }))
 unfolding run_token
 uint_run at d ds h small =
     let span : Span = record { start = at; end = at + length (117 ∷ d ∷ ds) } in
-    ap (λ (o : Option ℕ). unless_bad at o (allowed_run span (117 ∷ d ∷ ds))) (none_else is_allowed (117 ∷ d ∷ ds) (digits_so is_allowed digit_allowed (d ∷ ds) h))
+    ap (λ (o : Option ℕ). unless_bad at o (allowed_run span (117 ∷ d ∷ ds))) (none_else is_allowed (117 ∷ d ∷ ds) (all_so is_digit is_allowed digit_allowed (d ∷ ds) h))
     ∙ ap (in_span span) (uint_leaf d ds h small)
 
 -- ---- where it stands
@@ -139,7 +133,7 @@ int_lexes at value (suc m) (c ∷ cs) r =
       spells =
           ap (λ (o : Option Token). token_by o at (c ∷ cs)) (digit_unmarked at c one)
           ∙ (digit_longer at c cs one
-          ∙ (ap (λ (k : ℕ). with_length k (run_token at (take k (c ∷ cs)))) (run_ends (c ∷ cs) (suc m) r.within (digits_so is_run_byte digit_runs (take (suc m) (c ∷ cs)) r.digits) r.ends)
+          ∙ (ap (λ (k : ℕ). with_length k (run_token at (take k (c ∷ cs)))) (run_ends (c ∷ cs) (suc m) r.within (all_so is_digit is_run_byte digit_runs (take (suc m) (c ∷ cs)) r.digits) r.ends)
           ∙ (ap (with_length (suc m)) (int_run at c (take m cs) r.digits few)
           ∙ (ap (λ (k : ℕ). Ok (Is (Signed (pos (value_of (take (suc m) (c ∷ cs))))) (record { start = at; end = at + k }), suc m)) long
           ∙ ap (λ (v : ℕ). Ok (Is (Signed (pos v)) (record { start = at; end = at + suc m }), suc m)) (sym r.spells)))));
@@ -158,7 +152,7 @@ uint_next at value (suc m) (d ∷ ds) r =
       within = omega (arith, r.within);
       spells =
           unsigned_longer at d ds one
-          ∙ (ap (λ (k : ℕ). with_length k (run_token at (take k (117 ∷ d ∷ ds)))) (run_ends (117 ∷ d ∷ ds) (suc (suc m)) (omega (arith, r.within)) (digits_so is_run_byte digit_runs (take (suc m) (d ∷ ds)) r.digits) (λ l. r.ends (omega (arith, l))))
+          ∙ (ap (λ (k : ℕ). with_length k (run_token at (take k (117 ∷ d ∷ ds)))) (run_ends (117 ∷ d ∷ ds) (suc (suc m)) (omega (arith, r.within)) (all_so is_digit is_run_byte digit_runs (take (suc m) (d ∷ ds)) r.digits) (λ l. r.ends (omega (arith, l))))
           ∙ (ap (with_length (suc (suc m))) (uint_run at d (take m ds) r.digits few)
           ∙ (ap (λ (k : ℕ). Ok (Is (Unsigned (value_of (take (suc m) (d ∷ ds)))) (record { start = at; end = at + k }), suc (suc m))) long
           ∙ ap (λ (v : ℕ). Ok (Is (Unsigned v) (record { start = at; end = at + suc (suc m) }), suc (suc m))) (sym r.spells))));

@@ -60,7 +60,8 @@ fn run_end(bytes: &[u8]) -> Option<usize>
     bytes.iter().position(|b| !is_run_byte(*b))
 }
 
-fn run_length(bytes: &[u8]) -> usize
+/// How many bytes the run in front has.
+pub fn run_length(bytes: &[u8]) -> usize
     ensures value { result ≡ run_length bytes.now }
     ensures within { result ≤ length bytes.now }
 {

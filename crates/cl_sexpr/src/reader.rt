@@ -1,24 +1,26 @@
 //! The reader.
-ghost use Rattle.std.specs.Prelude.{◌≡◌, ◌≤◌, ◌<◌, ◌+◌, ◌*◌, ◌^◌, List, [], ℕ, length, IfOk, Some};
+ghost use Rattle.std.specs.Prelude.{◌≡◌, ◌≤◌, ◌<◌, ◌+◌, ◌*◌, ◌^◌, List, [], ℕ, length, IfOk, IsTrue, Some};
 ghost use Rattle.cl_types.specs.Fault.{IfRefused};
 ghost use Rattle.cl_sexpr.specs.declared.rule.Break.{Break as Broken};
 ghost use Rattle.cl_sexpr.specs.Tree.{Forest, forest, forest_size};
 ghost use Rattle.cl_sexpr.specs.Token.{Opens, OpensTuple, Faulty, leaf_in, in_place, wants_key};
 ghost use Rattle.cl_sexpr.specs.Text.{closes_none, opens_none, misplaced, break_at, Reads, Breaks, ReadsOrBreaks};
+ghost use Rattle.cl_sexpr.specs.declared.leaf.Leaf.TheVariants.{Named};
 ghost use Rattle.cl_sexpr.specs.declared.lexer.Token.TheVariants.{Item};
+ghost use Rattle.cl_sexpr.specs.Leaf.{begins_name};
 ghost use Rattle.cl_sexpr.specs.Lexed.{leaf, token, Lexes, number_leaf};
 ghost use Rattle.cl_sexpr.specs.Progress.{opens, Takes};
 ghost use Rattle.cl_sexpr.specs.Advances.{Advances};
 
 use crate::bracket::Bracket;
-use crate::bytes::{is_separator, split_byte};
+use crate::bytes::{begins_name, is_separator, split_byte};
 use crate::leaf::Leaf;
-use crate::lexer::{Token, token_at};
+use crate::lexer::{Token, run_length, token_at};
 use crate::number::{Number, number_at};
 use crate::reading::{Level, Phase, Reading};
 use crate::rule::{Break, Refusal, Rule, broken};
 use crate::sexpr::{Sexpr, Span};
-use cl_types::Fault;
+use cl_types::{Fault, Name};
 use std::alloc::{AllocError, Global};
 
 /// The most bytes of a text.
@@ -193,7 +195,51 @@ fn take_number<'a>(
     }
 }
 
-// Reads one token on. Separators and numbers go a short way, since most tokens are such.
+// Reads a name on that these bytes begin with.
+fn take_named<'a>(
+    reading: &mut Reading,
+    name: Name,
+    size: usize,
+    bytes: &'a [u8],
+    at: u32,
+) -> Result<(&'a [u8], u32), Fault<Break>>
+    requires name { Lexes (Item (Named name)) size at bytes.now }
+    requires room { at + length bytes.now < 2 ^ 31 }
+    ensures found { IfOk result (λ next. Advances reading.old reading.new at bytes.now next.1 next.0.now) }
+    ensures shorter { IfOk result (λ next. length next.0.now < length bytes.now) }
+    ensures broken { IfRefused result (λ r. break_at (opens reading.old) at bytes.now ≡ Some r) }
+{
+    let (_, more) = bytes.split_at(size);
+    let end = at + size as u32;
+    if take_leaf(reading, Leaf::Named(name), Span { start: at, end })? {
+        Ok((more, end))
+    } else {
+        Err(Fault::Refused(broken(Rule::BadTuple, at, end)))
+    }
+}
+
+// Reads on a run that begins as a name does.
+fn take_word<'a>(
+    reading: &mut Reading,
+    alloc: Global,
+    bytes: &'a [u8],
+    at: u32,
+) -> Result<(&'a [u8], u32), Fault<Break>>
+    requires begun { IsTrue (begins_name bytes.now) }
+    requires some { 0 < length bytes.now }
+    requires room { at + length bytes.now < 2 ^ 31 }
+    ensures found { IfOk result (λ next. Advances reading.old reading.new at bytes.now next.1 next.0.now) }
+    ensures shorter { IfOk result (λ next. length next.0.now < length bytes.now) }
+    ensures broken { IfRefused result (λ r. break_at (opens reading.old) at bytes.now ≡ Some r) }
+{
+    let size = run_length(bytes);
+    match Name::make(&bytes[..size]) {
+        Some(name) => take_named(reading, name, size, bytes, at),
+        None => take_token(reading, alloc, bytes, at),
+    }
+}
+
+// Reads one token on. Separators, names and numbers go a short way, since most tokens are such.
 fn take_next<'a>(
     reading: &mut Reading,
     alloc: Global,
@@ -209,6 +255,9 @@ fn take_next<'a>(
     let (first, more) = split_byte(bytes);
     if is_separator(first) {
         return Ok((more, at + 1));
+    }
+    if begins_name(bytes) {
+        return take_word(reading, alloc, bytes, at);
     }
     match number_at(bytes) {
         Some((number, size)) => take_number(reading, number, size, bytes, at),
