@@ -1,12 +1,13 @@
 -- Levels that are pushed, changed and popped.
-use Rattle.std.proofs.Common.{◌≡◌, ℕ, ◌+◌, List, [], ◌∷◌, ◌++◌, length, take, get_or, set, map, reverse, Bool, true, false, Option, Some, arith, refl, append_assoc, append-nil, sym, ap, ◌∙◌}
+use Rattle.std.proofs.Common.{◌≡◌, ℕ, ◌+◌, ◌-◌, ◌<◌, List, [], ◌∷◌, ◌++◌, length, take, get_or, set, map, reverse, Bool, true, false, Option, Some, arith, refl, append_assoc, append-nil, sym, ap, ◌∙◌}
 use Rattle.std.specs.List.{flat_map}
+use Rattle.std.specs.Vec.{with_item as put}
 use Rattle.std.proofs.lemmas.List.{flat_map_more, map_push, reverse-append, length-set, take_all, take_more, take_more_set}
 use Rattle.cl_sexpr.specs.declared.reading.Level.{Level}
 use Rattle.cl_sexpr.specs.declared.reading.Reading.{Reading}
 use Rattle.cl_sexpr.specs.Tree.{Tree, forest, pairs}
-use Rattle.cl_sexpr.specs.Token.{Token, Open, Key, tree_tokens, forest_tokens, pairs_tokens, with_item}
-use Rattle.cl_sexpr.specs.Progress.{level_tokens, open_of, opens, Gains, TakesItem, LevelTakes}
+use Rattle.cl_sexpr.specs.Token.{Token, Open, Key, tree_tokens, forest_tokens, pairs_tokens, with_item, bare, next}
+use Rattle.cl_sexpr.specs.Progress.{level_tokens, open_of, opens, Gains, Takes, TakesItem, LevelTakes, LevelReads}
 
 pub forest_tokens_push : (xs : List Tree) (t : Tree) → forest_tokens (forest (xs ++ t ∷ [])) ≡ forest_tokens (forest xs) ++ tree_tokens t
 forest_tokens_push [] t = append-nil (tree_tokens t)
@@ -51,3 +52,16 @@ innermost_set xs n y h = sym (take_all (n + 1) (set xs n y) (omega (arith, h, le
 pub level_takes : (old new : Reading) (front : List Level) (l m : Level) (item : Tree) → old.«open».items ≡ front ++ l ∷ [] → new.«open».items ≡ front ++ m ∷ [] → new.items.items ≡ old.items.items → (b : Bool) → LevelTakes l m item b → TakesItem old new item b
 level_takes old new front l m item o n i true t = level_gains old new front l m (tree_tokens item) with_item o n i t.0 t.1
 level_takes old new front l m item o n i false t = rw (o, opens_push front l) (t (reverse (map open_of front)))
+
+-- a key, a colon or a comma is read into the innermost level
+level_reads : (old new : Reading) (front : List Level) (l m : Level) (t : Token) → old.«open».items ≡ front ++ l ∷ [] → new.«open».items ≡ front ++ m ∷ [] → new.items.items ≡ old.items.items → (b : Bool) → LevelReads l m t b → Takes old new t b
+level_reads old new front l m t o n i true h = level_gains old new front l m (bare (t ∷ [])) (λ os. next os t) o n i h.0 h.1
+level_reads old new front l m t o n i false h = rw (o, opens_push front l) (h (reverse (map open_of front)))
+
+-- the same, at the end of the levels
+pub last_reads : (old : Reading) (l m : Level) (t : Token) (b : Bool) → 0 < length old.«open».items → l ≡ get_or old.«open».items (old.«open».len - 1) l → LevelReads l m t b → Takes old (record { items = old.items; «open» = put old.«open» (old.«open».len - 1) m }) t b
+last_reads old l m t b some e h =
+    let levels = old.«open» in
+    let n = levels.len - 1 in
+    let last : n + 1 ≡ length levels.items = omega (arith, some, levels.ok.0) in
+    level_reads old (record { items = old.items; «open» = put levels n m }) (take n levels.items) l m t (innermost levels.items n l last e) (innermost_set levels.items n m last) refl b h

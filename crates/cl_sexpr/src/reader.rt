@@ -109,7 +109,7 @@ fn take_leaf(reading: &mut Reading, given: Leaf, span: Span) -> Result<bool, All
     match given {
         Leaf::Named(name) => {
             if reading.wants_key() {
-                reading.key(name)
+                Ok(reading.key(name))
             } else {
                 reading.add(Leaf::Named(name).item(span))
             }
@@ -132,8 +132,8 @@ fn take(
     match given {
         Token::Separator => Ok(true),
         Token::Comment => Ok(true),
-        Token::Colon => reading.colon(),
-        Token::Comma => reading.comma(),
+        Token::Colon => Ok(reading.colon()),
+        Token::Comma => Ok(reading.comma()),
         Token::Opens => open_list(reading, alloc, at),
         Token::Closes => reading.close_list(end),
         Token::OpensTuple => open_tuple(reading, alloc, at),
