@@ -12,7 +12,7 @@ use Rattle.cl_rules.specs.Context.{CostTable, charge}
 use Rattle.cl_rules.specs.ControlShapes.{binds}
 use Rattle.cl_code.specs.Typed.{Typed, type_of}
 use Rattle.cl_bound.specs.declared.sum.Sum.{Sum}
-use Rattle.cl_bound.specs.Sums.{told}
+use Rattle.cl_bound.specs.Sums.{told, Increases}
 
 plus_none : (a : Cost5) → plus a zero_cost ≡ a
 plus_none a =
@@ -41,15 +41,24 @@ plus_turn a b c =
     let wl : a.write_length + b.write_length + c.write_length ≡ a.write_length + (b.write_length + c.write_length) = omega arith in
     λ i. record { runtime = r i; read_count = rc i; read_length = rl i; write_count = wc i; write_length = wl i }
 
+-- one cost more, and another
+pub both_more : (s t u : Sum) (x y : Cost5) → Increases s t x → Increases t u y → Increases s u (plus x y)
+both_more s t u x y first second a is = second (plus a x) (first a is) ∙ ap told (plus_turn a x y)
+
+-- another sum more
+pub sum_more : (s t u : Sum) (x : Cost5) → t ≡ told x → ((a b : Cost5) → s ≡ told a → t ≡ told b → u ≡ told (plus a b)) → Increases s u x
+sum_more s t u x t_is add a is = add a x is t_is
+
+-- from nothing
+pub all_more : (u : Sum) (x : Cost5) → Increases (told zero_cost) u x → u ≡ told x
+all_more u x more = more zero_cost refl ∙ ap told (none_plus x)
+
 -- a sum so far that gives the whole with what is left
 abbrev pub Adds : Cost5 → Cost5 → Sum → Type 0
 Adds whole rest sum = (a : Cost5) × (sum ≡ told a) × (plus a rest ≡ whole)
 
-pub adds_none : (whole : Cost5) → Adds whole whole (told zero_cost)
-adds_none whole = (zero_cost, refl, none_plus whole)
-
-pub adds_more : (whole x rest : Cost5) (s t u : Sum) → Adds whole (plus x rest) s → t ≡ told x → ((a b : Cost5) → s ≡ told a → t ≡ told b → u ≡ told (plus a b)) → Adds whole rest u
-adds_more whole x rest s t u adds is add = (plus adds.0 x, add adds.0 x adds.1 is, plus_turn adds.0 x rest ∙ adds.2)
+pub adds_more : (whole x rest : Cost5) (s u : Sum) → Adds whole (plus x rest) s → Increases s u x → Adds whole rest u
+adds_more whole x rest s u adds more = (plus adds.0 x, more adds.0 adds.1, plus_turn adds.0 x rest ∙ adds.2)
 
 pub adds_end : (whole : Cost5) (s : Sum) → Adds whole zero_cost s → s ≡ told whole
 adds_end whole s adds = adds.1 ∙ ap told (sym (plus_none adds.0) ∙ adds.2)
@@ -61,35 +70,36 @@ rest_of xs i x lt at =
     let next : i + 1 ≡ suc i = omega arith in
     rw next (drop-cons xs i x lt ∙ ap (λ y. y ∷ drop (suc i) xs) at)
 
-pub binds_turn : (table : CostTable) (parts : List Typed) (i : ℕ) (p : Typed) (ty : PlainType) (s t u : Sum) → i < length parts → get_or parts i p ≡ p → type_of p ≡ ty → t ≡ told (charge Bind (size_of ty) table) → ((a b : Cost5) → s ≡ told a → t ≡ told b → u ≡ told (plus a b)) → Adds (binds (map type_of parts) table) (binds (map type_of (drop i parts)) table) s → Adds (binds (map type_of parts) table) (binds (map type_of (drop (i + 1) parts)) table) u
-binds_turn table parts i p ty s t u lt at type is add adds =
-    adds_more (binds (map type_of parts) table) (charge Bind (size_of (type_of p)) table) (binds (map type_of (drop (i + 1) parts)) table) s t u
-    (subst (λ (qs : List Typed). Adds (binds (map type_of parts) table) (binds (map type_of qs) table) s) (rest_of parts i p lt at) adds)
-    (is ∙ ap (λ (v : PlainType). told (charge Bind (size_of v) table)) (sym type)) add
+pub binds_turn : (table : CostTable) (whole : Cost5) (parts : List Typed) (i : ℕ) (p : Typed) (ty : PlainType) (s u : Sum) → i < length parts → get_or parts i p ≡ p → type_of p ≡ ty → Increases s u (charge Bind (size_of ty) table) → Adds whole (binds (map type_of (drop i parts)) table) s → Adds whole (binds (map type_of (drop (i + 1) parts)) table) u
+binds_turn table whole parts i p ty s u lt at type more adds =
+    adds_more whole (charge Bind (size_of (type_of p)) table) (binds (map type_of (drop (i + 1) parts)) table) s u
+    (subst (λ (qs : List Typed). Adds whole (binds (map type_of qs) table) s) (rest_of parts i p lt at) adds)
+    (subst (λ (v : PlainType). Increases s u (charge Bind (size_of v) table)) (sym type) more)
 
-pub binds_end : (table : CostTable) (parts : List Typed) (i : ℕ) (s : Sum) → length parts ≤ i → Adds (binds (map type_of parts) table) (binds (map type_of (drop i parts)) table) s → s ≡ told (binds (map type_of parts) table)
-binds_end table parts i s far adds = adds_end (binds (map type_of parts) table) s (subst (λ (qs : List Typed). Adds (binds (map type_of parts) table) (binds (map type_of qs) table) s) (drop_all i parts far) adds)
+pub binds_end : (table : CostTable) (whole : Cost5) (parts : List Typed) (i : ℕ) (s : Sum) → length parts ≤ i → Adds whole (binds (map type_of (drop i parts)) table) s → s ≡ told whole
+binds_end table whole parts i s far adds = adds_end whole s (subst (λ (qs : List Typed). Adds whole (binds (map type_of qs) table) s) (drop_all i parts far) adds)
 
 -- a let with so many bindings
-pub let_sum : (table : CostTable) (parts front : List Typed) (n bodies : ℕ) (s t u : Sum) → front ≡ take n parts → bodies ≡ length parts - n → s ≡ told (charge Control (bodies + 1) table) → t ≡ told (binds (map type_of front) table) → ((a b : Cost5) → s ≡ told a → t ≡ told b → u ≡ told (plus a b)) → u ≡ told (both (charge Control (suc (length (map type_of parts) - n))) (binds (take n (map type_of parts))) table)
-let_sum table parts front n bodies s t u front_is bodies_is s_is t_is add =
+pub let_sum : (table : CostTable) (parts front : List Typed) (n bodies : ℕ) (s t u : Sum) → front ≡ take n parts → bodies ≡ length parts - n → Increases s t (charge Control (bodies + 1) table) → Increases t u (binds (map type_of front) table) → Increases s u (both (charge Control (suc (length (map type_of parts) - n))) (binds (take n (map type_of parts))) table)
+let_sum table parts front n bodies s t u front_is bodies_is controls binding =
     let count : bodies + 1 ≡ suc (length (map type_of parts) - n) = omega (arith, bodies_is, length-map parts type_of) in
-    add (charge Control (suc (length (map type_of parts) - n)) table) (binds (take n (map type_of parts)) table)
-    (s_is ∙ ap (λ (m : ℕ). told (charge Control m table)) count)
-    (t_is ∙ ap (λ (ps : List Typed). told (binds (map type_of ps) table)) front_is ∙ ap (λ (ts : List PlainType). told (binds ts table)) (sym (take-map type_of n parts)))
+    both_more s t u (charge Control (suc (length (map type_of parts) - n)) table) (binds (take n (map type_of parts)) table)
+    (subst (λ (m : ℕ). Increases s t (charge Control m table)) count controls)
+    (subst (λ (ts : List PlainType). Increases t u (binds ts table)) (ap (map type_of) front_is ∙ sym (take-map type_of n parts)) binding)
 
 -- ---- parameters one by one
 
 abbrev pub types_at : List (List ℕ × PlainType) → List PlainType
 types_at ps = map (λ (p : List ℕ × PlainType). p.1) ps
 
-pub params_turn : (table : CostTable) (ps : List (List ℕ × PlainType)) (i : ℕ) (p : List ℕ × PlainType) (s t u : Sum) → i < length ps → get_or ps i p ≡ p → t ≡ told (charge Bind (size_of p.1) table) → ((a b : Cost5) → s ≡ told a → t ≡ told b → u ≡ told (plus a b)) → Adds (binds (types_at ps) table) (binds (types_at (drop i ps)) table) s → Adds (binds (types_at ps) table) (binds (types_at (drop (i + 1) ps)) table) u
-params_turn table ps i p s t u lt at is add adds =
-    adds_more (binds (types_at ps) table) (charge Bind (size_of p.1) table) (binds (types_at (drop (i + 1) ps)) table) s t u
-    (subst (λ (qs : List (List ℕ × PlainType)). Adds (binds (types_at ps) table) (binds (types_at qs) table) s) (rest_of ps i p lt at) adds) is add
+pub params_turn : (table : CostTable) (whole : Cost5) (ps : List (List ℕ × PlainType)) (i n : ℕ) (p : List ℕ × PlainType) (s u : Sum) → i < length ps → get_or ps i p ≡ p → n ≡ size_of p.1 → Increases s u (charge Bind n table) → Adds whole (binds (types_at (drop i ps)) table) s → Adds whole (binds (types_at (drop (i + 1) ps)) table) u
+params_turn table whole ps i n p s u lt at size more adds =
+    adds_more whole (charge Bind (size_of p.1) table) (binds (types_at (drop (i + 1) ps)) table) s u
+    (subst (λ (qs : List (List ℕ × PlainType)). Adds whole (binds (types_at qs) table) s) (rest_of ps i p lt at) adds)
+    (subst (λ (m : ℕ). Increases s u (charge Bind m table)) size more)
 
-pub params_end : (table : CostTable) (ps : List (List ℕ × PlainType)) (i : ℕ) (s : Sum) → length ps ≤ i → Adds (binds (types_at ps) table) (binds (types_at (drop i ps)) table) s → s ≡ told (binds (types_at ps) table)
-params_end table ps i s far adds = adds_end (binds (types_at ps) table) s (subst (λ (qs : List (List ℕ × PlainType)). Adds (binds (types_at ps) table) (binds (types_at qs) table) s) (drop_all i ps far) adds)
+pub params_end : (table : CostTable) (whole : Cost5) (ps : List (List ℕ × PlainType)) (i : ℕ) (s : Sum) → length ps ≤ i → Adds whole (binds (types_at (drop i ps)) table) s → s ≡ told whole
+params_end table whole ps i s far adds = adds_end whole s (subst (λ (qs : List (List ℕ × PlainType)). Adds whole (binds (types_at qs) table) s) (drop_all i ps far) adds)
 
 pub again : {A : Type 0} (xs : List A) (i : ℕ) (d : A) → i < length xs → get_or xs i (get_or xs i d) ≡ get_or xs i d
 again [] i d lt = absurd (omega (arith, lt))

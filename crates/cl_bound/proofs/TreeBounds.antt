@@ -5,7 +5,7 @@ use Rattle.cl_types.specs.Types.{PlainType}
 use Rattle.cl_shapes.specs.Costs.{plus, greater, zero_cost}
 use Rattle.cl_shapes.specs.declared.cost.Cost5.{Cost5}
 use Rattle.cl_bound.specs.declared.sum.Sum.{Sum}
-use Rattle.cl_bound.specs.Sums.{told}
+use Rattle.cl_bound.specs.Sums.{told, Increases}
 use Rattle.cl_sexpr.specs.declared.sexpr.Span.{Span}
 use Rattle.cl_rules.specs.Context.{Context, Names, Bound, CostTable}
 use Rattle.cl_rules.specs.Verdicts.{Found, type_at, types_of, sum_of}
@@ -22,7 +22,7 @@ use Rattle.cl_rules.specs.Context.{charge}
 use Rattle.cl_bound.specs.declared.branches.Branch.{Branch}
 use Rattle.cl_bound.specs.declared.branches.Branch.TheVariants.{Good, Bad}
 use Rattle.cl_bound.specs.Own.{own, inside, good_part, bad_part, branch_by, of_branches}
-use Rattle.cl_bound.proofs.Adding.{Adds, adds_none, adds_more, adds_end, rest_of}
+use Rattle.cl_bound.proofs.Adding.{Adds, adds_more, adds_end, rest_of, both_more, all_more}
 use Rattle.cl_bound.proofs.OpCharges.{op_charges}
 
 type_stands : (G : Context) (B : Names) (q : Typed) (f : Found) → Stands G B q f → f.type ≡ type_of q
@@ -42,45 +42,44 @@ types_stand G (Gives B e k) (q ∷ qs) (f ∷ fs) s = λ i. type_stands G B q f 
 counts : (fs : List Found) (qs : List Typed) → types_of fs ≡ map type_of qs → length fs ≡ length (map expression_of qs)
 counts fs qs same = sym (length-map fs type_at) ∙ ap length same ∙ length-map qs type_of ∙ sym (length-map qs expression_of)
 
--- the bound of a tree from its own charges and what is inside
-pub bound_is : (G : Context) (B : Names) (f : Found) (table : CostTable) (op : Op) (qs : List Typed) (at : Span) (t : PlainType) (code : Typed) (mine inner sum : Sum) → has_own_name op ≡ true → TypedAs (expression op (map expression_of qs) at) t (typeds qs) ≡ code → Stands G B code f →
-    mine ≡ told (own G op t (map type_of qs) table) →
-    ((p : Plan) (fs : List Found) → StandAll G p (typeds qs) fs → inner ≡ told (inside op fs table)) →
-    ((a b : Cost5) → mine ≡ told a → inner ≡ told b → sum ≡ told (plus a b)) → sum ≡ told (f.bound table)
-bound_is G B f table op qs at t code mine inner sum named is stands own_is inside_is add =
+-- the bound of a tree is more, where its own charges are and then what is inside
+pub bound_is : (G : Context) (B : Names) (f : Found) (table : CostTable) (op : Op) (qs : List Typed) (at : Span) (t : PlainType) (code : Typed) (old mine new : Sum) → has_own_name op ≡ true → TypedAs (expression op (map expression_of qs) at) t (typeds qs) ≡ code → Stands G B code f →
+    Increases old mine (own G op t (map type_of qs) table) →
+    ((p : Plan) (fs : List Found) → StandAll G p (typeds qs) fs → Increases mine new (inside op fs table)) → Increases old new (f.bound table)
+bound_is G B f table op qs at t code old mine new named is stands own_more inside_more =
     let s : Stands G B (TypedAs (expression op (map expression_of qs) at) t (typeds qs)) f = subst (λ (q : Typed). Stands G B q f) (sym is) stands in
     let types = types_stand G (shape G B (expression op (map expression_of qs) at)).plan qs s.0 s.2 in
-    add (own G op t (map type_of qs) table) (inside op s.0 table) own_is (inside_is (shape G B (expression op (map expression_of qs) at)).plan s.0 s.2)
-    ∙ ap told (
-    (λ i. plus (own G op (s.5 i) (sym types i) table) (inside op s.0 table))
+    subst (Increases old new)
+    ((λ i. plus (own G op (s.5 i) (sym types i) table) (inside op s.0 table))
     ∙ ap (λ (u : PlainType). plus (own G op u (types_of s.0) table) (inside op s.0 table)) (sym (ap type_at s.4))
     ∙ sym (op_charges G B op (map expression_of qs) at named s.0 table s.1 (counts s.0 qs types) s.3)
     ∙ ap (λ (g : Found). g.bound table) s.4)
+    (both_more old mine new (own G op t (map type_of qs) table) (inside op s.0 table) own_more (inside_more (shape G B (expression op (map expression_of qs) at)).plan s.0 s.2))
 
 -- ---- parts one by one
 
--- after the first parts, which are added up, the rest stand
-abbrev pub Sums : Context → CostTable → List Typed → List Typed → Sum → Type 0
-Sums G table whole rest sum = (p : Plan) (fs : List Found) → StandAll G p (typeds whole) fs → (q : Plan) × (gs : List Found) × StandAll G q (typeds rest) gs × Adds (sum_of fs table) (sum_of gs table) sum
+-- after the first parts, which are added to a sum, the rest stand
+abbrev pub Sums : Context → CostTable → List Typed → List Typed → Sum → Sum → Type 0
+Sums G table whole rest old sum = (a : Cost5) → old ≡ told a → (p : Plan) (fs : List Found) → StandAll G p (typeds whole) fs → (q : Plan) × (gs : List Found) × StandAll G q (typeds rest) gs × Adds (plus a (sum_of fs table)) (sum_of gs table) sum
 
-pub sums_none : (G : Context) (table : CostTable) (whole : List Typed) → Sums G table whole whole (told zero_cost)
-sums_none G table whole p fs stand = (p, fs, stand, adds_none (sum_of fs table))
+pub sums_none : (G : Context) (table : CostTable) (whole : List Typed) (old : Sum) → Sums G table whole whole old old
+sums_none G table whole old a is p fs stand = (p, fs, stand, (a, is, refl))
 
--- this is the bound of a tree, whatever stands for it
-abbrev pub BoundIs : Context → CostTable → Typed → Sum → Type 0
-BoundIs G table code sum = (B : Names) (f : Found) → Stands G B code f → sum ≡ told (f.bound table)
+-- this is more by the bound of a tree, whatever stands for it
+abbrev pub BoundMore : Context → CostTable → Typed → Sum → Sum → Type 0
+BoundMore G table code old new = (B : Names) (f : Found) → Stands G B code f → Increases old new (f.bound table)
 
-one_more : (G : Context) (table : CostTable) (whole : Cost5) (q : Typed) (rest : List Typed) (p : Plan) (fs : List Found) (s t u : Sum) → BoundIs G table q t → ((a b : Cost5) → s ≡ told a → t ≡ told b → u ≡ told (plus a b)) → StandAll G p (typeds (q ∷ rest)) fs → Adds whole (sum_of fs table) s → (r : Plan) × (gs : List Found) × StandAll G r (typeds rest) gs × Adds whole (sum_of gs table) u
-one_more G table whole q rest Ends fs s t u bound add stand adds = absurd stand
-one_more G table whole q rest (Part B e p) [] s t u bound add stand adds = absurd stand
-one_more G table whole q rest (Part B e p) (f ∷ fs) s t u bound add stand adds = (p, fs, stand.2, adds_more whole (f.bound table) (sum_of fs table) s t u adds (bound B f stand.1) add)
-one_more G table whole q rest (Gives B e k) [] s t u bound add stand adds = absurd stand
-one_more G table whole q rest (Gives B e k) (f ∷ fs) s t u bound add stand adds = (k f, fs, stand.2, adds_more whole (f.bound table) (sum_of fs table) s t u adds (bound B f stand.1) add)
+one_more : (G : Context) (table : CostTable) (whole : Cost5) (q : Typed) (rest : List Typed) (p : Plan) (fs : List Found) (s u : Sum) → BoundMore G table q s u → StandAll G p (typeds (q ∷ rest)) fs → Adds whole (sum_of fs table) s → (r : Plan) × (gs : List Found) × StandAll G r (typeds rest) gs × Adds whole (sum_of gs table) u
+one_more G table whole q rest Ends fs s u more stand adds = absurd stand
+one_more G table whole q rest (Part B e p) [] s u more stand adds = absurd stand
+one_more G table whole q rest (Part B e p) (f ∷ fs) s u more stand adds = (p, fs, stand.2, adds_more whole (f.bound table) (sum_of fs table) s u adds (more B f stand.1))
+one_more G table whole q rest (Gives B e k) [] s u more stand adds = absurd stand
+one_more G table whole q rest (Gives B e k) (f ∷ fs) s u more stand adds = (k f, fs, stand.2, adds_more whole (f.bound table) (sum_of fs table) s u adds (more B f stand.1))
 
-pub sums_turn : (G : Context) (table : CostTable) (whole : List Typed) (i : ℕ) (q : Typed) (s t u : Sum) → i < length whole → get_or whole i q ≡ q → BoundIs G table q t → ((a b : Cost5) → s ≡ told a → t ≡ told b → u ≡ told (plus a b)) → Sums G table whole (drop i whole) s → Sums G table whole (drop (i + 1) whole) u
-sums_turn G table whole i q s t u lt at bound add so_far p fs stand =
-    let here = so_far p fs stand in
-    one_more G table (sum_of fs table) q (drop (i + 1) whole) here.0 here.1 s t u bound add (subst (λ (qs : List Typed). StandAll G here.0 (typeds qs) here.1) (rest_of whole i q lt at) here.2) here.3
+pub sums_turn : (G : Context) (table : CostTable) (whole : List Typed) (i : ℕ) (q : Typed) (old s u : Sum) → i < length whole → get_or whole i q ≡ q → BoundMore G table q s u → Sums G table whole (drop i whole) old s → Sums G table whole (drop (i + 1) whole) old u
+sums_turn G table whole i q old s u lt at more so_far a is p fs stand =
+    let here = so_far a is p fs stand in
+    one_more G table (plus a (sum_of fs table)) q (drop (i + 1) whole) here.0 here.1 s u more (subst (λ (qs : List Typed). StandAll G here.0 (typeds qs) here.1) (rest_of whole i q lt at) here.2) here.3
 
 none_left : (G : Context) (p : Plan) (fs : List Found) → StandAll G p (typeds []) fs → fs ≡ []
 none_left G Ends [] stand = refl
@@ -88,11 +87,11 @@ none_left G Ends (f ∷ fs) stand = absurd stand
 none_left G (Part B e p) fs stand = absurd stand
 none_left G (Gives B e k) fs stand = absurd stand
 
-pub sums_end : (G : Context) (table : CostTable) (whole : List Typed) (i : ℕ) (s : Sum) (p : Plan) (fs : List Found) → length whole ≤ i → Sums G table whole (drop i whole) s → StandAll G p (typeds whole) fs → s ≡ told (sum_of fs table)
-sums_end G table whole i s p fs far so_far stand =
-    let here = so_far p fs stand in
+pub sums_end : (G : Context) (table : CostTable) (whole : List Typed) (i : ℕ) (old s : Sum) (p : Plan) (fs : List Found) → length whole ≤ i → Sums G table whole (drop i whole) old s → StandAll G p (typeds whole) fs → Increases old s (sum_of fs table)
+sums_end G table whole i old s p fs far so_far stand a is =
+    let here = so_far a is p fs stand in
     let none = none_left G here.0 here.1 (subst (λ (qs : List Typed). StandAll G here.0 (typeds qs) here.1) (drop_all i whole far) here.2) in
-    adds_end (sum_of fs table) s (subst (λ (gs : List Found). Adds (sum_of fs table) (sum_of gs table) s) none here.3)
+    adds_end (plus a (sum_of fs table)) s (subst (λ (gs : List Found). Adds (plus a (sum_of fs table)) (sum_of gs table) s) none here.3)
 
 -- ---- branches
 
@@ -122,7 +121,7 @@ three_are (a ∷ b ∷ c ∷ []) x y z least most h k l = λ i. h i ∷ k i ∷ 
 three_are (a ∷ b ∷ c ∷ d ∷ qs) x y z least most h k l = absurd (omega (arith, most))
 
 pub three_sum : (G : Context) (table : CostTable) (first second : Branch) (qs : List Typed) (x y z : Typed) (ty : PlainType) (always bound_a bound_b a b most sum : Sum) → 3 ≤ length qs → length qs < 4 → get_or qs 0 x ≡ x → get_or qs 1 y ≡ y → get_or qs 2 z ≡ z → type_of x ≡ ty →
-    BoundIs G table x always → BoundIs G table y bound_a → BoundIs G table z bound_b →
+    BoundMore G table x (told zero_cost) always → BoundMore G table y (told zero_cost) bound_a → BoundMore G table z (told zero_cost) bound_b →
     ((f : Found) → bound_a ≡ told (f.bound table) → a ≡ told (branch_by first ty f table)) →
     ((f : Found) → bound_b ≡ told (f.bound table) → b ≡ told (branch_by second ty f table)) →
     ((m n : Cost5) → a ≡ told m → b ≡ told n → most ≡ told (greater m n)) →
@@ -135,8 +134,9 @@ three_sum G table first second qs x y z ty always bound_a bound_b a b most sum l
     let none = none_left G three.0 three.1 three.6 in
     let all : fs ≡ one.2 ∷ two.2 ∷ three.2 ∷ [] = one.4 ∙ ap (λ (gs : List Found). one.2 ∷ gs) (two.4 ∙ ap (λ (gs : List Found). two.2 ∷ gs) (three.4 ∙ ap (λ (gs : List Found). three.2 ∷ gs) none)) in
     let kind : ty ≡ one.2.type = sym type ∙ sym (type_stands G one.3 x one.2 one.5) in
-    add (one.2.bound table) (greater (branch_by first ty two.2 table) (branch_by second ty three.2 table)) (is_x one.3 one.2 one.5)
-    (is_most (branch_by first ty two.2 table) (branch_by second ty three.2 table) (is_a two.2 (is_y two.3 two.2 two.5)) (is_b three.2 (is_z three.3 three.2 three.5)))
+    add (one.2.bound table) (greater (branch_by first ty two.2 table) (branch_by second ty three.2 table)) (all_more always (one.2.bound table) (is_x one.3 one.2 one.5))
+    (is_most (branch_by first ty two.2 table) (branch_by second ty three.2 table)
+    (is_a two.2 (all_more bound_a (two.2.bound table) (is_y two.3 two.2 two.5))) (is_b three.2 (all_more bound_b (three.2.bound table) (is_z three.3 three.2 three.5))))
     ∙ ap (λ (t : PlainType). told (plus (one.2.bound table) (greater (branch_by first t two.2 table) (branch_by second t three.2 table)))) kind
     ∙ ap (λ (gs : List Found). told (of_branches (branch_by first) (branch_by second) gs table)) (sym all)
 
@@ -151,7 +151,7 @@ pub no_branches : (G : Context) (table : CostTable) (first second : Branch) (qs 
 no_branches G table first second qs p fs odd stand = ap told (odd_branches (branch_by first) (branch_by second) fs table (λ h. odd (sym (sym (length-map fs type_at) ∙ ap length (types_stand G p qs fs stand) ∙ length-map qs type_of) ∙ h)))
 
 -- a value that is defined is charged by the size of its type
-pub value_sum : (G : Context) (f : Found) (table : CostTable) (code : Typed) (ty : PlainType) (n : ℕ) (s d u : Sum) → Stands G [] code f → type_of code ≡ ty → n ≡ size_of ty → s ≡ told (f.bound table) → d ≡ told (charge Define n table) → ((x y : Cost5) → s ≡ told x → d ≡ told y → u ≡ told (plus x y)) → u ≡ told (plus (f.bound table) (charge Define (size_of f.type) table))
-value_sum G f table code ty n s d u stands type count s_is d_is add =
+pub value_sum : (G : Context) (f : Found) (table : CostTable) (code : Typed) (ty : PlainType) (n : ℕ) (s u : Sum) → Stands G [] code f → type_of code ≡ ty → n ≡ size_of ty → s ≡ told (f.bound table) → Increases s u (charge Define n table) → u ≡ told (plus (f.bound table) (charge Define (size_of f.type) table))
+value_sum G f table code ty n s u stands type count s_is more =
     let kind : ty ≡ f.type = sym type ∙ sym (type_stands G [] code f stands) in
-    add (f.bound table) (charge Define (size_of f.type) table) s_is (d_is ∙ ap (λ (m : ℕ). told (charge Define m table)) (count ∙ ap size_of kind))
+    subst (λ (m : ℕ). Increases s u (charge Define m table)) (count ∙ ap size_of kind) more (f.bound table) s_is

@@ -1,6 +1,7 @@
 -- What a sum tells of a cost in whole numbers.
-use Rattle.std.specs.Prelude.{ℕ, ◌^◌, nat_lt, if◌then◌else◌, Option, Some, None}
+use Rattle.std.specs.Prelude.{◌≡◌, ℕ, ◌^◌, nat_lt, if◌then◌else◌, Option, Some, None}
 use Rattle.cl_shapes.specs.declared.cost.Cost5.{Cost5}
+use Rattle.cl_shapes.specs.Costs.{plus}
 use Rattle.cl_bound.specs.declared.sum.Sum.{Sum}
 
 -- the number, where it fits 128 bits
@@ -16,3 +17,7 @@ told c = record {
   write_count = fitting c.write_count;
   write_length = fitting c.write_length;
 }
+
+-- what told of a cost tells of it and of this one
+abbrev pub Increases : Sum → Sum → Cost5 → Type 0
+Increases old new cost = (a : Cost5) → old ≡ told a → new ≡ told (plus a cost)

@@ -10,52 +10,51 @@ ghost use Rattle.cl_rules.specs.Verdicts.{Found};
 ghost use Rattle.cl_contracts.specs.Seen.{kind_at};
 ghost use Rattle.cl_contracts.specs.Standing.{Stands};
 ghost use Rattle.cl_contracts.specs.Standings.{StandsAs};
-ghost use Rattle.cl_bound.specs.Sums.{told};
+ghost use Rattle.cl_bound.specs.Sums.{told, Increases};
 ghost use Rattle.cl_bound.specs.Seen.{ShowsPrices};
 
 use crate::prices::Prices;
 use crate::sum::Sum;
-use crate::walk::tree_bound;
+use crate::walk::{add_bound, tree_bound};
 use cl_code::{Code, Definition};
 use cl_shapes::CostName;
 use cl_types::{Name, SizedTy, size};
 
-/// A bind for each parameter.
-fn binds(prices: &Prices, params: &[(Name, SizedTy)]) -> Sum
-    ensures { result ≡ told (binds (map (λ (p : List ℕ × PlainType). p.1) params.now) (function_of prices.now.costs)) }
+/// Adds a bind for each parameter.
+fn add_binds(prices: &Prices, params: &[(Name, SizedTy)], sum: &mut Sum)
+    ensures { Increases sum.old sum.new (binds (map (λ (p : List ℕ × PlainType). p.1) params.now) (function_of prices.now.costs)) }
 {
-    let mut sum = Sum::ZERO;
     for param in params {
-        sum = sum.add(&prices.charge(CostName::Bind, u64::from(size(&param.1))));
+        prices.add_charge(CostName::Bind, u64::from(size(&param.1)), sum);
     }
-    sum
 }
 
 /// The bound of one application of a function with these parameters and this body.
 pub(crate) fn application(prices: &Prices, params: &[(Name, SizedTy)], body: &Code) -> Sum
     ensures { (G : Context) (f : Found) → ShowsPrices prices.now G → Stands G params.now body.now f → result ≡ told (application params.now f (function_of prices.now.costs)) }
 {
-    let call = prices.charge_count(CostName::Call, params.len());
-    let bound = tree_bound(prices, body);
-    call.add(&binds(prices, params).add(&bound))
+    let mut sum = prices.charge_count(CostName::Call, params.len());
+    add_binds(prices, params, &mut sum);
+    add_bound(prices, body, &mut sum);
+    sum
 }
 
 /// An expression, and the definition of its value.
 fn value_charges(prices: &Prices, code: &Code) -> Sum
     ensures { (G : Context) (f : Found) → ShowsPrices prices.now G → Stands G [] code.now f → result ≡ told (both f.bound (charge Define (size_of f.type)) (function_of prices.now.costs)) }
 {
-    let value = tree_bound(prices, code);
-    let define = prices.charge(CostName::Define, u64::from(size(&code.ty)));
-    value.add(&define)
+    let mut sum = tree_bound(prices, code);
+    prices.add_charge(CostName::Define, u64::from(size(&code.ty)), &mut sum);
+    sum
 }
 
 /// The expression of a greatest supply, and its definition.
 fn supply_charges(prices: &Prices, code: &Code) -> Sum
     ensures { (G : Context) (f : Found) → ShowsPrices prices.now G → Stands G [] code.now f → result ≡ told (both f.bound (charge Define (size_of UintType)) (function_of prices.now.costs)) }
 {
-    let supply = tree_bound(prices, code);
-    let define = prices.charge(CostName::Define, 17);
-    supply.add(&define)
+    let mut sum = tree_bound(prices, code);
+    prices.add_charge(CostName::Define, 17, &mut sum);
+    sum
 }
 
 /// What a definition is charged when it is deployed.

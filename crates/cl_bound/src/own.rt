@@ -6,7 +6,7 @@ ghost use Rattle.cl_rules.specs.Context.{Context, charge, both};
 ghost use Rattle.cl_rules.specs.ControlShapes.{binds};
 ghost use Rattle.cl_types.specs.Types.{size_of};
 ghost use Rattle.cl_code.specs.Typed.{type_of};
-ghost use Rattle.cl_bound.specs.Sums.{told};
+ghost use Rattle.cl_bound.specs.Sums.{told, Increases};
 ghost use Rattle.cl_bound.specs.Seen.{ShowsPrices};
 ghost use Rattle.cl_bound.specs.Own.{own, named, counted, given, iteration};
 ghost use Rattle.cl_code.specs.Nodes.{has_parts};
@@ -22,30 +22,28 @@ use cl_code::{Applied, Code, Iteration, NameNative, Op};
 use cl_shapes::CostName;
 use cl_types::{SizedTy, size};
 
-/// A charge by the size of a type.
-fn sized(prices: &Prices, name: CostName, ty: &SizedTy) -> Sum
-    ensures { result ≡ told (charge name (size_of ty.now) (function_of prices.now.costs)) }
+/// Adds a charge by the size of a type.
+fn add_sized(prices: &Prices, name: CostName, ty: &SizedTy, sum: &mut Sum)
+    ensures { Increases sum.old sum.new (charge name (size_of ty.now) (function_of prices.now.costs)) }
 {
-    prices.charge(name, u64::from(size(ty)))
+    prices.add_charge(name, u64::from(size(ty)), sum);
 }
 
-/// A charge for the values of the parts.
-fn counted(prices: &Prices, name: CostName, parts: &[Code]) -> Sum
+/// Adds a charge for the values of the parts.
+fn add_counted(prices: &Prices, name: CostName, parts: &[Code], sum: &mut Sum)
     requires { length parts.now < 1048576 }
-    ensures { result ≡ told (counted name (map type_of parts.now) (function_of prices.now.costs)) }
+    ensures { Increases sum.old sum.new (counted name (map type_of parts.now) (function_of prices.now.costs)) }
 {
-    prices.charge(name, number(name, parts))
+    prices.add_charge(name, number(name, parts), sum);
 }
 
-/// A bind for each part.
-fn binds(prices: &Prices, parts: &[Code]) -> Sum
-    ensures { result ≡ told (binds (map type_of parts.now) (function_of prices.now.costs)) }
+/// Adds a bind for each part.
+fn add_binds(prices: &Prices, parts: &[Code], sum: &mut Sum)
+    ensures { Increases sum.old sum.new (binds (map type_of parts.now) (function_of prices.now.costs)) }
 {
-    let mut sum = Sum::ZERO;
     for part in parts {
-        sum = sum.add(&sized(prices, CostName::Bind, &part.ty));
+        add_sized(prices, CostName::Bind, &part.ty, sum);
     }
-    sum
 }
 
 fn front(parts: &[Code], count: usize) -> &[Code]
@@ -58,15 +56,14 @@ fn front(parts: &[Code], count: usize) -> &[Code]
     }
 }
 
-/// A let with so many bindings, which are its first parts.
-fn binding(prices: &Prices, bindings: usize, parts: &[Code]) -> Sum
+/// Adds a let with so many bindings, which are its first parts.
+fn add_binding(prices: &Prices, bindings: usize, parts: &[Code], sum: &mut Sum)
     requires { length parts.now < 1048576 }
-    ensures { result ≡ told (both (charge Control (suc (length (map type_of parts.now) - bindings))) (binds (take bindings (map type_of parts.now))) (function_of prices.now.costs)) }
+    ensures { Increases sum.old sum.new (both (charge Control (suc (length (map type_of parts.now) - bindings))) (binds (take bindings (map type_of parts.now))) (function_of prices.now.costs)) }
 {
     let bodies = parts.len().saturating_sub(bindings) as u64;
-    prices
-        .charge(CostName::Control, bodies + 1)
-        .add(&binds(prices, front(parts, bindings)))
+    prices.add_charge(CostName::Control, bodies + 1, sum);
+    add_binds(prices, front(parts, bindings), sum);
 }
 
 /// `map`, `filter` or `fold` of this type.
@@ -106,50 +103,55 @@ fn iteration(
     }
 }
 
-/// A native with a leading name.
-fn named(prices: &Prices, native: NameNative, ty: &SizedTy, parts: &[Code]) -> Sum
+/// Adds a native with a leading name.
+fn add_named(prices: &Prices, native: NameNative, ty: &SizedTy, parts: &[Code], sum: &mut Sum)
     requires few { length parts.now < 1048576 }
     requires fit { takes (row_of (name_head native)).arity (suc (length parts.now)) ≡ true }
-    ensures { result ≡ told (named native ty.now (map type_of parts.now) (function_of prices.now.costs)) }
+    ensures { Increases sum.old sum.new (named native ty.now (map type_of parts.now) (function_of prices.now.costs)) }
 {
     match native {
-        NameNative::VarGet => sized(prices, CostName::ReadVar, ty),
-        NameNative::MapGet => prices.charge(CostName::ReadMap, sizes(parts) + u64::from(size(ty))),
-        _ => counted(prices, name_cost(native), parts),
+        NameNative::VarGet => add_sized(prices, CostName::ReadVar, ty, sum),
+        NameNative::MapGet => prices.add_charge(
+            CostName::ReadMap,
+            sizes(parts) + u64::from(size(ty)),
+            sum,
+        ),
+        _ => add_counted(prices, name_cost(native), parts, sum),
     }
 }
 
-/// An expression of this type with these parts.
-pub(crate) fn own(prices: &Prices, op: &Op, ty: &SizedTy, parts: &[Code]) -> Sum
+/// Adds an expression of this type with these parts.
+pub(crate) fn add_own(prices: &Prices, op: &Op, ty: &SizedTy, parts: &[Code], sum: &mut Sum)
     requires few { length parts.now < 1048576 }
     requires fit { has_parts op.now (length parts.now) ≡ true }
-    ensures { (G : Context) → ShowsPrices prices.now G → result ≡ told (own G op.now ty.now (map type_of parts.now) (function_of prices.now.costs)) }
+    ensures { (G : Context) → ShowsPrices prices.now G → Increases sum.old sum.new (own G op.now ty.now (map type_of parts.now) (function_of prices.now.costs)) }
 {
     match op {
-        Op::Keyword(keyword) => sized(prices, keyword_cost(*keyword), ty),
-        Op::Bound(_) | Op::Constant(_) => sized(prices, CostName::Lookup, ty),
-        Op::OnValues { native, .. } => counted(prices, values_cost(*native), parts),
-        Op::OnParts { native, .. } => counted(prices, parts_cost(*native), parts),
-        Op::OnName { native, .. } => named(prices, *native, ty, parts),
+        Op::Keyword(keyword) => add_sized(prices, keyword_cost(*keyword), ty, sum),
+        Op::Bound(_) | Op::Constant(_) => add_sized(prices, CostName::Lookup, ty, sum),
+        Op::OnValues { native, .. } => add_counted(prices, values_cost(*native), parts, sum),
+        Op::OnParts { native, .. } => add_counted(prices, parts_cost(*native), parts, sum),
+        Op::OnName { native, .. } => add_named(prices, *native, ty, parts, sum),
         Op::Iterate {
             iteration: kind,
             applied,
             ..
-        } => iteration(prices, *kind, applied, ty, parts),
-        Op::AsMaxLen { .. } | Op::Tuple(_) | Op::TupleOf { .. } => counted(
+        } => sum.increase(&iteration(prices, *kind, applied, ty, parts)),
+        Op::AsMaxLen { .. } | Op::Tuple(_) | Op::TupleOf { .. } => add_counted(
             prices,
             CostName::Make,
             parts,
+            sum,
         ),
-        Op::Let { bindings, .. } => binding(prices, bindings.len(), parts),
-        Op::MatchOptional { .. } => prices.charge(CostName::Control, 4),
-        Op::MatchResponse { .. } => prices.charge(CostName::Control, 5),
-        Op::Call(function) => prices.function(&function.name),
+        Op::Let { bindings, .. } => add_binding(prices, bindings.len(), parts, sum),
+        Op::MatchOptional { .. } => prices.add_charge(CostName::Control, 4, sum),
+        Op::MatchResponse { .. } => prices.add_charge(CostName::Control, 5, sum),
+        Op::Call(function) => sum.increase(&prices.function(&function.name)),
         Op::ContractCall {
             target,
             function,
             ..
-        } => prices.abroad(target, &function.name),
-        _ => sized(prices, CostName::Literal, ty),
+        } => sum.increase(&prices.abroad(target, &function.name)),
+        _ => add_sized(prices, CostName::Literal, ty, sum),
     }
 }

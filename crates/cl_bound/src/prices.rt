@@ -6,7 +6,7 @@ ghost use Rattle.cl_rules.specs.Context.{Context, Known, Signature, CostTable as
 ghost use Rattle.cl_rules.specs.FormRules.{nothing_defined};
 ghost use Rattle.cl_rules.specs.CallShapes.{target_or_not, contract_literal};
 ghost use Rattle.cl_rules.specs.Shapes.{there_or_not};
-ghost use Rattle.cl_bound.specs.Sums.{told};
+ghost use Rattle.cl_bound.specs.Sums.{told, Increases};
 ghost use Rattle.cl_bound.specs.Seen.{ShowsPrices, ShowDeployed, ShowFunctions};
 ghost use Rattle.cl_bound.specs.Own.{applied, called_at, leaf_of};
 
@@ -124,6 +124,14 @@ impl<'a> Prices<'a> {
         ensures { result ≡ told (charge name n (function_of self.now.costs)) }
     {
         Sum::of(self.costs.of(name).at(n))
+    }
+
+    /// Adds one charge to a sum.
+    pub(crate) fn add_charge(&self, name: CostName, n: u64, sum: &mut Sum)
+        requires { n < 2 ^ 40 }
+        ensures { Increases sum.old sum.new (charge name n (function_of self.now.costs)) }
+    {
+        sum.charge(&self.costs.of(name).at(n));
     }
 
     /// One charge with the length of a text, in bytes.

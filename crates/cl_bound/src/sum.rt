@@ -2,7 +2,7 @@
 ghost use Rattle.std.specs.Prelude.{◌≡◌, ℕ, ◌+◌, ◌-◌, ◌*◌, ◌^◌, max, None};
 ghost use Rattle.cl_shapes.specs.Costs.{plus, greater, times, counted, first_above, in_each};
 ghost use Rattle.cl_shapes.specs.declared.cost.Cost5.{Cost5 as Numbers};
-ghost use Rattle.cl_bound.specs.Sums.{fitting, told};
+ghost use Rattle.cl_bound.specs.Sums.{fitting, told, Increases};
 
 use cl_shapes::{Cost5, Dimension};
 
@@ -16,15 +16,25 @@ pub(crate) struct Sum {
     pub(crate) write_length: Option<u128>,
 }
 
-fn add(a: Option<u128>, b: Option<u128>) -> Option<u128>
-    ensures { (m n : ℕ) → a ≡ fitting m → b ≡ fitting n → result ≡ fitting (m + n) }
+/// Adds a number that fits, which in most dimensions is 0.
+fn increase(sum: &mut Option<u128>, by: u128)
+    ensures { (m : ℕ) → sum.old ≡ fitting m → sum.new ≡ fitting (m + by) }
 {
-    match a {
-        Some(a) => match b {
-            Some(b) => a.checked_add(b),
-            None => None,
-        },
-        None => None,
+    if by == 0 {
+        return;
+    }
+    if let Some(so_far) = *sum {
+        *sum = so_far.checked_add(by);
+    }
+}
+
+/// Adds a number.
+fn increase_by(sum: &mut Option<u128>, by: Option<u128>)
+    ensures { (m n : ℕ) → sum.old ≡ fitting m → by ≡ fitting n → sum.new ≡ fitting (m + n) }
+{
+    match by {
+        Some(by) => increase(sum, by),
+        None => *sum = None,
     }
 }
 
@@ -118,17 +128,35 @@ impl Sum {
         }
     }
 
+    /// Adds a cost in each dimension.
+    pub(crate) fn charge(&mut self, cost: &Cost5)
+        ensures { Increases self.old self.new cost.now }
+    {
+        increase(&mut self.runtime, cost.runtime);
+        increase(&mut self.read_count, cost.read_count);
+        increase(&mut self.read_length, cost.read_length);
+        increase(&mut self.write_count, cost.write_count);
+        increase(&mut self.write_length, cost.write_length);
+    }
+
+    /// Adds another sum in each dimension.
+    pub(crate) fn increase(&mut self, other: &Sum)
+        ensures { (a b : Numbers) → self.old ≡ told a → other.now ≡ told b → self.new ≡ told (plus a b) }
+    {
+        increase_by(&mut self.runtime, other.runtime);
+        increase_by(&mut self.read_count, other.read_count);
+        increase_by(&mut self.read_length, other.read_length);
+        increase_by(&mut self.write_count, other.write_count);
+        increase_by(&mut self.write_length, other.write_length);
+    }
+
     /// The sum in each dimension.
     pub(crate) fn add(&self, other: &Sum) -> Sum
         ensures { (a b : Numbers) → self.now ≡ told a → other.now ≡ told b → result ≡ told (plus a b) }
     {
-        Sum {
-            runtime: add(self.runtime, other.runtime),
-            read_count: add(self.read_count, other.read_count),
-            read_length: add(self.read_length, other.read_length),
-            write_count: add(self.write_count, other.write_count),
-            write_length: add(self.write_length, other.write_length),
-        }
+        let mut sum = *self;
+        sum.increase(other);
+        sum
     }
 
     /// The greater number in each dimension, which may come from different sums.

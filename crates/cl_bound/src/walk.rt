@@ -5,39 +5,48 @@ ghost use Rattle.cl_rules.specs.Context.{Context, Names};
 ghost use Rattle.cl_rules.specs.Verdicts.{Found, sum_of};
 ghost use Rattle.cl_rules.specs.Shapes.{Plan};
 ghost use Rattle.cl_code.specs.Typed.{typeds};
-ghost use Rattle.cl_bound.specs.Sums.{told};
+ghost use Rattle.cl_bound.specs.Sums.{told, Increases};
 ghost use Rattle.cl_bound.specs.Seen.{ShowsPrices};
 ghost use Rattle.cl_contracts.specs.Standing.{Stands, StandAll};
 ghost use Rattle.cl_bound.specs.Own.{branch_by, of_branches};
 
 use crate::branches::{Branch, branches_of, counted_branch};
-use crate::own::own;
+use crate::own::add_own;
 use crate::prices::Prices;
 use crate::sum::Sum;
 use cl_code::Code;
 
 /// The bound of the expression that a tree stands for.
-#[cycle(bound)]
 pub(crate) fn tree_bound(prices: &Prices, code: &Code) -> Sum
     ensures { (G : Context) (B : Names) (f : Found) → ShowsPrices prices.now G → Stands G B code.now f → result ≡ told (f.bound (function_of prices.now.costs)) }
 {
-    let own = own(prices, &code.op, &code.ty, &code.parts);
+    let mut sum = Sum::ZERO;
+    add_bound(prices, code, &mut sum);
+    sum
+}
+
+/// Adds the bound of the expression that a tree stands for.
+#[cycle(bound)]
+pub(crate) fn add_bound(prices: &Prices, code: &Code, sum: &mut Sum)
+    ensures { (G : Context) (B : Names) (f : Found) → ShowsPrices prices.now G → Stands G B code.now f → Increases sum.old sum.new (f.bound (function_of prices.now.costs)) }
+{
+    add_own(prices, &code.op, &code.ty, &code.parts, sum);
     match branches_of(&code.op) {
-        Some((first, second)) => own.add(&branches_bound(prices, &code.parts, first, second)),
-        None => own.add(&sum(prices, &code.parts)),
+        Some((first, second)) => {
+            sum.increase(&branches_bound(prices, &code.parts, first, second));
+        }
+        None => add_parts(prices, &code.parts, sum),
     }
 }
 
-/// The bounds of all parts.
+/// Adds the bounds of all parts.
 #[cycle(bound)]
-fn sum(prices: &Prices, parts: &[Code]) -> Sum
-    ensures { (G : Context) (p : Plan) (fs : List Found) → ShowsPrices prices.now G → StandAll G p (typeds parts.now) fs → result ≡ told (sum_of fs (function_of prices.now.costs)) }
+fn add_parts(prices: &Prices, parts: &[Code], sum: &mut Sum)
+    ensures { (G : Context) (p : Plan) (fs : List Found) → ShowsPrices prices.now G → StandAll G p (typeds parts.now) fs → Increases sum.old sum.new (sum_of fs (function_of prices.now.costs)) }
 {
-    let mut sum = Sum::ZERO;
     for part in parts {
-        sum = sum.add(&tree_bound(prices, part));
+        add_bound(prices, part, sum);
     }
-    sum
 }
 
 /// A part that is always evaluated, and the greater of two.
@@ -47,10 +56,16 @@ fn branches_bound(prices: &Prices, parts: &[Code], first: Branch, second: Branch
 {
     match parts {
         [input, a, b] => {
-            let always = tree_bound(prices, input);
-            let a = counted_branch(prices, first, &input.ty, &tree_bound(prices, a));
-            let b = counted_branch(prices, second, &input.ty, &tree_bound(prices, b));
-            always.add(&a.max(&b))
+            let mut sum = Sum::ZERO;
+            add_bound(prices, input, &mut sum);
+            let mut inside = Sum::ZERO;
+            add_bound(prices, a, &mut inside);
+            let a = counted_branch(prices, first, &input.ty, &inside);
+            let mut inside = Sum::ZERO;
+            add_bound(prices, b, &mut inside);
+            let b = counted_branch(prices, second, &input.ty, &inside);
+            sum.increase(&a.max(&b));
+            sum
         }
         _ => Sum::ZERO,
     }

@@ -1,6 +1,0 @@
-use Rattle.cl_costs.specs.Tables.{function_of}
-use Rattle.cl_bound.proofs.Adding.{let_sum}
-use Rattle.cl_bound.proofs.own.binding.Goals as goal
-
-pub returns : goal.returns
-returns c = let_sum (function_of c.args.prices.now.costs) c.args.parts.now c.front.result.now c.args.bindings c.saturating_sub-bodies.result c.charge.result c.binds.result c.add.result c.front.ensures c.saturating_sub-bodies.ensures c.charge.ensures c.binds.ensures c.add.ensures

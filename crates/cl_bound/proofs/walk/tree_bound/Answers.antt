@@ -1,0 +1,6 @@
+use Rattle.cl_costs.specs.Tables.{function_of}
+use Rattle.cl_bound.proofs.Adding.{all_more}
+use Rattle.cl_bound.proofs.walk.tree_bound.Goals as goal
+
+pub returns : goal.returns
+returns c G B f shows stands = all_more c.add_bound.new.sum (f.bound (function_of c.args.prices.now.costs)) (c.add_bound.ensures G B f shows stands)
