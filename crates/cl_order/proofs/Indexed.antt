@@ -1,32 +1,27 @@
 -- Indexes of forms.
 use Rattle.std.proofs.Common.{◌≡◌, refl, sym, ap, ◌∙◌, ℕ, suc, ◌<◌, ◌≤◌, ◌+◌, List, [], ◌∷◌, ◌++◌, length, take, get_or, append-nil, arith, Bool, true, false, cond, if◌then◌else◌, Option, Some, Vec, Global, length-take, ◌||◌}
 use Rattle.std.proofs.lemmas.List.{take_more, take_all}
-use Rattle.std.specs.Ordering.{nat_cmp, eq_by_cmp}
-use Rattle.std.specs.Cmp.Lexicographic.{slice_cmp, texts_ties, same_text}
-use Rattle.std.specs.BTreeMap.{BTreeMap, get, UpdatesBy}
+use Rattle.std.specs.Cmp.Lexicographic.{same_text}
+use Rattle.indexmap.specs.IndexMap.{get, Updates}
 use Rattle.cl_forms.specs.Forms.{Form}
 use Rattle.cl_forms.specs.Names.{same, is_among, places_from}
-use Rattle.cl_order.specs.Index.{listed, place_if, under, IsIndex}
-
-abbrev Rows : Type 0
-Rows = BTreeMap (List ℕ) (Vec ℕ Global)
+use Rattle.cl_order.specs.Index.{Rows, listed, place_if, under, IsIndex}
 
 listed-cond : (b : Bool) (row : Vec ℕ Global) (o : Option (Vec ℕ Global)) → listed (cond b (Some row) o) ≡ (if b then row.items else listed o)
 listed-cond true row o = refl
 listed-cond false row o = refl
 
 -- what stands under each name after a change at one
-pub under_changed : (old new : Rows) (name : List ℕ) (row : Vec ℕ Global) → UpdatesBy (slice_cmp nat_cmp) (slice_cmp nat_cmp name) old new (Some row) → (x : List ℕ) → under new x ≡ (if same name x then row.items else under old x)
+pub under_changed : (old new : Rows) (name : List ℕ) (row : Vec ℕ Global) → Updates same old new name (Some row) → (x : List ℕ) → under new x ≡ (if same name x then row.items else under old x)
 under_changed old new name row h x =
-    ap listed (h.0 x) ∙ listed-cond (eq_by_cmp (slice_cmp nat_cmp) name x) row (get (slice_cmp nat_cmp) old x)
-    ∙ ap (λ (b : Bool). if b then row.items else under old x) (sym (texts_ties name x))
+    ap listed (h.0 x) ∙ listed-cond (same name x) row (get same old x)
 
 same_choice : (b : Bool) (xs ys zs : List ℕ) → (b ≡ true → xs ≡ ys) → (if b then xs else zs) ≡ (if b then ys else zs)
 same_choice true xs ys zs h = h refl
 same_choice false xs ys zs h = refl
 
 -- a place is added behind a row
-pub added : (old new : Rows) (name : List ℕ) (row : Vec ℕ Global) (place : ℕ) → UpdatesBy (slice_cmp nat_cmp) (slice_cmp nat_cmp name) old new (Some row) → row.items ≡ under old name ++ place ∷ [] → (x : List ℕ) → under new x ≡ (if same name x then under old x ++ place ∷ [] else under old x)
+pub added : (old new : Rows) (name : List ℕ) (row : Vec ℕ Global) (place : ℕ) → Updates same old new name (Some row) → row.items ≡ under old name ++ place ∷ [] → (x : List ℕ) → under new x ≡ (if same name x then under old x ++ place ∷ [] else under old x)
 added old new name row place h is x =
     under_changed old new name row h x
     ∙ same_choice (same name x) row.items (under old x ++ place ∷ []) (under old x) (λ e. is ∙ ap (λ (n : List ℕ). under old n ++ place ∷ []) (same_text name x (sym e)))

@@ -1,6 +1,5 @@
 -- Rows of numbers in order, and the places that a form names.
 use Rattle.std.proofs.Common.{◌≡◌, refl, sym, ap, subst, ◌∙◌, inl, inr, ◌⊎◌, ℕ, zero, suc, ◌<◌, ◌+◌, List, [], ◌∷◌, length, arith, Bool, true, false, nat_eq, eqb-true, if◌then◌else◌, flat_map, slice_get, Option, Some, None, Contains, IsPermutation, IsSorted, nat_cmp, Less, get_or, Vec, Global}
-use Rattle.std.specs.BTreeMap.{BTreeMap}
 use Rattle.std.specs.List.{list_any}
 use Rattle.std.specs.List.Sorted.{IsStrictlySortedBy}
 use Rattle.std.specs.List.{AllByRecursion}
@@ -17,7 +16,7 @@ use Rattle.std.proofs.lemmas.Map.Views.{list_any-from_Contains, Contains-from_an
 use Rattle.cl_forms.specs.Forms.{Form}
 use Rattle.cl_forms.specs.Names.{same, is_among, atoms_of_form, places_from, named_by}
 use Rattle.cl_forms.specs.Order.{is_in}
-use Rattle.cl_order.specs.Index.{under, IsIndex}
+use Rattle.cl_order.specs.Index.{Rows, under, IsIndex}
 use Rattle.cl_order.proofs.Members.{same_number, in_front, in_back, in_either}
 use Rattle.cl_order.proofs.Named.{Placed, placed, placed_in}
 
@@ -154,7 +153,7 @@ at_place [] i x low is = absurd (omega arith)
 at_place (y ∷ ys) zero x low is = ap (λ z. Some z) (sym is)
 at_place (y ∷ ys) (suc i) x low is = at_place ys i x (omega arith) is
 
-pub places_named : (forms : List Form) (rows : BTreeMap (List ℕ) (Vec ℕ Global)) (place : ℕ) (form : Form) (found sorted new : List ℕ) → IsIndex forms rows → place < length forms → form ≡ get_or forms place form → found ≡ flat_map (under rows) (atoms_of_form form) → IsPermutation found sorted → IsSorted nat_cmp sorted → IsFiltered (DiffersFromLast nat_eq) [] sorted new → new ≡ named_by forms (slice_get forms place)
+pub places_named : (forms : List Form) (rows : Rows) (place : ℕ) (form : Form) (found sorted new : List ℕ) → IsIndex forms rows → place < length forms → form ≡ get_or forms place form → found ≡ flat_map (under rows) (atoms_of_form form) → IsPermutation found sorted → IsSorted nat_cmp sorted → IsFiltered (DiffersFromLast nat_eq) [] sorted new → new ≡ named_by forms (slice_get forms place)
 unfolding IsIndex
 places_named forms rows place form found sorted new index low is all permuted rising filtered =
     let left : new ≡ dedup nat_eq sorted = dedup_is nat_eq sorted new filtered in

@@ -5,11 +5,11 @@ ghost use Rattle.cl_order.specs.Index.{place_if, under, IsIndex};
 
 use cl_forms::Form;
 use cl_types::Name;
+use indexmap::IndexMap;
 use std::alloc::{AllocError, Global};
-use std::collections::BTreeMap;
 
 /// The places of the forms that define each name, in the order of the text.
-pub(crate) type Index = BTreeMap<Name, Vec<u32>>;
+pub(crate) type Index = IndexMap<Name, Vec<u32>>;
 
 // Adds a place behind those of a name.
 fn add(index: &mut Index, alloc: Global, name: &Name, place: u32) -> Result<(), AllocError>
@@ -40,7 +40,7 @@ pub(crate) fn index(alloc: Global, forms: &[Form]) -> Result<Index, AllocError>
     requires { length forms.now < 2 ^ 32 }
     ensures { IfOk result (IsIndex forms.now) }
 {
-    let mut index = BTreeMap::new(alloc);
+    let mut index = IndexMap::new(alloc);
     for (place, form) in forms.iter().enumerate() {
         add_form(&mut index, alloc, form, place as u32)?;
     }

@@ -63,8 +63,13 @@ fn next(site: Site) -> Site
 fn find(index: &Index, name: &Name, found: &mut Vec<u32>) -> Result<(), AllocError>
     ensures { OnOk result (found.new.items ≡ found.old.items ++ under index.now name.now) }
 {
-    found.extend_from_slice(under(index, name))?;
-    Ok(())
+    match under(index, name) {
+        [] => Ok(()),
+        places => {
+            found.extend_from_slice(places)?;
+            Ok(())
+        }
+    }
 }
 
 // An atom by itself.
@@ -103,11 +108,11 @@ fn walk_first(
     }
 }
 
-fn atom(item: &Sexpr) -> Option<Name>
-    ensures { result ≡ atom_of item.now }
+fn atom(item: &Sexpr) -> Option<&Name>
+    ensures { option_copied result ≡ atom_of item.now }
 {
     match &item.node {
-        Node::Atom(name) => Some(*name),
+        Node::Atom(name) => Some(name),
         _ => None,
     }
 }
@@ -148,8 +153,8 @@ fn walk_list(
     };
     match atom(first) {
         Some(name) => {
-            walk_first(index, site, &name, rest.len(), found)?;
-            walk_items(index, behind(&name), rest, found)
+            walk_first(index, site, name, rest.len(), found)?;
+            walk_items(index, behind(name), rest, found)
         }
         None => {
             walk(index, Site::Plain, first, found)?;

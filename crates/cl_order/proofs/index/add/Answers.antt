@@ -1,7 +1,7 @@
-use Rattle.std.proofs.Common.{◌∙◌, ap, refl, subst, ◌++◌, ◌∷◌, [], List, ℕ, IsSome, Vec, Global, Option, Some, nat_cmp}
-use Rattle.std.specs.Cmp.Lexicographic.{slice_cmp}
-use Rattle.std.specs.BTreeMap.{BTreeMap, UpdatesBy}
-use Rattle.cl_order.specs.Index.{listed}
+use Rattle.std.proofs.Common.{◌∙◌, ap, refl, subst, ◌++◌, ◌∷◌, [], List, ℕ, IsSome, Vec, Global, Option, Some}
+use Rattle.indexmap.specs.IndexMap.{Updates}
+use Rattle.cl_forms.specs.Names.{same}
+use Rattle.cl_order.specs.Index.{Rows, listed}
 use Rattle.cl_order.proofs.Indexed.{added}
 use Rattle.cl_order.proofs.index.add.Goals as goal
 
@@ -14,5 +14,5 @@ returns-in-Some c =
 pub returns : goal.returns
 returns c =
     added c.args.index.now c.insert.new.self c.args.name.now c.push-2.new.self c.args.place
-    (subst (λ (m : BTreeMap (List ℕ) (Vec ℕ Global)). UpdatesBy (slice_cmp nat_cmp) (slice_cmp nat_cmp c.args.name.now) m c.insert.new.self (Some c.push-2.new.self)) c.get_mut.follows.holds-at-none c.in_ok-insert.ensures.updates)
+    (subst (λ (m : Rows). Updates same m c.insert.new.self c.args.name.now (Some c.push-2.new.self)) c.get_mut.follows.holds-at-none c.in_ok-insert.ensures.updates)
     (c.in_ok-push-2.ensures.items ∙ ap (λ (l : List ℕ). l ++ c.args.place ∷ []) (c.new-places.ensures.items ∙ ap listed c.in_default.ensures.value))
