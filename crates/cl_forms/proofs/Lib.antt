@@ -10,3 +10,4 @@ pub mod Placing
 pub mod Weighing
 pub mod ExpressionsFit
 pub mod Nesting
+pub mod Rows

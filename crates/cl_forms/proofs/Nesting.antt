@@ -4,7 +4,7 @@ use Rattle.cl_types.specs.Types.{PlainType}
 use Rattle.cl_types.specs.declared.sized.Access.{Access}
 use Rattle.cl_sexpr.specs.declared.sexpr.Span.{Span}
 use Rattle.cl_sexpr.specs.Tree.{Tree, LeafAt, ListAt, TupleAt, Forest, Empty, Then, forest, tree_depth, forest_depth, span_of}
-use Rattle.cl_forms.specs.Forms.{Form, FormKind, ConstantForm, VariableForm, MapForm, FungibleForm, NonFungibleForm, FunctionForm, ExpressionForm, expression_of}
+use Rattle.cl_forms.specs.Forms.{Form, FormKind, VariableForm, NonFungibleForm, FunctionForm, expression_of}
 use Rattle.cl_forms.specs.Items.{Draft, ConstantDraft, VariableDraft, MapDraft, FungibleDraft, NonFungibleDraft, FunctionDraft, Item, Expression, Misshapen, Definition, word_at, parts_behind, atom_of, Defined, header_of, function_by, defined_by, definition, item_by, item_of, typed, map_form, kind_of, form_by, form_of}
 use Rattle.cl_forms.specs.WrittenTypes.{written_type}
 use Rattle.cl_forms.specs.Shapes.{trees_of, bindings_of}

@@ -18,3 +18,4 @@ pub mod Cycle
 pub mod Weights
 pub mod Fits
 pub mod Depth
+pub mod Rows
