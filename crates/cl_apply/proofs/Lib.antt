@@ -1,4 +1,7 @@
 pub mod NumberLaws
 pub mod HashLaws
 pub mod RowLaws
+pub mod DefinedLaws
 pub mod EntryLaws
+pub mod MergeLaws
+pub mod PartLaws

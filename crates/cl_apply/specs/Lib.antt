@@ -1,3 +1,4 @@
+pub mod Added
 pub mod Numbers
 pub mod Folded
 pub mod Hashes

@@ -1,5 +1,5 @@
 //! Natives with what isn't evaluated.
-ghost use Rattle.std.specs.Prelude.{◌≡◌, ◌≢◌, ◌↔◌, true, if◌then◌else◌, IfOk};
+ghost use Rattle.std.specs.Prelude.{◌≢◌, if◌then◌else◌};
 ghost use Rattle.cl_values.specs.Tree.{SomeV, NoneV};
 ghost use Rattle.cl_values.specs.Computed.{Gives, Undefined, kept};
 ghost use Rattle.cl_values.specs.Applied.{Applied};
@@ -12,7 +12,7 @@ use crate::ApplyRefusal;
 use crate::arguments::only;
 use crate::rows::apply_native;
 use cl_seq::{none, some, try_get, try_within};
-use cl_types::{Fault, Name, NoMemory};
+use cl_types::{Fault, Name};
 use cl_values::{Native, NoValue, Val};
 use std::alloc::Global;
 
@@ -100,27 +100,5 @@ pub fn apply(
         Err(Fault::Refused(NoValue::Panic)) => Err(Fault::Refused(ApplyRefusal::Panic)),
         Err(Fault::Refused(NoValue::Undefined)) => unreachable!(),
         Err(Fault::NoMemory) => Err(Fault::NoMemory),
-    }
-}
-
-fn copied(alloc: Global, values: &[Val]) -> Result<Vec<Val>, NoMemory>
-    ensures { IfOk result (λ copies. copies.items ≡ values.now) }
-{
-    let mut copies = Vec::new(alloc);
-    for value in values {
-        copies.push(value.copy(alloc)?)?;
-    }
-    Ok(copies)
-}
-
-/// Whether a native is defined at these values, which is the condition of [`apply`]. It is computed of copies, since whether
-/// a value is within the limits, as that of `merge`, shows in the value alone.
-pub fn defined(alloc: Global, call: &NativeCall, arguments: &[Val]) -> Result<bool, NoMemory>
-    ensures { IfOk result (λ is. (is ≡ true) ↔ (kept (call_value call.now arguments.now) ≢ Undefined)) }
-{
-    match try_apply(alloc, call, copied(alloc, arguments)?) {
-        Err(Fault::Refused(NoValue::Undefined)) => Ok(false),
-        Err(Fault::NoMemory) => Err(NoMemory),
-        _ => Ok(true),
     }
 }

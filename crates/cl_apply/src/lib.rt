@@ -3,6 +3,7 @@
 
 mod arguments;
 mod call;
+mod definedness;
 mod equality;
 mod hashes;
 mod numbers;
@@ -11,6 +12,7 @@ mod pairs;
 mod refusal;
 mod rows;
 
-pub use call::{NativeCall, apply, defined, try_apply};
+pub use call::{NativeCall, apply, try_apply};
+pub use definedness::defined;
 pub use refusal::ApplyRefusal;
 pub use rows::apply_native;

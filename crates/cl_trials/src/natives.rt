@@ -11,9 +11,9 @@ fn sums_are_defined_of_numbers_of_one_kind(rt: HostRuntime) -> Result<(), Fail> 
         let kind = Kind::Uint(7);
         arguments.push(Val::make(Value { kind })?)?;
     }
-    assert_eq!(rt; defined(rt.alloc(), &sum, &arguments), Ok(true));
+    assert!(rt; defined(&sum, &arguments));
     let kind = Kind::Int(7);
     arguments.push(Val::make(Value { kind })?)?;
-    assert_eq!(rt; defined(rt.alloc(), &sum, &arguments), Ok(false));
+    assert!(rt; !defined(&sum, &arguments));
     Ok(())
 }
