@@ -1,5 +1,5 @@
 -- Rows of numbers in order, and the places that a form names.
-use Rattle.std.proofs.Common.{◌≡◌, refl, sym, ap, subst, ◌∙◌, inl, inr, ◌⊎◌, ℕ, zero, suc, ◌<◌, ◌+◌, List, [], ◌∷◌, length, arith, Bool, true, false, nat_eq, eqb-true, if◌then◌else◌, flat_map, slice_get, Option, Some, None, Contains, IsPermutation, IsSorted, nat_cmp, Less, get_or, Vec, Global}
+use Rattle.std.proofs.Common.{◌≡◌, refl, sym, ap, subst, ◌∙◌, inl, inr, ◌⊎◌, ℕ, zero, suc, ◌<◌, ◌+◌, List, [], ◌∷◌, length, arith, Bool, true, false, nat_eq, eqb-true, if◌then◌else◌, flat_map, slice_get, Option, Some, None, Contains, IsPermutation, IsSorted, nat_cmp, Less, get_or}
 use Rattle.std.specs.List.{list_any}
 use Rattle.std.specs.List.Sorted.{IsStrictlySortedBy}
 use Rattle.std.specs.List.{AllByRecursion}
