@@ -69,7 +69,8 @@ fn have_numbers(all: &[Numbered<Recorder>], numbers: &[u32]) -> bool {
             .all(|(one, number)| one.number == *number)
 }
 
-/// Whether the listeners heard what the case says, and those went deaf that it names, in this order; none where it names none.
+/// Whether the listeners heard what the case says, and those went deaf that it names, in this
+/// order; none where it names none.
 pub(crate) fn is_heard(
     rt: &HostRuntime,
     listeners: &Listeners<Recorder>,

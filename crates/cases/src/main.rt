@@ -1,5 +1,6 @@
-//! Runs the top call on each case of the themes that the words name, and prints a line for each that ends otherwise than it
-//! is to, and last how many passed. A theme is the file of that name and `.json` in the folder of the run.
+//! Runs the top call on each case of the themes that the words name, and prints a line for each
+//! that ends otherwise than it is to, and last how many passed. A theme is the file of that name
+//! and `.json` in the folder of the run.
 #![tactic(auto)]
 
 mod fault;

@@ -84,8 +84,9 @@ fn from_hex(alloc: Global, text: &str, name: &'static str) -> Result<Vec<u8>, Ba
     hex::decode(alloc, text).map_err(|_| BadCase::Member(name))
 }
 
-// A text, the text of a JSON value (`{"json": any}`), hexadecimal digits (`{"hex": ".."}`), a text so many times
-// (`{"repeat": "..", "times": n}`), or a file of the folder of the run (`{"file": ".."}`).
+// A text, the text of a JSON value (`{"json": any}`), hexadecimal digits (`{"hex": ".."}`), a text
+// so many times (`{"repeat": "..", "times": n}`), or a file of the folder of the run
+// (`{"file": ".."}`).
 fn part(rt: &HostRuntime, value: &Value, name: &'static str) -> Result<Vec<u8>, BadCase> {
     let alloc = rt.alloc();
     if let Some(text) = value.as_str() {

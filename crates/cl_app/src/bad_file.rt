@@ -72,7 +72,8 @@ pub(crate) fn bad_costs(alloc: Global, name: &str, fault: &CostRefusal) -> Resul
 
 /// A name and a path behind it.
 fn write_path(out: &mut Vec<u8>, name: &[u8], path: &Text) -> Result<(), AllocError>
-    ensures { IfOk result (λ _. out.new.items ≡ out.old.items ++ (name.now ++ encode_utf8_all path.now)) }
+    ensures { IfOk result (λ _. out.new.items
+        ≡ out.old.items ++ (name.now ++ encode_utf8_all path.now)) }
 {
     out.extend_from_slice(name)?;
     out.extend_from_slice(path.as_str().as_bytes())?;
@@ -99,7 +100,8 @@ pub(crate) fn bad_transactions(
     name: &str,
     fault: &TxRefusal,
 ) -> Result<Reply, AllocError>
-    ensures answer { IfOk result (λ reply. answer_of reply ≡ bad_transactions_answer name.now fault.now) }
+    ensures answer { IfOk result
+        (λ reply. answer_of reply ≡ bad_transactions_answer name.now fault.now) }
     ensures status { IfOk result (λ reply. IsOwnStatus reply.status × (reply.status ≢ 2)) }
 {
     let mut text = Vec::new(alloc);

@@ -27,7 +27,8 @@ fn main_name() -> ContractName
     ContractName::make(b"main").unwrap()
 }
 
-/// What is sent by the address SP000000000000000000002Q6VF78, with no stated limit and no condition.
+/// What is sent by the address SP000000000000000000002Q6VF78, with no stated limit and no
+/// condition.
 fn sent_from_home(alloc: Global) -> Common
     ensures { result ≡ sent_from_home }
 {
@@ -167,7 +168,8 @@ fn call_by(alloc: Global, function: &str, args: Vec<Val>) -> Result<Entry, Alloc
 /// The reply for the deployment of this source, and this call.
 fn reply_for(alloc: Global, source: Vec<u8>, second: &Entry) -> Result<Reply, NoMemory>
     requires { NeverFall 0 (deployment source.items ∷ second.now ∷ []) }
-    ensures answer { IfOk result (λ reply. IsReportOf (deployment source.items) second.now (answer_of reply)) }
+    ensures answer { IfOk result
+        (λ reply. IsReportOf (deployment source.items) second.now (answer_of reply)) }
     ensures status { IfOk result (λ reply. IsOwnStatus reply.status × (reply.status ≢ 2)) }
 {
     let first = deployment(alloc, source);
@@ -181,7 +183,8 @@ pub(crate) fn call_reply(
     function: &str,
     args: Vec<Val>,
 ) -> Result<Reply, NoMemory>
-    ensures answer { IfOk result (λ reply. IsCalled source.items function.now args.items (answer_of reply)) }
+    ensures answer { IfOk result
+        (λ reply. IsCalled source.items function.now args.items (answer_of reply)) }
     ensures status { IfOk result (λ reply. IsOwnStatus reply.status × (reply.status ≢ 2)) }
 {
     let second = call_by(alloc, function, args)?;

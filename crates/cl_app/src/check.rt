@@ -29,10 +29,13 @@ fn check_paths<F: Files>(
     files: &mut F,
 ) -> Result<Reply, Stop>
     requires sources { are_sources (texts paths.now) ≡ true }
-    ensures answer { IfOk result (λ reply. IsPathsAnswer (F.held files.old) (function_of costs.now) address.now (texts paths.now) (answer_of reply)) }
+    ensures answer { IfOk result
+        (λ reply. IsPathsAnswer (F.held files.old) (function_of costs.now) address.now
+        (texts paths.now) (answer_of reply)) }
     ensures status { IfOk result (λ reply. IsOwnStatus reply.status × (reply.status ≢ 2)) }
     ensures cause { CountsReadStop (F.faults files.old) (F.faults files.new) result }
-    ensures asked { AsksPaths (F.held files.old) (texts paths.now) (F.asked files.old) (F.asked files.new) }
+    ensures asked { AsksPaths (F.held files.old) (texts paths.now) (F.asked files.old)
+        (F.asked files.new) }
 {
     match read_sources(alloc, address, paths, files)? {
         Ok(sources) => Ok(report(alloc, &sources, costs)?),
@@ -50,10 +53,13 @@ fn check_under<F: Files>(
     files: &mut F,
 ) -> Result<Reply, Stop>
     requires sources { are_sources (texts paths.now) ≡ true }
-    ensures answer { IfOk result (λ reply. IsCostsAnswer (F.held files.old) name.now address.now (texts paths.now) (table_of bytes.now) (answer_of reply)) }
+    ensures answer { IfOk result
+        (λ reply. IsCostsAnswer (F.held files.old) name.now address.now (texts paths.now)
+        (table_of bytes.now) (answer_of reply)) }
     ensures status { IfOk result (λ reply. IsOwnStatus reply.status × (reply.status ≢ 2)) }
     ensures cause { CountsReadStop (F.faults files.old) (F.faults files.new) result }
-    ensures asked { AsksUnder (F.held files.old) (texts paths.now) (table_of bytes.now) (F.asked files.old) (F.asked files.new) }
+    ensures asked { AsksUnder (F.held files.old) (texts paths.now) (table_of bytes.now)
+        (F.asked files.old) (F.asked files.new) }
 {
     match read(alloc, bytes) {
         Ok(costs) => check_paths(alloc, &costs, address, paths, files),
@@ -71,10 +77,13 @@ fn check_reply<F: Files>(
     files: &mut F,
 ) -> Result<Reply, Stop>
     requires sources { are_sources (texts paths.now) ≡ true }
-    ensures answer { IfOk result (λ reply. IsAnswer (Some (Check costs.now address.now (texts paths.now))) (F.held files.old) (answer_of reply)) }
+    ensures answer { IfOk result
+        (λ reply. IsAnswer (Some (Check costs.now address.now (texts paths.now))) (F.held files.old)
+        (answer_of reply)) }
     ensures status { IfOk result (λ reply. IsOwnStatus reply.status × (reply.status ≢ 2)) }
     ensures cause { CountsReadStop (F.faults files.old) (F.faults files.new) result }
-    ensures asked { AsksPart (Some (Check costs.now address.now (texts paths.now))) (F.held files.old) (F.asked files.old) (F.asked files.new) }
+    ensures asked { AsksPart (Some (Check costs.now address.now (texts paths.now)))
+        (F.held files.old) (F.asked files.old) (F.asked files.new) }
 {
     match files.read(costs) {
         Ok(bytes) => check_under(alloc, costs, &bytes, address, paths, files),
@@ -91,10 +100,15 @@ pub(crate) fn check_words<F: Files>(
     files: &mut F,
 ) -> Result<Reply, Stop>
     requires sources { are_sources (texts words.now.paths.now) ≡ true }
-    ensures answer { IfOk result (λ reply. IsAnswer (Some (Check words.now.costs.now words.now.address (texts words.now.paths.now))) (F.held files.old) (answer_of reply)) }
+    ensures answer { IfOk result
+        (λ reply. IsAnswer (Some
+        (Check words.now.costs.now words.now.address (texts words.now.paths.now)))
+        (F.held files.old) (answer_of reply)) }
     ensures status { IfOk result (λ reply. IsOwnStatus reply.status × (reply.status ≢ 2)) }
     ensures cause { CountsReadStop (F.faults files.old) (F.faults files.new) result }
-    ensures asked { AsksPart (Some (Check words.now.costs.now words.now.address (texts words.now.paths.now))) (F.held files.old) (F.asked files.old) (F.asked files.new) }
+    ensures asked { AsksPart
+        (Some (Check words.now.costs.now words.now.address (texts words.now.paths.now)))
+        (F.held files.old) (F.asked files.old) (F.asked files.new) }
 {
     check_reply(alloc, words.costs, &words.address, words.paths, files)
 }

@@ -22,7 +22,8 @@ use std::alloc::Global;
 /// How an entry ended.
 #[derive(Clone, Copy, Debug, PartialEq, Eq)]
 pub(crate) enum End {
-    /// With what it changed: the contract is deployed, a value or an ok was given, or a block begins.
+    /// With what it changed: the contract is deployed, a value or an ok was given, or a block
+    /// begins.
     Good,
     /// With an err.
     Bad,
@@ -96,8 +97,10 @@ fn write_lines<K: Sink>(
     given: &TxResult,
     out: &mut K,
 ) -> Result<(), Stop>
-    ensures whole { OnOk result (Grows (K.written out.old) (K.written out.new) (lines_of number entry.now given.now)) }
-    ensures part { GrowsPart (K.written out.old) (K.written out.new) (lines_of number entry.now given.now) }
+    ensures whole { OnOk result
+        (Grows (K.written out.old) (K.written out.new) (lines_of number entry.now given.now)) }
+    ensures part { GrowsPart (K.written out.old) (K.written out.new)
+        (lines_of number entry.now given.now) }
     ensures faults { CountsWriteStop (K.faults out.old) (K.faults out.new) result }
     ensures reads { IfErr result (λ stop. stop ≢ Stop.ReadFailed) }
 {
@@ -106,8 +109,8 @@ fn write_lines<K: Sink>(
     Ok(())
 }
 
-/// Does what the entry with this number asks for. Its events are told once it was committed, and then its lines are made and
-/// written.
+/// Does what the entry with this number asks for. Its events are told once it was committed, and
+/// then its lines are made and written.
 fn next_told<K: Sink, L: Listener>(
     alloc: Global,
     addresses: &mut AddressCache,
@@ -118,8 +121,12 @@ fn next_told<K: Sink, L: Listener>(
     listeners: &mut Listeners<L>,
 ) -> Result<(), Stop>
     requires { node.now.height ≤ height_after node.now.height entry.now }
-    ensures ended { OnOk result (EndsTold number node.old entry.now node.new (K.written out.old) (K.written out.new) listeners.old listeners.new) }
-    ensures at_most { IfErr result (λ _. TellsAtMost number node.old entry.now (K.written out.old) (K.written out.new) listeners.old listeners.new) }
+    ensures ended { OnOk result
+        (EndsTold number node.old entry.now node.new (K.written out.old) (K.written out.new)
+        listeners.old listeners.new) }
+    ensures at_most { IfErr result
+        (λ _. TellsAtMost number node.old entry.now (K.written out.old) (K.written out.new)
+        listeners.old listeners.new) }
     ensures faults { CountsWriteStop (K.faults out.old) (K.faults out.new) result }
     ensures reads { IfErr result (λ stop. stop ≢ Stop.ReadFailed) }
 {
@@ -128,8 +135,8 @@ fn next_told<K: Sink, L: Listener>(
     write_lines(alloc, addresses, number, entry, &given, out)
 }
 
-/// Does what the entries of a file ask for, from the first node on. The events of each entry are told after its step, and then
-/// its lines are written, before the next entry's step.
+/// Does what the entries of a file ask for, from the first node on. The events of each entry are
+/// told after its step, and then its lines are written, before the next entry's step.
 pub(crate) fn run_entries<K: Sink, L: Listener>(
     alloc: Global,
     node: &mut Node,
@@ -138,8 +145,12 @@ pub(crate) fn run_entries<K: Sink, L: Listener>(
     listeners: &mut Listeners<L>,
 ) -> Result<(), Stop>
     requires { IsFirst node.now.costs file.now.genesis node.now }
-    ensures report { OnOk result (Tells node.old.costs file.now.genesis file.now.entries node.new (K.written out.old) (K.written out.new) listeners.old listeners.new) }
-    ensures stops { IfErr result (λ _. WritesFirst (function_of node.old.costs) file.now (K.written out.old) (K.written out.new) listeners.old listeners.new) }
+    ensures report { OnOk result
+        (Tells node.old.costs file.now.genesis file.now.entries node.new (K.written out.old)
+        (K.written out.new) listeners.old listeners.new) }
+    ensures stops { IfErr result
+        (λ _. WritesFirst (function_of node.old.costs) file.now (K.written out.old)
+        (K.written out.new) listeners.old listeners.new) }
     ensures faults { CountsWriteStop (K.faults out.old) (K.faults out.new) result }
     ensures reads { IfErr result (λ stop. stop ≢ Stop.ReadFailed) }
 {

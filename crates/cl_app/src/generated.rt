@@ -1,4 +1,5 @@
-//! The reply to `gen`: a workload is run entry by entry, and none of its entries and results is kept.
+//! The reply to `gen`: a workload is run entry by entry, and none of its entries and results is
+//! kept.
 ghost use Rattle.std.specs.Prelude.{◌≡◌, ◌≢◌, ◌<◌, ◌+◌, ◌^◌, ℕ, [], codes, IfOk, string_bytes};
 ghost use Rattle.cl_costs.specs.Tables.{unit_table};
 ghost use Rattle.cl_meaning.specs.Samples.{of_P0};
@@ -39,7 +40,9 @@ fn run_call(
     draws: &mut Draws,
     tally: &mut Tally,
 ) -> Result<(), NoMemory>
-    ensures { IfOk result (λ _. (seed n : ℕ) → n + 1 < 2 ^ 32 → IsCounted seed n tally.old draws.old node.old → IsCounted seed (n + 1) tally.new draws.new node.new) }
+    ensures { IfOk result (λ _. (seed n : ℕ) → n + 1 < 2 ^ 32 →
+        IsCounted seed n tally.old draws.old node.old →
+        IsCounted seed (n + 1) tally.new draws.new node.new) }
 {
     nodes_are_known_in_one_way();
     workloads_are_small();

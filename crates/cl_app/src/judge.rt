@@ -47,7 +47,9 @@ fn types_of(alloc: Global, definitions: &[Definition]) -> Result<Vec<SizedTy>, N
 
 /// The lines of an accepted contract.
 fn accepted_text(alloc: Global, checked: &Checked, bounds: Bounds) -> Result<Vec<u8>, NoMemory>
-    ensures { IfOk result (λ text. text.items ≡ accepted_lines checked.now.principal (Some bounds) (filter_map type_returned checked.now.definitions.items)) }
+    ensures { IfOk result (λ text. text.items
+        ≡ accepted_lines checked.now.principal (Some bounds)
+        (filter_map type_returned checked.now.definitions.items)) }
 {
     let types = types_of(alloc, &checked.definitions)?;
     accepted_lines(alloc, &checked.principal, &Some(bounds), &types)
@@ -55,7 +57,9 @@ fn accepted_text(alloc: Global, checked: &Checked, bounds: Bounds) -> Result<Vec
 
 /// The line of a source that breaks a rule.
 fn refused_text(alloc: Global, source: &Source, refusal: Refusal) -> Result<Vec<u8>, NoMemory>
-    ensures { IfOk result (λ text. text.items ≡ refused_line source.now.principal (record { rule = refusal.rule; span = refusal.span; names = refusal.names.items })) }
+    ensures { IfOk result (λ text. text.items
+        ≡ refused_line source.now.principal
+        (record { rule = refusal.rule; span = refusal.span; names = refusal.names.items })) }
 {
     refused_line(alloc, &source.principal, &SourceRefusal::new(refusal))
 }
@@ -71,8 +75,12 @@ fn keep(
     requires indexed { AreIndexed deployed.old }
     requires names { IsIndexed checked }
     requires new { contract_under checked.principal deployed.old.contracts.entries ≡ None }
-    ensures kept { IfOk result (λ _. IsKept deployed.old.contracts.entries checked deployed.new.contracts.entries) }
-    ensures known { IfOk result (λ _. (table : Table) → AreBounds table deployed.old.contracts.entries known.old → AreBoundsOf table deployed.old.contracts.entries checked contract → AreBounds table deployed.new.contracts.entries known.new) }
+    ensures kept { IfOk result
+        (λ _. IsKept deployed.old.contracts.entries checked deployed.new.contracts.entries) }
+    ensures known { IfOk result
+        (λ _. (table : Table) → AreBounds table deployed.old.contracts.entries known.old →
+        AreBoundsOf table deployed.old.contracts.entries checked contract →
+        AreBounds table deployed.new.contracts.entries known.new) }
     ensures indexed { IfOk result (λ _. AreIndexed deployed.new) }
 {
     deployed.reserve()?;
@@ -99,11 +107,16 @@ fn accept(
     requires known { AreBounds (function_of costs.now) deployed.old.contracts.entries known.old }
     requires new { contract_under source.now.principal deployed.old.contracts.entries ≡ None }
     requires checked { IsChecked deployed.old.contracts.entries source.now checked }
-    requires bounded { IsBounded (function_of costs.now) deployed.old.contracts.entries checked priced.bounds }
-    requires kept { AreBoundsOf (function_of costs.now) deployed.old.contracts.entries checked priced.contract }
-    ensures judged { IfOk result (λ judged. Judges (function_of costs.now) deployed.old.contracts.entries source.now judged deployed.new.contracts.entries) }
+    requires bounded { IsBounded (function_of costs.now) deployed.old.contracts.entries checked
+        priced.bounds }
+    requires kept { AreBoundsOf (function_of costs.now) deployed.old.contracts.entries checked
+        priced.contract }
+    ensures judged { IfOk result
+        (λ judged. Judges (function_of costs.now) deployed.old.contracts.entries source.now judged
+        deployed.new.contracts.entries) }
     ensures indexed { IfOk result (λ _. AreIndexed deployed.new) }
-    ensures known { IfOk result (λ _. AreBounds (function_of costs.now) deployed.new.contracts.entries known.new) }
+    ensures known { IfOk result
+        (λ _. AreBounds (function_of costs.now) deployed.new.contracts.entries known.new) }
 {
     what_callers_know();
     let text = accepted_text(alloc, &checked, priced.bounds)?;
@@ -124,9 +137,12 @@ fn judge_bounds(
     requires known { AreBounds (function_of costs.now) deployed.old.contracts.entries known.old }
     requires new { contract_under source.now.principal deployed.old.contracts.entries ≡ None }
     requires checked { IsChecked deployed.old.contracts.entries source.now checked }
-    ensures judged { IfOk result (λ judged. Judges (function_of costs.now) deployed.old.contracts.entries source.now judged deployed.new.contracts.entries) }
+    ensures judged { IfOk result
+        (λ judged. Judges (function_of costs.now) deployed.old.contracts.entries source.now judged
+        deployed.new.contracts.entries) }
     ensures indexed { IfOk result (λ _. AreIndexed deployed.new) }
-    ensures known { IfOk result (λ _. AreBounds (function_of costs.now) deployed.new.contracts.entries known.new) }
+    ensures known { IfOk result
+        (λ _. AreBounds (function_of costs.now) deployed.new.contracts.entries known.new) }
 {
     match bound(alloc, &checked, known, costs) {
         Ok(priced) => accept(alloc, deployed, known, source, checked, priced, costs),
@@ -148,9 +164,12 @@ fn judge(
     requires indexed { AreIndexed deployed.old }
     requires known { AreBounds (function_of costs.now) deployed.old.contracts.entries known.old }
     requires new { contract_under source.now.principal deployed.old.contracts.entries ≡ None }
-    ensures judged { IfOk result (λ judged. Judges (function_of costs.now) deployed.old.contracts.entries source.now judged deployed.new.contracts.entries) }
+    ensures judged { IfOk result
+        (λ judged. Judges (function_of costs.now) deployed.old.contracts.entries source.now judged
+        deployed.new.contracts.entries) }
     ensures indexed { IfOk result (λ _. AreIndexed deployed.new) }
-    ensures known { IfOk result (λ _. AreBounds (function_of costs.now) deployed.new.contracts.entries known.new) }
+    ensures known { IfOk result
+        (λ _. AreBounds (function_of costs.now) deployed.new.contracts.entries known.new) }
 {
     match check(alloc, deployed, &source.principal, source.text.as_slice()) {
         Ok(checked) => judge_bounds(alloc, deployed, known, source, checked, costs),
@@ -168,7 +187,8 @@ pub(crate) fn report(
     costs: &CostTable,
 ) -> Result<Reply, NoMemory>
     requires apart { AreApart sources.now }
-    ensures answer { IfOk result (λ reply. IsReport (function_of costs.now) [] sources.now (answer_of reply)) }
+    ensures answer { IfOk result
+        (λ reply. IsReport (function_of costs.now) [] sources.now (answer_of reply)) }
     ensures status { IfOk result (λ reply. IsOwnStatus reply.status × (reply.status ≢ 2)) }
 {
     let mut deployed = Deployed::new(alloc);

@@ -1,5 +1,5 @@
-//! The top call: from the words of the command line and the files that they name to the bytes that are
-//! written and the status.
+//! The top call: from the words of the command line and the files that they name to the bytes that
+//! are written and the status.
 #![tactic(auto)]
 
 mod argument;

@@ -103,8 +103,8 @@ fn push_copy(alloc: Global, words: &mut Vec<String>, word: &str) -> Result<(), N
     Ok(())
 }
 
-/// What `clap` makes of words that keep the rule. It refuses none of them: where it fails, memory ran out. No clause speaks of
-/// what it gives, since that is tested.
+/// What `clap` makes of words that keep the rule. It refuses none of them: where it fails, memory
+/// ran out. No clause speaks of what it gives, since that is tested.
 fn by_clap(alloc: Global, words: &[String]) -> Result<Line, NoMemory> {
     let command_word = Arg::new(alloc, "COMMAND");
     let others = Arg::new(alloc, "WORDS").action(ArgAction::Append);
@@ -135,8 +135,8 @@ fn by_clap(alloc: Global, words: &[String]) -> Result<Line, NoMemory> {
     })
 }
 
-/// Reads the words; none where they don't keep the rule. It is tested on the words themselves, as is what `clap` gives, so that
-/// nothing rests on a fault of `clap`.
+/// Reads the words; none where they don't keep the rule. It is tested on the words themselves, as
+/// is what `clap` gives, so that nothing rests on a fault of `clap`.
 pub(crate) fn read(alloc: Global, words: &[String]) -> Result<Option<Line>, NoMemory>
     ensures { IfOk result (λ line. option_map line_of line ≡ line_in (texts words.now)) }
 {

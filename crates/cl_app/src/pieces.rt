@@ -65,7 +65,8 @@ pub(crate) fn whole_piece(alloc: Global, text: Vec<u8>, status: u8) -> Result<Re
 
 /// A reply of one text.
 pub(crate) fn one_piece(alloc: Global, line: String, status: u8) -> Result<Reply, AllocError>
-    ensures { IfOk result (λ reply. answer_of reply ≡ record { bytes = string_bytes line; status = status }) }
+    ensures { IfOk result (λ reply. answer_of reply
+        ≡ record { bytes = string_bytes line; status = status }) }
 {
     whole_piece(alloc, line.into_bytes(), status)
 }
@@ -77,7 +78,8 @@ pub(crate) fn two_pieces(
     second: Vec<u8>,
     status: u8,
 ) -> Result<Reply, AllocError>
-    ensures { IfOk result (λ reply. answer_of reply ≡ record { bytes = first.items ++ second.items; status = status }) }
+    ensures { IfOk result (λ reply. answer_of reply
+        ≡ record { bytes = first.items ++ second.items; status = status }) }
 {
     let mut pieces = Vec::new(alloc);
     pieces.push(first)?;

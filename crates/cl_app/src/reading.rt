@@ -24,7 +24,8 @@ fn read_source<F: Files>(
     files: &mut F,
 ) -> Result<Result<Source, Reply>, Stop>
     ensures read { IfOk result (λ read. IsRead (F.held files.old) address.now path.now read) }
-    ensures status { IfOk result (λ read. IfErr read (λ reply. IsOwnStatus reply.status × (reply.status ≢ 2))) }
+    ensures status { IfOk result
+        (λ read. IfErr read (λ reply. IsOwnStatus reply.status × (reply.status ≢ 2))) }
     ensures kept { F.held files.new ≡ F.held files.old }
     ensures cause { CountsReadStop (F.faults files.old) (F.faults files.new) result }
     ensures asked { OnOk result (Grows (F.asked files.old) (F.asked files.new) (path.now ∷ [])) }
@@ -55,11 +56,16 @@ pub(crate) fn read_sources<F: Files>(
     paths: &[String],
     files: &mut F,
 ) -> Result<Result<Vec<Source>, Reply>, Stop>
-    ensures read { IfOk result (λ read. AreRead (F.held files.old) address.now (texts paths.now) (sources_seen read)) }
-    ensures contracts { IfOk result (λ read. IfOk read (λ sources. map (λ source. source.principal) sources.items ≡ map (contract_at address.now) (texts paths.now))) }
-    ensures status { IfOk result (λ read. IfErr read (λ reply. IsOwnStatus reply.status × (reply.status ≢ 2))) }
+    ensures read { IfOk result
+        (λ read. AreRead (F.held files.old) address.now (texts paths.now) (sources_seen read)) }
+    ensures contracts { IfOk result
+        (λ read. IfOk read (λ sources. map (λ source. source.principal) sources.items
+        ≡ map (contract_at address.now) (texts paths.now))) }
+    ensures status { IfOk result
+        (λ read. IfErr read (λ reply. IsOwnStatus reply.status × (reply.status ≢ 2))) }
     ensures cause { CountsReadStop (F.faults files.old) (F.faults files.new) result }
-    ensures asked { AsksPaths (F.held files.old) (texts paths.now) (F.asked files.old) (F.asked files.new) }
+    ensures asked { AsksPaths (F.held files.old) (texts paths.now) (F.asked files.old)
+        (F.asked files.new) }
 {
     let mut sources = Vec::new(alloc);
     for path in paths {

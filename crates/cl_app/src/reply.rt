@@ -1,4 +1,5 @@
-//! The reply to a command: the pieces that are written, and the status. `run` alone writes before there is a reply.
+//! The reply to a command: the pieces that are written, and the status. `run` alone writes before
+//! there is a reply.
 ghost use Rattle.std.specs.Prelude.{◌≡◌, ◌≢◌, ◌↔◌, ◌∷◌, [], None, Some, IfOk, IfErr, OnOk, option_map};
 ghost use Rattle.cl_ports.specs.Growth.{GrowsPart};
 ghost use Rattle.cl_app.specs.Answer.{IsAnswerAlone, usage_answer};

@@ -26,7 +26,8 @@ use std::alloc::Global;
 
 /// The reply after all entries: the lines of the node's state, where they are asked for.
 fn state_reply(alloc: Global, state: bool, node: &Node) -> Result<Reply, NoMemory>
-    ensures text { IfOk result (λ reply. IsStatePart state node.now.state (bytes_of reply.pieces.items)) }
+    ensures text { IfOk result
+        (λ reply. IsStatePart state node.now.state (bytes_of reply.pieces.items)) }
     ensures status { IfOk result (λ reply. reply.status ≡ 0) }
 {
     let mut pieces = Vec::new(alloc);
@@ -37,8 +38,8 @@ fn state_reply(alloc: Global, state: bool, node: &Node) -> Result<Reply, NoMemor
     Ok(Reply { pieces, status: 0 })
 }
 
-/// The report of the entries of a file, from the first node on. Their events are told and their lines written; the reply has the
-/// lines of the state.
+/// The report of the entries of a file, from the first node on. Their events are told and their
+/// lines written; the reply has the lines of the state.
 fn report<K: Sink, L: Listener>(
     alloc: Global,
     node: &mut Node,
@@ -49,10 +50,15 @@ fn report<K: Sink, L: Listener>(
 ) -> Result<Reply, Stop>
     requires first { IsFirst node.now.costs file.now.genesis node.now }
     requires holders { All (λ h. IsPrincipal h.0) file.now.genesis }
-    ensures hears { OnOk result (TellsAll (function_of node.old.costs) file.now listeners.old listeners.new) }
-    ensures answer { IfOk result (Completes (IsRun (function_of node.old.costs) file.now state) (K.written out.old) (K.written out.new)) }
+    ensures hears { OnOk result
+        (TellsAll (function_of node.old.costs) file.now listeners.old listeners.new) }
+    ensures answer { IfOk result
+        (Completes (IsRun (function_of node.old.costs) file.now state) (K.written out.old)
+        (K.written out.new)) }
     ensures status { IfOk result (λ reply. IsOwnStatus reply.status × (reply.status ≢ 2)) }
-    ensures stops { IfErr result (λ _. WritesFirst (function_of node.old.costs) file.now (K.written out.old) (K.written out.new) listeners.old listeners.new) }
+    ensures stops { IfErr result
+        (λ _. WritesFirst (function_of node.old.costs) file.now (K.written out.old)
+        (K.written out.new) listeners.old listeners.new) }
     ensures faults { CountsWriteStop (K.faults out.old) (K.faults out.new) result }
     ensures reads { IfErr result (λ stop. stop ≢ Stop.ReadFailed) }
 {
@@ -71,10 +77,15 @@ fn file_report<K: Sink, L: Listener>(
     out: &mut K,
     listeners: &mut Listeners<L>,
 ) -> Result<Reply, Stop>
-    ensures hears { OnOk result (TellsAll (function_of costs.now) file.now listeners.old listeners.new) }
-    ensures answer { IfOk result (Completes (IsRun (function_of costs.now) file.now state) (K.written out.old) (K.written out.new)) }
+    ensures hears { OnOk result
+        (TellsAll (function_of costs.now) file.now listeners.old listeners.new) }
+    ensures answer { IfOk result
+        (Completes (IsRun (function_of costs.now) file.now state) (K.written out.old)
+        (K.written out.new)) }
     ensures status { IfOk result (λ reply. IsOwnStatus reply.status × (reply.status ≢ 2)) }
-    ensures stops { IfErr result (λ _. WritesFirst (function_of costs.now) file.now (K.written out.old) (K.written out.new) listeners.old listeners.new) }
+    ensures stops { IfErr result
+        (λ _. WritesFirst (function_of costs.now) file.now (K.written out.old) (K.written out.new)
+        listeners.old listeners.new) }
     ensures faults { CountsWriteStop (K.faults out.old) (K.faults out.new) result }
     ensures reads { IfErr result (λ stop. stop ≢ Stop.ReadFailed) }
 {
@@ -94,10 +105,15 @@ pub(crate) fn run_reply<K: Sink, L: Listener>(
     out: &mut K,
     listeners: &mut Listeners<L>,
 ) -> Result<Reply, Stop>
-    ensures hears { OnOk result (HearsAllOf (IsEventsIn (function_of costs.now) bytes.now) listeners.old listeners.new) }
-    ensures answer { IfOk result (Completes (IsRan (function_of costs.now) name.now state bytes.now) (K.written out.old) (K.written out.new)) }
+    ensures hears { OnOk result
+        (HearsAllOf (IsEventsIn (function_of costs.now) bytes.now) listeners.old listeners.new) }
+    ensures answer { IfOk result
+        (Completes (IsRan (function_of costs.now) name.now state bytes.now) (K.written out.old)
+        (K.written out.new)) }
     ensures status { IfOk result (λ reply. IsOwnStatus reply.status × (reply.status ≢ 2)) }
-    ensures stops { IfErr result (λ _. StopsIn (function_of costs.now) bytes.now (K.written out.old) (K.written out.new) listeners.old listeners.new) }
+    ensures stops { IfErr result
+        (λ _. StopsIn (function_of costs.now) bytes.now (K.written out.old) (K.written out.new)
+        listeners.old listeners.new) }
     ensures faults { CountsWriteStop (K.faults out.old) (K.faults out.new) result }
     ensures reads { IfErr result (λ stop. stop ≢ Stop.ReadFailed) }
 {

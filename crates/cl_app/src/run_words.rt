@@ -30,11 +30,18 @@ fn run_file<F: Files, K: Sink, L: Listener>(
     out: &mut K,
     listeners: &mut Listeners<L>,
 ) -> Result<Reply, Stop>
-    ensures hears { OnOk result (HearsHeld file.now (IsEventsIn (function_of costs.now)) (F.held files.old) listeners.old listeners.new) }
-    ensures answer { IfOk result (Completes (IsHeldAnswer file.now (IsRan (function_of costs.now) file.now state) (F.held files.old)) (K.written out.old) (K.written out.new)) }
-    ensures stops { IfErr result (λ _. StopsHeld (function_of costs.now) (F.held files.old) file.now (K.written out.old) (K.written out.new) listeners.old listeners.new) }
+    ensures hears { OnOk result
+        (HearsHeld file.now (IsEventsIn (function_of costs.now)) (F.held files.old) listeners.old
+        listeners.new) }
+    ensures answer { IfOk result
+        (Completes (IsHeldAnswer file.now (IsRan (function_of costs.now) file.now state)
+        (F.held files.old)) (K.written out.old) (K.written out.new)) }
+    ensures stops { IfErr result
+        (λ _. StopsHeld (function_of costs.now) (F.held files.old) file.now (K.written out.old)
+        (K.written out.new) listeners.old listeners.new) }
     ensures faults { CountsWriteStop (K.faults out.old) (K.faults out.new) result }
-    ensures unwritten { IfErr result (λ stop. stop ≡ Stop.ReadFailed → K.written out.new ≡ K.written out.old) }
+    ensures unwritten { IfErr result
+        (λ stop. stop ≡ Stop.ReadFailed → K.written out.new ≡ K.written out.old) }
     ensures status { IfOk result (λ reply. IsOwnStatus reply.status × (reply.status ≢ 2)) }
     ensures cause { CountsStop (F.faults files.old) (F.faults files.new) result }
     ensures asked { GrowsPart (F.asked files.old) (F.asked files.new) (file.now ∷ []) }
@@ -59,14 +66,21 @@ fn run_under<F: Files, K: Sink, L: Listener>(
     out: &mut K,
     listeners: &mut Listeners<L>,
 ) -> Result<Reply, Stop>
-    ensures hears { OnOk result (HearsUnder (F.held files.old) file.now (table_of bytes.now) listeners.old listeners.new) }
-    ensures answer { IfOk result (Completes (IsRunUnder (F.held files.old) name.now file.now state (table_of bytes.now)) (K.written out.old) (K.written out.new)) }
-    ensures stops { IfErr result (λ _. StopsUnder (table_of bytes.now) (F.held files.old) file.now (K.written out.old) (K.written out.new) listeners.old listeners.new) }
+    ensures hears { OnOk result
+        (HearsUnder (F.held files.old) file.now (table_of bytes.now) listeners.old listeners.new) }
+    ensures answer { IfOk result
+        (Completes (IsRunUnder (F.held files.old) name.now file.now state (table_of bytes.now))
+        (K.written out.old) (K.written out.new)) }
+    ensures stops { IfErr result
+        (λ _. StopsUnder (table_of bytes.now) (F.held files.old) file.now (K.written out.old)
+        (K.written out.new) listeners.old listeners.new) }
     ensures faults { CountsWriteStop (K.faults out.old) (K.faults out.new) result }
-    ensures unwritten { IfErr result (λ stop. stop ≡ Stop.ReadFailed → K.written out.new ≡ K.written out.old) }
+    ensures unwritten { IfErr result
+        (λ stop. stop ≡ Stop.ReadFailed → K.written out.new ≡ K.written out.old) }
     ensures status { IfOk result (λ reply. IsOwnStatus reply.status × (reply.status ≢ 2)) }
     ensures cause { CountsStop (F.faults files.old) (F.faults files.new) result }
-    ensures asked { GrowsPart (F.asked files.old) (F.asked files.new) (file_under file.now (table_of bytes.now)) }
+    ensures asked { GrowsPart (F.asked files.old) (F.asked files.new)
+        (file_under file.now (table_of bytes.now)) }
 {
     events_told_in_turn();
     match read(alloc, bytes) {
@@ -86,14 +100,22 @@ pub(crate) fn run_words<F: Files, K: Sink, L: Listener>(
     out: &mut K,
     listeners: &mut Listeners<L>,
 ) -> Result<Reply, Stop>
-    ensures hears { OnOk result (HearsAll (Some (Run costs.now file.now state)) (F.held files.old) listeners.old listeners.new) }
-    ensures answer { IfOk result (Completes (IsAnswer (Some (Run costs.now file.now state)) (F.held files.old)) (K.written out.old) (K.written out.new)) }
-    ensures stops { IfErr result (λ _. Stops (Some (Run costs.now file.now state)) (F.held files.old) (K.written out.old) (K.written out.new) listeners.old listeners.new) }
+    ensures hears { OnOk result
+        (HearsAll (Some (Run costs.now file.now state)) (F.held files.old) listeners.old
+        listeners.new) }
+    ensures answer { IfOk result
+        (Completes (IsAnswer (Some (Run costs.now file.now state)) (F.held files.old))
+        (K.written out.old) (K.written out.new)) }
+    ensures stops { IfErr result
+        (λ _. Stops (Some (Run costs.now file.now state)) (F.held files.old) (K.written out.old)
+        (K.written out.new) listeners.old listeners.new) }
     ensures faults { CountsWriteStop (K.faults out.old) (K.faults out.new) result }
-    ensures unwritten { IfErr result (λ stop. stop ≡ Stop.ReadFailed → K.written out.new ≡ K.written out.old) }
+    ensures unwritten { IfErr result
+        (λ stop. stop ≡ Stop.ReadFailed → K.written out.new ≡ K.written out.old) }
     ensures status { IfOk result (λ reply. IsOwnStatus reply.status × (reply.status ≢ 2)) }
     ensures cause { CountsStop (F.faults files.old) (F.faults files.new) result }
-    ensures asked { AsksPart (Some (Run costs.now file.now state)) (F.held files.old) (F.asked files.old) (F.asked files.new) }
+    ensures asked { AsksPart (Some (Run costs.now file.now state)) (F.held files.old)
+        (F.asked files.old) (F.asked files.new) }
 {
     events_told_in_turn();
     match files.read(costs) {

@@ -32,9 +32,10 @@ fn write_pieces<K: Sink>(pieces: &[Vec<u8>], out: &mut K) -> Result<(), Failed>
     Ok(())
 }
 
-/// Does what the words after the program's name ask for, writes the answer to `out` and gives the status. `run` tells the
-/// listeners the events of each entry that is committed, and then writes its lines, before the next entry is begun; the other
-/// commands tell nobody, and write once the answer is made.
+/// Does what the words after the program's name ask for, writes the answer to `out` and gives the
+/// status. `run` tells the listeners the events of each entry that is committed, and then writes
+/// its lines, before the next entry is begun; the other commands tell nobody, and write once the
+/// answer is made.
 ///
 /// | Status | Comes |
 /// |---|---|
@@ -78,8 +79,8 @@ pub fn clarity<F: Files, K: Sink, L: Listener>(
     ensures part { AnswersPart (taken (texts words.now)) (F.held files.old) (K.written out.old) (K.written out.new) }
     ensures asked { AsksPart (taken (texts words.now)) (F.held files.old) (F.asked files.old) (F.asked files.new) }
 
-    // Listeners hear the events that the file of `run` commits, or a first part of them; all, where the command was done. Nothing
-    // is written of an entry before its events were told.
+    // Listeners hear the events that the file of `run` commits, or a first part of them; all, where
+    // the command was done. Nothing is written of an entry before its events were told.
     ensures hears { HearsPart (taken (texts words.now)) (F.held files.old) listeners.old listeners.new }
     ensures hears_all { result ≢ 3 → result ≢ 4 → result ≢ 9 → HearsAll (taken (texts words.now)) (F.held files.old) listeners.old listeners.new }
     ensures hears_written { HearsWritten (taken (texts words.now)) (F.held files.old) (K.written out.old) (K.written out.new) listeners.old listeners.new }

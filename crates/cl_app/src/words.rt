@@ -26,13 +26,15 @@ pub(crate) enum Command<'a> {
         function: &'a str,
         args: &'a [String],
     },
-    /// What the entries of a transaction file come to under a file of costs, and with `state` the state after them.
+    /// What the entries of a transaction file come to under a file of costs, and with `state` the
+    /// state after them.
     Run {
         costs: &'a str,
         file: &'a str,
         state: bool,
     },
-    /// What becomes of the sources under these paths, one after another, as contracts under an address.
+    /// What becomes of the sources under these paths, one after another, as contracts under an
+    /// address.
     Check(CheckWords<'a>),
     /// The text of the value with this wire form.
     Value(&'a str),
@@ -60,7 +62,8 @@ fn command_with<'a>(name: &str, word: &'a str) -> Option<Command<'a>>
 
 /// `check` under this address.
 fn check_under<'a>(costs: &'a str, address: &str, paths: &'a [String]) -> Option<Command<'a>>
-    ensures { option_map command_seen result ≡ check_under costs.now (texts paths.now) (decoded address.now) }
+    ensures { option_map command_seen result
+        ≡ check_under costs.now (texts paths.now) (decoded address.now) }
 {
     let Ok(address) = decode(address.as_bytes()) else {
         return None;
@@ -116,7 +119,8 @@ fn command_with_words<'a>(
     second: &'a str,
     words: &'a [String],
 ) -> Option<Command<'a>>
-    ensures { option_map command_seen result ≡ command_with_words name.now first.now second.now (texts words.now) }
+    ensures { option_map command_seen result
+        ≡ command_with_words name.now first.now second.now (texts words.now) }
 {
     if name == "call" {
         return Some(Command::Call {

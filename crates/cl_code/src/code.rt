@@ -5,10 +5,11 @@ use cl_sexpr::Span;
 use cl_types::SizedTy;
 use std::marker::Model;
 
-/// A typed tree: what the node does with the values of its parts, its type, and the bytes of the text that its expression is
-/// spelled by. It has fewer than 1,048,576 parts, as many as its native takes, and its names are its own: no keyword is a
-/// binding or a constant, no native a function, and no key of a tuple stands twice. Contracts see the expression that it stands
-/// for, its type and its parts.
+/// A typed tree: what the node does with the values of its parts, its type, and the bytes of the
+/// text that its expression is spelled by. It has fewer than 1,048,576 parts, as many as its native
+/// takes, and its names are its own: no keyword is a binding or a constant, no native a function,
+/// and no key of a tuple stands twice. Contracts see the expression that it stands for, its type
+/// and its parts.
 #[derive(Drop)]
 pub struct Code {
     pub op: Op,
@@ -57,7 +58,8 @@ impl Code {
         requires few { length parts.items < 1048576 }
         requires fit { has_parts op (length parts.items) ≡ true }
         requires named { has_own_name op ≡ true }
-        ensures { result ≡ TypedAs (expression op (map expression_of parts.items) span) ty (typeds parts.items) }
+        ensures { result ≡ TypedAs (expression op (map expression_of parts.items) span) ty
+            (typeds parts.items) }
     {
         Code {
             op,

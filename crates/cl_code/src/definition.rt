@@ -11,7 +11,8 @@ pub struct Constant {
     pub span: Span,
 }
 
-/// A variable of a contract: its type, its first value, and the bytes of the text that its definition is spelled by.
+/// A variable of a contract: its type, its first value, and the bytes of the text that its
+/// definition is spelled by.
 #[derive(Drop)]
 pub struct Variable {
     pub name: Name,
@@ -20,7 +21,8 @@ pub struct Variable {
     pub span: Span,
 }
 
-/// A map of a contract: the types of its keys and its values, and the bytes of the text that its definition is spelled by.
+/// A map of a contract: the types of its keys and its values, and the bytes of the text that its
+/// definition is spelled by.
 #[derive(Drop)]
 pub struct MapOf {
     pub name: Name,
@@ -29,7 +31,8 @@ pub struct MapOf {
     pub span: Span,
 }
 
-/// A fungible token with its greatest supply, if it has one, and the bytes of the text that its definition is spelled by.
+/// A fungible token with its greatest supply, if it has one, and the bytes of the text that its
+/// definition is spelled by.
 #[derive(Drop)]
 pub struct Fungible {
     pub name: Name,
@@ -37,7 +40,8 @@ pub struct Fungible {
     pub span: Span,
 }
 
-/// A non-fungible token with the type of an asset's id, and the bytes of the text that its definition is spelled by.
+/// A non-fungible token with the type of an asset's id, and the bytes of the text that its
+/// definition is spelled by.
 #[derive(Drop)]
 pub struct NonFungible {
     pub name: Name,
@@ -45,8 +49,8 @@ pub struct NonFungible {
     pub span: Span,
 }
 
-/// A function of a contract: its parameters with their types, the type that it gives, the height of its application, its
-/// body, and the bytes of the text that its definition is spelled by.
+/// A function of a contract: its parameters with their types, the type that it gives, the height of
+/// its application, its body, and the bytes of the text that its definition is spelled by.
 #[derive(Drop)]
 pub struct Function {
     pub name: Name,

@@ -1,4 +1,5 @@
-//! Typed trees: the expressions of a contract as they are evaluated, each with its type and its place in the text.
+//! Typed trees: the expressions of a contract as they are evaluated, each with its type and its
+//! place in the text.
 #![tactic(auto)]
 
 mod code;

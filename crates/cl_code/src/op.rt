@@ -11,7 +11,8 @@ pub struct Word {
     pub span: Span,
 }
 
-/// A name in round brackets with an expression, which is a part of the node: the name, and the bytes of the brackets.
+/// A name in round brackets with an expression, which is a part of the node: the name, and the
+/// bytes of the brackets.
 #[derive(Clone, Copy)]
 pub struct Binding {
     pub word: Word,
@@ -66,7 +67,8 @@ pub enum PartsNative {
     BurnStx,
 }
 
-/// A native whose first argument is the name of a key, a variable, a map or a token, which isn't evaluated.
+/// A native whose first argument is the name of a key, a variable, a map or a token, which isn't
+/// evaluated.
 #[derive(Clone, Copy, Debug, PartialEq, Eq)]
 pub enum NameNative {
     /// `get`
@@ -146,7 +148,8 @@ pub struct Callee {
     pub length: u32,
 }
 
-/// What a node does, with the names and literals that aren't evaluated. `head` is the place of the native's name.
+/// What a node does, with the names and literals that aren't evaluated. `head` is the place of the
+/// native's name.
 #[derive(Drop)]
 pub enum Op {
     /// An int literal.

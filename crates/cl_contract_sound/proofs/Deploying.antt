@@ -47,7 +47,7 @@ use Rattle.cl_contract_sound.proofs.Contexts.{behind, stands_in}
 use Rattle.cl_contract_sound.proofs.States.{variable_kept, still_there, after_put}
 use Rattle.cl_contract_sound.proofs.Holdings.{ledger_kept}
 use Rattle.cl_contract_sound.proofs.Functions.{is_world}
-use Rattle.cl_contract_sound.proofs.Stage.{found_front, distinct_front, known_behind, kept_front, grown, with_others}
+use Rattle.cl_contract_sound.proofs.MidDeployment.{found_front, distinct_front, known_behind, kept_front, grown, with_others}
 use Rattle.cl_values.specs.Typed.{IsOf}
 use Rattle.cl_values.proofs.OfTypes.{raised_of, no_larger}
 

@@ -8,7 +8,7 @@ pub mod Signed
 pub mod Named
 pub mod Functions
 pub mod UnderLimits
-pub mod Stage
+pub mod MidDeployment
 pub mod Deploying
 pub mod NextNode
-pub mod Texts
+pub mod TextDeployments

@@ -16,7 +16,7 @@ use Rattle.cl_rules.specs.Acceptance.{Accepted, known_of}
 use Rattle.cl_expression_sound.specs.Stages.{AreDistinct}
 use Rattle.cl_contract_sound.specs.Nodes.{AreOfTexts, none_yet, and_one, IsNode}
 use Rattle.cl_contract_sound.specs.Deployments.{with_values, IsDone, of_text}
-use Rattle.cl_contract_sound.proofs.Stage.{in_front, found_front, found_behind, another, distinct_front}
+use Rattle.cl_contract_sound.proofs.MidDeployment.{in_front, found_front, found_behind, another, distinct_front}
 use Rattle.cl_contract_sound.proofs.Naming.{AreAll}
 use Rattle.cl_contract_sound.proofs.OfTexts.{known_last, known_still, not_there}
 

@@ -2,6 +2,7 @@
 use Rattle.std.proofs.Common.{◌≡◌, ◌⊎◌, inl, inr, ℕ, Bool, true, false, List, [], ◌∷◌, filter_map, slice_get, Option, Some, None, refl, sym, ap, ◌∙◌}
 use Rattle.std.specs.Prelude.{if◌then◌else◌, ◌||◌, nat_eq, option_map, option_and_then}
 use Rattle.std.specs.List.{cons_option}
+use Rattle.std.specs.Option.{option_or}
 use Rattle.std.proofs.lemmas.Bool.{eqb-true}
 use Rattle.cl_forms.specs.Forms.{Form}
 use Rattle.cl_forms.specs.Names.{name_at}
@@ -17,19 +18,15 @@ use Rattle.cl_contracts.specs.Seen.{forms_of, definition_under, IsIndexed}
 use Rattle.cl_contracts.specs.Standings.{AllStand, StandsAs, definitions_in_order}
 use Rattle.cl_contracts.proofs.Places.{get_map, within, has_it, self_same}
 
-abbrev pub or_else : {A : Type 0} → Option A → Option A → Option A
-or_else None b = b
-or_else (Some a) b = Some a
-
-or_more : {A : Type 0} (a b c : Option A) → or_else (or_else a b) c ≡ or_else a (or_else b c)
+or_more : {A : Type 0} (a b c : Option A) → option_or (option_or a b) c ≡ option_or a (option_or b c)
 or_more None b c = refl
 or_more (Some x) b c = refl
 
-pub or_none : {A : Type 0} (a : Option A) → or_else a None ≡ a
+pub or_none : {A : Type 0} (a : Option A) → option_or a None ≡ a
 or_none None = refl
 or_none (Some x) = refl
 
-map_or : {A B : Type 0} (f : A → B) (a b : Option A) → option_map f (or_else a b) ≡ or_else (option_map f a) (option_map f b)
+map_or : {A B : Type 0} (f : A → B) (a b : Option A) → option_map f (option_or a b) ≡ option_or (option_map f a) (option_map f b)
 map_or f None b = refl
 map_or f (Some x) b = refl
 
@@ -46,24 +43,24 @@ one_of kind x d = if_so (has_name x (form_defined d).name) (kind d)
 -- the first such
 abbrev pub among : {A : Type 0} → (Definition → Option A) → List ℕ → List Definition → Option A
 among kind x [] = None
-among kind x (d ∷ ds) = or_else (one_of kind x d) (among kind x ds)
+among kind x (d ∷ ds) = option_or (one_of kind x d) (among kind x ds)
 
 -- what is shown of the first such is what is defined, where it is so of each definition
 module _ {A B : Type 0} (kind : Definition → Option A) (shown : A → B) (x : List ℕ) (has : Defined → Option B)
-    (one : (D : Defined) (d : Definition) (fs : List Found) → StandsAs D d fs → has (defined_after D (form_defined d) fs) ≡ or_else (has D) (option_map shown (one_of kind x d))) where
-  pub all_defined : (D E : Defined) (ds : List Definition) → AllStand D ds E → has E ≡ or_else (has D) (option_map shown (among kind x ds))
+    (one : (D : Defined) (d : Definition) (fs : List Found) → StandsAs D d fs → has (defined_after D (form_defined d) fs) ≡ option_or (has D) (option_map shown (one_of kind x d))) where
+  pub all_defined : (D E : Defined) (ds : List Definition) → AllStand D ds E → has E ≡ option_or (has D) (option_map shown (among kind x ds))
   all_defined D E [] s = ap has (sym s) ∙ sym (or_none (has D))
   all_defined D E (d ∷ ds) s =
       all_defined (defined_after D (form_defined d) s.0) E ds s.2
-      ∙ ap (λ (o : Option B). or_else o (option_map shown (among kind x ds))) (one D d s.0 s.1)
+      ∙ ap (λ (o : Option B). option_or o (option_map shown (among kind x ds))) (one D d s.0 s.1)
       ∙ or_more (has D) (option_map shown (one_of kind x d)) (option_map shown (among kind x ds))
-      ∙ ap (or_else (has D)) (sym (map_or shown (one_of kind x d) (among kind x ds)))
+      ∙ ap (option_or (has D)) (sym (map_or shown (one_of kind x d) (among kind x ds)))
 
 -- ---- the definition of a name is the one at its place
 
 abbrev first_at : {A : Type 0} → (ℕ → Option A) → List ℕ → Option A
 first_at one [] = None
-first_at one (n ∷ ns) = or_else (one n) (first_at one ns)
+first_at one (n ∷ ns) = option_or (one n) (first_at one ns)
 
 -- where nothing but one answer is given, and it is given somewhere, it is the first
 first_is : {A : Type 0} (one : ℕ → Option A) (t : Option A) (ns : List ℕ) → ((n : ℕ) → (one n ≡ None) ⊎ (one n ≡ t)) → ((m : ℕ) × (is_in m ns ≡ true) × (one m ≡ t)) ⊎ (t ≡ None) → first_at one ns ≡ t
@@ -79,7 +76,7 @@ first_is {A = A} one t (n ∷ ns) each s = by (one n) refl (each n) (first_is on
     turn none (inl h) = at h.0 (nat_eq h.0 n) refl h.1 h.2 none
     turn none (inr h) = inr h
 
-    by : (o : Option A) → one n ≡ o → (one n ≡ None) ⊎ (one n ≡ t) → (((m : ℕ) × (is_in m ns ≡ true) × (one m ≡ t)) ⊎ (t ≡ None) → first_at one ns ≡ t) → ((m : ℕ) × (is_in m (n ∷ ns) ≡ true) × (one m ≡ t)) ⊎ (t ≡ None) → or_else o (first_at one ns) ≡ t
+    by : (o : Option A) → one n ≡ o → (one n ≡ None) ⊎ (one n ≡ t) → (((m : ℕ) × (is_in m ns ≡ true) × (one m ≡ t)) ⊎ (t ≡ None) → first_at one ns ≡ t) → ((m : ℕ) × (is_in m (n ∷ ns) ≡ true) × (one m ≡ t)) ⊎ (t ≡ None) → option_or o (first_at one ns) ≡ t
     by None e one_is rest h = rest (turn e h)
     by (Some a) e (inl none) rest h = absurd cc
     by (Some a) e (inr is) rest h = sym e ∙ is
@@ -100,9 +97,9 @@ module _ {A : Type 0} (kind : Definition → Option A) (x : List ℕ) (c : Check
   among_places (n ∷ ns) = by (slice_get c.definitions.items n) (among_places ns)
     where
       by : (o : Option Definition) → among kind x (filter_map (slice_get c.definitions.items) ns) ≡ first_at one_at ns →
-          among kind x (cons_option o (filter_map (slice_get c.definitions.items) ns)) ≡ or_else (option_and_then (one_of kind x) o) (first_at one_at ns)
+          among kind x (cons_option o (filter_map (slice_get c.definitions.items) ns)) ≡ option_or (option_and_then (one_of kind x) o) (first_at one_at ns)
       by None rest = rest
-      by (Some d) rest = ap (or_else (one_of kind x d)) rest
+      by (Some d) rest = ap (option_or (one_of kind x d)) rest
 
   named_at : (n : ℕ) (d : Definition) → slice_get c.definitions.items n ≡ Some d → name_at (forms_of c) n ≡ (form_defined d).name
   named_at n d h = ap (option_and_then (λ (f : Form). f.name)) (get_map c.definitions.items n ∙ ap (option_map form_defined) h)

@@ -2,6 +2,7 @@
 use Rattle.std.proofs.Common.{◌≡◌, ℕ, Bool, true, false, List, [], ◌∷◌, ◌++◌, Option, Some, None, refl, sym, ap, subst, ◌∙◌}
 use Rattle.std.specs.Prelude.{if◌then◌else◌, nat_eq, option_map, option_and_then}
 use Rattle.std.specs.Cmp.Lexicographic.{pointwise}
+use Rattle.std.specs.Option.{option_or}
 use Rattle.cl_types.specs.Types.{PlainType}
 use Rattle.cl_values.specs.Tree.{Tree as Val}
 use Rattle.cl_values.specs.Inhabits.{inhabits}
@@ -20,19 +21,19 @@ use Rattle.cl_contracts.specs.Known.{ConstantsAsKept}
 use Rattle.cl_contracts.specs.Seen.{as_constant, constant_under, definition_under, type_given, IsConstant, AreConstants}
 use Rattle.cl_contracts.specs.Standing.{Stands}
 use Rattle.cl_contracts.specs.Standings.{StandsAs, definitions_in_order}
-use Rattle.cl_contracts.proofs.Among.{or_else, or_none, one_of, all_defined, among_is}
+use Rattle.cl_contracts.proofs.Among.{or_none, one_of, all_defined, among_is}
 
 -- ---- what definitions define
 
 type_stands : (G : Context) (B : Names) (q : Typed) (f : Found) → Stands G B q f → type_of q ≡ f.type
 type_stands G B (TypedAs e t ps) f s = s.5
 
-one_more : (x : List ℕ) (cs : Names) (c : List ℕ × PlainType) → named_in x (cs ++ c ∷ []) ≡ or_else (named_in x cs) (named_in x (c ∷ []))
+one_more : (x : List ℕ) (cs : Names) (c : List ℕ × PlainType) → named_in x (cs ++ c ∷ []) ≡ option_or (named_in x cs) (named_in x (c ∷ []))
 one_more x [] c = refl
 one_more x (d ∷ cs) c = by (pointwise nat_eq d.0 x) (one_more x cs c)
   where
-    by : (b : Bool) → named_in x (cs ++ c ∷ []) ≡ or_else (named_in x cs) (named_in x (c ∷ [])) →
-        (if b then Some d.1 else named_in x (cs ++ c ∷ [])) ≡ or_else (if b then Some d.1 else named_in x cs) (named_in x (c ∷ []))
+    by : (b : Bool) → named_in x (cs ++ c ∷ []) ≡ option_or (named_in x cs) (named_in x (c ∷ [])) →
+        (if b then Some d.1 else named_in x (cs ++ c ∷ [])) ≡ option_or (if b then Some d.1 else named_in x cs) (named_in x (c ∷ []))
     by true rest = refl
     by false rest = rest
 
@@ -44,16 +45,16 @@ type_shown x c t is = by (pointwise nat_eq c.name x)
     by true = ap (λ (t : PlainType). Some t) (sym is)
     by false = refl
 
-same_constants : (x : List ℕ) (cs : Names) → named_in x cs ≡ or_else (named_in x cs) None
+same_constants : (x : List ℕ) (cs : Names) → named_in x cs ≡ option_or (named_in x cs) None
 same_constants x cs = sym (or_none (named_in x cs))
 
 -- one definition more
 with_one : (x : List ℕ) (D : Defined) (d : Definition) (fs : List Found) → StandsAs D d fs →
-    named_in x (defined_after D (form_defined d) fs).context.constants ≡ or_else (named_in x D.context.constants) (option_map type_given (one_of as_constant x d))
+    named_in x (defined_after D (form_defined d) fs).context.constants ≡ option_or (named_in x D.context.constants) (option_map type_given (one_of as_constant x d))
 with_one x D (Constant c) [] s = absurd s.trees
 with_one x D (Constant c) (f ∷ fs) s =
     one_more x D.context.constants (c.name, f.type)
-    ∙ ap (or_else (named_in x D.context.constants)) (type_shown x c f.type (type_stands D.context [] c.value f s.trees.1))
+    ∙ ap (option_or (named_in x D.context.constants)) (type_shown x c f.type (type_stands D.context [] c.value f s.trees.1))
 with_one x D (Variable c) fs s = same_constants x D.context.constants
 with_one x D (MapOf c) fs s = same_constants x D.context.constants
 with_one x D (Fungible c) fs s = same_constants x D.context.constants

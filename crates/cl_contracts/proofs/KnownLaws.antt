@@ -2,6 +2,7 @@
 use Rattle.std.proofs.Common.{◌≡◌, ℕ, suc, Bool, true, false, List, [], ◌∷◌, ◌++◌, Option, Some, None, refl, sym, ap, subst, ◌∙◌}
 use Rattle.std.specs.Prelude.{if◌then◌else◌, nat_eq, option_map, unwrap_or}
 use Rattle.std.specs.Cmp.Lexicographic.{pointwise}
+use Rattle.std.specs.Option.{option_or}
 use Rattle.cl_types.specs.Types.{NoType}
 use Rattle.cl_c32.specs.declared.principal.Principal.{Principal}
 use Rattle.cl_code.specs.declared.definition.Function.{Function as TypedFunction}
@@ -16,7 +17,7 @@ use Rattle.cl_contracts.specs.declared.checked.Checked.{Checked}
 use Rattle.cl_contracts.specs.declared.contract.Contract.{Contract}
 use Rattle.cl_contracts.specs.Seen.{function_under, as_function, contract_under, IsIndexed, AreEntries}
 use Rattle.cl_contracts.specs.Standings.{AllStand, StandsAs, AreStanding, definitions_in_order}
-use Rattle.cl_contracts.proofs.Among.{or_else, or_none, one_of, all_defined, among_is}
+use Rattle.cl_contracts.proofs.Among.{or_none, one_of, all_defined, among_is}
 use Rattle.cl_contracts.specs.Known.{Shown, seen, shown, AreKnownAs, KnownAsDeployed, DefinedAsKept}
 
 -- ---- what is known of functions
@@ -24,12 +25,12 @@ use Rattle.cl_contracts.specs.Known.{Shown, seen, shown, AreKnownAs, KnownAsDepl
 abbrev known_function : List ℕ → List Signature → Option Shown
 known_function x fs = option_map seen (signature_in x fs)
 
-one_more : (x : List ℕ) (fs : List Signature) (f : Signature) → known_function x (fs ++ f ∷ []) ≡ or_else (known_function x fs) (known_function x (f ∷ []))
+one_more : (x : List ℕ) (fs : List Signature) (f : Signature) → known_function x (fs ++ f ∷ []) ≡ option_or (known_function x fs) (known_function x (f ∷ []))
 one_more x [] f = refl
 one_more x (g ∷ fs) f = by (pointwise nat_eq g.name x) (one_more x fs f)
   where
-    by : (b : Bool) → known_function x (fs ++ f ∷ []) ≡ or_else (known_function x fs) (known_function x (f ∷ [])) →
-        option_map seen (if b then Some g else signature_in x (fs ++ f ∷ [])) ≡ or_else (option_map seen (if b then Some g else signature_in x fs)) (known_function x (f ∷ []))
+    by : (b : Bool) → known_function x (fs ++ f ∷ []) ≡ option_or (known_function x fs) (known_function x (f ∷ [])) →
+        option_map seen (if b then Some g else signature_in x (fs ++ f ∷ [])) ≡ option_or (option_map seen (if b then Some g else signature_in x fs)) (known_function x (f ∷ []))
     by true rest = refl
     by false rest = rest
 
@@ -45,12 +46,12 @@ signature_shown x f found returns height = by (pointwise nat_eq f.name x)
     by true = ap (λ (s : Shown). Some s) is
     by false = refl
 
-same_functions : (x : List ℕ) (fs : List Signature) → known_function x fs ≡ or_else (known_function x fs) None
+same_functions : (x : List ℕ) (fs : List Signature) → known_function x fs ≡ option_or (known_function x fs) None
 same_functions x fs = sym (or_none (known_function x fs))
 
 -- one definition more
 with_one : (x : List ℕ) (D : Defined) (d : Definition) (fs : List Found) → StandsAs D d fs →
-    known_function x (defined_after D (form_defined d) fs).context.functions ≡ or_else (known_function x D.context.functions) (option_map shown (one_of as_function x d))
+    known_function x (defined_after D (form_defined d) fs).context.functions ≡ option_or (known_function x D.context.functions) (option_map shown (one_of as_function x d))
 with_one x D (Constant c) [] s = same_functions x D.context.functions
 with_one x D (Constant c) (f ∷ fs) s = same_functions x D.context.functions
 with_one x D (Variable c) fs s = same_functions x D.context.functions
@@ -60,7 +61,7 @@ with_one x D (NonFungible c) fs s = same_functions x D.context.functions
 with_one x D (Function f) [] s = absurd s.trees
 with_one x D (Function f) (found ∷ fs) s =
     one_more x D.context.functions (signature_of f.name f.access f.params.items found)
-    ∙ ap (or_else (known_function x D.context.functions)) (signature_shown x f found s.facts.0 s.facts.1)
+    ∙ ap (option_or (known_function x D.context.functions)) (signature_shown x f found s.facts.0 s.facts.1)
 with_one x D (TopLevel c) fs s = same_functions x D.context.functions
 
 -- ---- contracts

@@ -1,21 +1,19 @@
 -- The contract of a principal.
-use Rattle.std.proofs.Common.{◌≡◌, ℕ, ◌≤◌, Bool, true, false, cond, List, [], ◌∷◌, ◌++◌, length, map, Option, Some, None, refl, sym, ap, subst, ◌∙◌, lit≤, rules, arith, Bor}
-use Rattle.std.specs.Prelude.{◌&&◌, nat_eq, if◌then◌else◌, option_map, option_copied, IfSome}
+use Rattle.std.proofs.Common.{◌≡◌, ℕ, ◌≤◌, Bool, true, false, cond, List, [], ◌∷◌, ◌++◌, length, map, Option, Some, None, refl, sym, ap, subst, ◌∙◌, lit≤, arith, Bor}
+use Rattle.std.specs.Prelude.{if◌then◌else◌, option_map, option_copied, IfSome}
 use Rattle.std.specs.Cmp.{both_ways}
-use Rattle.std.specs.Cmp.Lexicographic.{pointwise}
 use Rattle.std.specs.Map.{lookup}
-use Rattle.std.proofs.lemmas.Cmp.{nat_eq_equiv, nat_list_eq_equiv}
-use Rattle.std.proofs.lemmas.Bool.{and_parts, eqb-true}
-use Rattle.cl_types.proofs.Lattice.{keys_equal}
 use Rattle.cl_c32.specs.declared.principal.Principal.{Principal}
 use Rattle.cl_c32.specs.contracts.principal.PrincipalPartialEq.TheImpl.{eq-value}
+use Rattle.cl_c32.proofs.Principals.{principal_itself, principals_turned, same_in_code}
+pub use Rattle.cl_c32.proofs.Principals.{principals_equal, principals_turned as same_principal_turned}
 use Rattle.cl_maps.proofs.MapLaws.{same_keys, self_equal}
 use Rattle.cl_values.specs.Tree.{Tree, PrincipalV}
 use Rattle.cl_values.specs.Wire.{wire, contract_size}
 use Rattle.cl_values.specs.Valid.{IsVal, IsPrincipal, IsContractPart}
 use Rattle.cl_events.specs.State.{holder, is_principal}
 use Rattle.cl_meaning.specs.Deployed.{contract_at}
-use Rattle.cl_rules.specs.Context.{same_part, same_principal}
+use Rattle.cl_rules.specs.Context.{same_principal}
 use Rattle.cl_contracts.specs.declared.contract.Contract.{Contract}
 use Rattle.cl_contracts.specs.Seen.{contract_seen, contract_under, IsEntry, AreEntries}
 
@@ -41,53 +39,18 @@ one_principal own p q vp vq e =
     let same : PrincipalV p ≡ PrincipalV q = own (PrincipalV p) (PrincipalV q) (principal_is_val p vp) (principal_is_val q vq) spelled in
     cc
 
-same_part_turned : (p q : Option (List ℕ)) → same_part p q ≡ same_part q p
-same_part_turned None None = refl
-same_part_turned None (Some y) = refl
-same_part_turned (Some x) None = refl
-same_part_turned (Some x) (Some y) = nat_list_eq_equiv.symm x y
-
-pub same_principal_turned : (p q : Principal) → same_principal p q ≡ same_principal q p
-same_principal_turned p q = λ i. nat_eq_equiv.symm p.address.version q.address.version i && nat_list_eq_equiv.symm p.address.hash q.address.hash i && same_part_turned p.contract q.contract i
-
-same_part_itself : (p : Option (List ℕ)) → same_part p p ≡ true
-same_part_itself None = refl
-same_part_itself (Some x) = nat_list_eq_equiv.refl x
-
-pub same_itself : (p : Principal) → same_principal p p ≡ true
-same_itself p = λ i. nat_eq_equiv.refl p.address.version i && nat_list_eq_equiv.refl p.address.hash i && same_part_itself p.contract i
-
-part_equal : (p q : Option (List ℕ)) → same_part p q ≡ true → p ≡ q
-part_equal None None h = refl
-part_equal None (Some y) h = absurd cc
-part_equal (Some x) None h = absurd cc
-part_equal (Some x) (Some y) h = ap (λ (z : List ℕ). Some z) (keys_equal x y h)
-
--- principals are told apart part by part
-pub principals_equal : (p q : Principal) → same_principal p q ≡ true → p ≡ q
-principals_equal p q h =
-    let both = and_parts (nat_eq p.address.version q.address.version && pointwise nat_eq p.address.hash q.address.hash) (same_part p.contract q.contract) h in
-    let front = and_parts (nat_eq p.address.version q.address.version) (pointwise nat_eq p.address.hash q.address.hash) both.0 in
-    let version : p.address.version ≡ q.address.version = eqb-true p.address.version q.address.version front.0 in
-    let hash : p.address.hash ≡ q.address.hash = keys_equal p.address.hash q.address.hash front.1 in
-    let part : p.contract ≡ q.contract = part_equal p.contract q.contract both.1 in
-    λ i. record { address = record { version = version i; hash = hash i }; contract = part i }
-
 -- the test by parts is the test by keys
 pub same_so : OwnSpelling → (p q : Principal) → IsPrincipal p → IsPrincipal q → same_principal p q ≡ is_principal p q
 same_so own p q vp vq = both_ways (same_principal p q) (is_principal p q)
     (λ h. ap (λ (r : Principal). is_principal p r) (sym (principals_equal p q h)) ∙ self_equal (holder p))
-    (λ h. ap (λ (r : Principal). same_principal p r) (sym (one_principal own p q vp vq h)) ∙ same_itself p)
+    (λ h. ap (λ (r : Principal). same_principal p r) (sym (one_principal own p q vp vq h)) ∙ principal_itself p)
 
 -- ---- look-ups
-
-equal_so : (p q : Principal) → eq-value.it p q ≡ same_principal p q
-equal_so p q = search rules
 
 -- a table's look-up is that of the definitions
 pub under_principal : (p : Principal) (es : List (Principal × Contract)) → lookup (eq-value.it p) es ≡ contract_under p es
 under_principal p [] = refl
-under_principal p (e ∷ es) = ap (λ (b : Bool). cond b (Some e.1) (lookup (eq-value.it p) es)) (equal_so p e.0 ∙ same_principal_turned p e.0) ∙ ap (λ (o : Option Contract). cond (same_principal e.0 p) (Some e.1) o) (under_principal p es)
+under_principal p (e ∷ es) = ap (λ (b : Bool). cond b (Some e.1) (lookup (eq-value.it p) es)) (same_in_code p e.0 ∙ principals_turned p e.0) ∙ ap (λ (o : Option Contract). cond (same_principal e.0 p) (Some e.1) o) (under_principal p es)
 
 -- what is found is what evaluations see
 pub contract_is : OwnSpelling → (p : Principal) (es : List (Principal × Contract)) → IsPrincipal p → AreEntries es → option_map (λ (c : Contract). contract_seen (p, c)) (contract_under p es) ≡ contract_at p (map contract_seen es)

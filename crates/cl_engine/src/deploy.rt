@@ -105,7 +105,8 @@ fn deploy_bounded(
     }
 }
 
-/// Deploys a contract that breaks no rule before the bounds, or says whose bound is above the limit.
+/// Deploys a contract that breaks no rule before the bounds, or says whose bound is above the
+/// limit.
 fn deploy_checked(
     alloc: Global,
     world: &mut World,

@@ -45,7 +45,10 @@ fn settle(
     spent: Cost5,
 ) -> Result<Ran, NoMemory>
     requires { length world.old.stack.below ≡ 1 }
-    ensures ended { IfOk result (λ ran. EndsAs (Ok constants) (holds world.old.stack.top.moves common.now.mode common.now.conditions) spent ran world.old.stack world.new.stack.top) }
+    ensures ended { IfOk result
+        (λ ran. EndsAs (Ok constants)
+        (holds world.old.stack.top.moves common.now.mode common.now.conditions) spent ran
+        world.old.stack world.new.stack.top) }
     ensures base { world.new.stack.below ≡ [] }
     ensures refused { OnErr result (world.new.stack.top ∷ [] ≡ world.old.stack.below) }
 {
@@ -65,8 +68,8 @@ fn settle(
     }
 }
 
-/// Ends a deployment that was evaluated on a layer of its own and has spent so much. The layer becomes the base where the
-/// deployment is done, and is dropped where it stops.
+/// Ends a deployment that was evaluated on a layer of its own and has spent so much. The layer
+/// becomes the base where the deployment is done, and is dropped where it stops.
 fn finish(
     alloc: Global,
     world: &mut World,
@@ -75,7 +78,9 @@ fn finish(
     spent: Cost5,
 ) -> Result<Ran, NoMemory>
     requires { length world.old.stack.below ≡ 1 }
-    ensures ended { IfOk result (λ ran. EndsAs ended (holds world.old.stack.top.moves common.now.mode common.now.conditions) spent ran world.old.stack world.new.stack.top) }
+    ensures ended { IfOk result
+        (λ ran. EndsAs ended (holds world.old.stack.top.moves common.now.mode common.now.conditions)
+        spent ran world.old.stack world.new.stack.top) }
     ensures base { world.new.stack.below ≡ [] }
     ensures refused { OnErr result (world.new.stack.top ∷ [] ≡ world.old.stack.below) }
 {
@@ -92,7 +97,8 @@ fn finish(
     }
 }
 
-/// Evaluates the deployment of an accepted contract, on a layer of its own and under the limit of the entry.
+/// Evaluates the deployment of an accepted contract, on a layer of its own and under the limit of
+/// the entry.
 pub(crate) fn run(
     alloc: Global,
     world: &mut World,
@@ -108,7 +114,10 @@ pub(crate) fn run(
     requires accepted { IsAcceptedAfter (deployed_seen deployed.now) world.old.stack.top checked.now }
     requires home { checked.now.principal ≡ frame.now.contract }
     requires tokens { HasNoTokens frame.now.contract world.old.stack.top }
-    ensures runs { IfOk result (λ ran. Runs common.now (limited (function_of costs.now) (purse_of common.now) (deployment (deployed_seen deployed.now) (frame_seen frame.now) (contract_with checked.now []) world.old.stack.top))
+    ensures runs { IfOk result
+        (λ ran. Runs common.now (limited (function_of costs.now) (purse_of common.now)
+        (deployment (deployed_seen deployed.now) (frame_seen frame.now)
+        (contract_with checked.now []) world.old.stack.top))
         checked.now ran world.old.stack.top world.new.stack.top) }
     ensures base { world.new.stack.below ≡ [] }
     ensures refused { OnErr result (world.new.stack.top ≡ world.old.stack.top) }

@@ -40,7 +40,8 @@ fn keep(
     spent: Cost5,
 ) -> Result<TxResult, NoMemory>
     requires { length world.old.stack.below ≡ 1 }
-    ensures told { IfOk result (λ r. r ≡ result_of nothing_told outcome (Some spent) world.old.stack.top.events) }
+    ensures told { IfOk result
+        (λ r. r ≡ result_of nothing_told outcome (Some spent) world.old.stack.top.events) }
     ensures kept { IfOk result (λ r. world.new.stack.top ≡ at_rest world.old.stack.top) }
     ensures base { world.new.stack.below ≡ [] }
     ensures refused { OnErr result (world.new.stack.top ∷ [] ≡ world.old.stack.below) }
@@ -70,7 +71,8 @@ fn settle(
 ) -> Result<TxResult, NoMemory>
     requires { length world.old.stack.below ≡ 1 }
     ensures settled { IfOk result (λ r. (node : NodeSeen) → node.state ∷ [] ≡ world.old.stack.below →
-        settled common.now node node nothing_told outcome spent world.old.stack.top ≡ record { node = record node { state = world.new.stack.top }; result = r }) }
+        settled common.now node node nothing_told outcome spent world.old.stack.top
+        ≡ record { node = record node { state = world.new.stack.top }; result = r }) }
     ensures base { world.new.stack.below ≡ [] }
     ensures refused { OnErr result (world.new.stack.top ∷ [] ≡ world.old.stack.below) }
 {
@@ -95,7 +97,8 @@ fn answer_with(
     requires response { access ≡ Access.Public → IsResponse value }
     requires layer { length world.old.stack.below ≡ 1 }
     ensures ended { IfOk result (λ r. (node : NodeSeen) → node.state ∷ [] ≡ world.old.stack.below →
-        answered common.now access value node spent world.old.stack.top ≡ Some (record { node = record node { state = world.new.stack.top }; result = r })) }
+        answered common.now access value node spent world.old.stack.top
+        ≡ Some (record { node = record node { state = world.new.stack.top }; result = r })) }
     ensures base { world.new.stack.below ≡ [] }
     ensures refused { OnErr result (world.new.stack.top ∷ [] ≡ world.old.stack.below) }
 {
@@ -121,7 +124,8 @@ fn answer_with(
 /// Ends a call that aborts.
 fn abort_with(alloc: Global, world: &mut World, abort: Abort, spent: Cost5) -> TxResult
     requires { length world.old.stack.below ≡ 1 }
-    ensures told { result ≡ result_of nothing_told (Outcome.Aborted (stop_by abort)) (Some (cost_by abort spent)) [] }
+    ensures told { result ≡ result_of nothing_told (Outcome.Aborted (stop_by abort))
+        (Some (cost_by abort spent)) [] }
     ensures base { world.new.stack.below ≡ [] }
     ensures undone { world.new.stack.top ∷ [] ≡ world.old.stack.below }
 {
@@ -133,7 +137,8 @@ fn abort_with(alloc: Global, world: &mut World, abort: Abort, spent: Cost5) -> T
     )
 }
 
-/// Ends a call of a function of this access, which answers this on a layer of its own and has spent so much.
+/// Ends a call of a function of this access, which answers this on a layer of its own and has spent
+/// so much.
 pub(crate) fn finish(
     alloc: Global,
     world: &mut World,
@@ -145,8 +150,10 @@ pub(crate) fn finish(
     requires fine { MayAnswer access answer }
     requires layer { length world.old.stack.below ≡ 1 }
     ensures ended { IfOk result (λ r. (l : Limited Tree) (q : Purse) (node : NodeSeen) →
-        Answers l answer q world.old.stack.top → q.spent ≡ spent → node.state ∷ [] ≡ world.old.stack.below →
-        call_ended common.now access node l ≡ Some (record { node = record node { state = world.new.stack.top }; result = r })) }
+        Answers l answer q world.old.stack.top → q.spent ≡ spent →
+        node.state ∷ [] ≡ world.old.stack.below →
+        call_ended common.now access node l
+        ≡ Some (record { node = record node { state = world.new.stack.top }; result = r })) }
     ensures base { world.new.stack.below ≡ [] }
     ensures refused { OnErr result (world.new.stack.top ∷ [] ≡ world.old.stack.below) }
 {

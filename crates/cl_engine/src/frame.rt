@@ -29,7 +29,13 @@ pub(crate) fn principal_of(common: &Common, name: &ContractName) -> Principal
 
 /// The frame of what a sender runs in a contract.
 pub(crate) fn frame_of(common: &Common, contract: &Principal, height: u64) -> Frame
-    ensures { frame_seen result ≡ record { contract = contract.now; sender = person common.now.sender; caller = person common.now.sender; height = height } }
+    ensures { frame_seen result
+        ≡ record {
+          contract = contract.now;
+          sender = person common.now.sender;
+          caller = person common.now.sender;
+          height = height;
+        } }
 {
     Frame {
         contract: *contract,

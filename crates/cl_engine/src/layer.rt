@@ -40,7 +40,8 @@ fn committed(alloc: Global, world: &mut World) -> Result<Vec<Event>, NoMemory>
     Ok(events)
 }
 
-/// Makes the one layer the base, and gives its events; where there is no memory for that, takes it off.
+/// Makes the one layer the base, and gives its events; where there is no memory for that, takes it
+/// off.
 pub(crate) fn keep(alloc: Global, world: &mut World) -> Result<Vec<Event>, NoMemory>
     requires { length world.old.stack.below ≡ 1 }
     ensures events { IfOk result (λ events. events.items ≡ world.old.stack.top.events) }

@@ -19,8 +19,10 @@ use cl_values::{Val, inhabits};
 /// The function of a contract that these bytes name.
 pub(crate) fn function_named<'a>(contract: &'a Contract, name: &[u8]) -> Option<&'a Function>
     requires indexed { IsIndexed contract.now.checked }
-    requires named { (f : FunctionSeen) → function_in name.now (forms_of contract.now.checked) ≡ Some f → IsName name.now }
-    ensures { option_map (λ f. function_seen f.now) result ≡ function_in name.now (forms_of contract.now.checked) }
+    requires named { (f : FunctionSeen) →
+        function_in name.now (forms_of contract.now.checked) ≡ Some f → IsName name.now }
+    ensures { option_map (λ f. function_seen f.now) result
+        ≡ function_in name.now (forms_of contract.now.checked) }
 {
     match Name::make(name) {
         Some(name) => contract.function(&name),
@@ -45,8 +47,10 @@ fn misfit(params: &[(Name, SizedTy)], args: &[Val]) -> Option<usize>
 /// Why a function can't be called from outside with these arguments.
 pub(crate) fn refusal_of(function: &Function, args: &[Val]) -> Option<EntryRefusal>
     requires { length function.now.params.items < 2 ^ 32 }
-    ensures refused { IfSome result (λ refusal. (costs : Costs) (node : NodeSeen) (common : Common) (contract : Principal) →
-        if_open costs node common contract (function_seen function.now) args.now function.now.access ≡ Some (refused node refusal)) }
+    ensures refused { IfSome result
+        (λ refusal. (costs : Costs) (node : NodeSeen) (common : Common) (contract : Principal) →
+        if_open costs node common contract (function_seen function.now) args.now function.now.access
+        ≡ Some (refused node refusal)) }
     ensures called { IfNone result (MayBeCalled (function_seen function.now) args.now) }
 {
     if let Access::Private = function.access {

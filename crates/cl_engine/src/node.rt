@@ -31,9 +31,10 @@ use cl_types::NoMemory;
 use std::alloc::Global;
 use std::marker::Model;
 
-/// A node between two entries: its world, which has no layer above the base, the contracts that are deployed, with the bounds of
-/// their functions, the height of the block, and the costs under which contracts are accepted and entries charged. Contracts see
-/// the state, the contracts, the height and the costs.
+/// A node between two entries: its world, which has no layer above the base, the contracts that are
+/// deployed, with the bounds of their functions, the height of the block, and the costs under which
+/// contracts are accepted and entries charged. Contracts see the state, the contracts, the height
+/// and the costs.
 #[derive(Drop)]
 pub struct Node {
     world: World,
@@ -67,8 +68,9 @@ impl Model for Node {
 }
 
 impl Node {
-    /// The first node: the holders have their STX, no contract is deployed, the height is 0; contracts are accepted and entries
-    /// charged under the table of costs. Each holder stands once, and together they have at most 2^128-1.
+    /// The first node: the holders have their STX, no contract is deployed, the height is 0;
+    /// contracts are accepted and entries charged under the table of costs. Each holder stands
+    /// once, and together they have at most 2^128-1.
     pub fn genesis(
         alloc: Global,
         holders: Vec<(Principal, u128)>,
@@ -76,10 +78,18 @@ impl Node {
     ) -> Result<Node, NoMemory>
         requires once { AreOnce [] holders.items }
         requires total { total holders.items < 2 ^ 128 }
-        ensures first { IfOk result (λ n. n ≡ record { state = genesis holders.items; contracts = []; height = 0; costs = costs.now }) }
+        ensures first { IfOk result
+            (λ n. n ≡ record {
+              state = genesis holders.items;
+              contracts = [];
+              height = 0;
+              costs = costs.now;
+            }) }
         ensures supply { IfOk result (λ n. n.state.stx.supply ≡ total holders.items) }
         ensures principals { All (λ h. IsPrincipal h.0) holders.items }
-        ensures balances { IfOk result (λ n. (who : Who) → balance (holder who) n.state.stx.balances ≡ sum_for who holders.items) }
+        ensures balances { IfOk result
+            (λ n. (who : Who) → balance (holder who) n.state.stx.balances
+            ≡ sum_for who holders.items) }
     {
         nodes_stay_sound();
         are_holders(holders.as_slice());
@@ -93,8 +103,8 @@ impl Node {
         })
     }
 
-    /// What the contracts keep, and who has what: as the contracts say, each value of its type. No layer stands above the base,
-    /// in which nothing was told and nothing was moved.
+    /// What the contracts keep, and who has what: as the contracts say, each value of its type. No
+    /// layer stands above the base, in which nothing was told and nothing was moved.
     pub fn world(&self) -> &World
         ensures stack { result.now.stack ≡ base_alone self.now.state }
         ensures events { self.now.state.events ≡ [] }
@@ -119,8 +129,9 @@ impl Node {
         self.height
     }
 
-    /// Does what an entry asks for: begins a block, whose height is at least the node's, deploys a contract, or calls a function
-    /// of a contract. An err, an abort, a refusal and want of memory leave the node as it was.
+    /// Does what an entry asks for: begins a block, whose height is at least the node's, deploys a
+    /// contract, or calls a function of a contract. An err, an abort, a refusal and want of memory
+    /// leave the node as it was.
     pub fn step(&mut self, alloc: Global, entry: &Entry) -> Result<TxResult, NoMemory>
         requires rises { self.old.height ≤ height_after self.old.height entry.now }
         ensures steps { IfOk result (λ r. Makes self.old entry.now r self.new) }

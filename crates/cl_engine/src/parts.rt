@@ -1,4 +1,5 @@
-//! What the types of the code keep of entries. Each function here is a law of the values that it is given, and does nothing.
+//! What the types of the code keep of entries. Each function here is a law of the values that it is
+//! given, and does nothing.
 ghost use Rattle.std.specs.List.{All};
 ghost use Rattle.cl_values.specs.Valid.{IsPrincipal, IsVal};
 ghost use Rattle.cl_node_sound.specs.Sound.{HasParts};

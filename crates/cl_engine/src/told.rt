@@ -7,7 +7,8 @@ use cl_tx::{Bounds, Row};
 use cl_types::{NoMemory, SizedTy};
 use std::alloc::Global;
 
-/// What a result tells of an accepted contract: its bounds, and the type that each function returns, in the order of the text.
+/// What a result tells of an accepted contract: its bounds, and the type that each function
+/// returns, in the order of the text.
 #[derive(Drop)]
 pub(crate) struct Told {
     pub(crate) bounds: Bounds,
@@ -20,7 +21,8 @@ fn push_type(
     alloc: Global,
     definition: &Definition,
 ) -> Result<(), NoMemory>
-    ensures { IfOk result (λ _. types.new.items ≡ with_type types.old.items (type_returned definition.now)) }
+    ensures { IfOk result (λ _. types.new.items
+        ≡ with_type types.old.items (type_returned definition.now)) }
 {
     match definition {
         Definition::Function(function) => {

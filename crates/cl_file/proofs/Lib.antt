@@ -1,9 +1,9 @@
-mod Sole
-mod Parts
+mod SoleMember
+mod FiveNumbers
 mod Chain
 mod Handed
 mod Literals
-mod Forms
+mod ReadEquations
 mod Filled
 mod Heights
 mod Holdings

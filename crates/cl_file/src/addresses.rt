@@ -71,7 +71,8 @@ fn found(slot: &Option<Known>, text: &[u8]) -> Option<Address>
     }
 }
 
-// The slot of a text. The last characters of an address are those of its checksum, so they differ between most of them.
+// The slot of a text. The last characters of an address are those of its checksum, so they differ
+// between most of them.
 fn slot_of(text: &[u8]) -> usize
     ensures { result < 256 }
 {
@@ -81,8 +82,9 @@ fn slot_of(text: &[u8]) -> usize
     }
 }
 
-/// Addresses with their texts, each in the slot of its text, where it stays until the next one comes. However many addresses
-/// a file has, this doesn't grow, and one slot is looked at for each. Contracts see nothing of what it keeps.
+/// Addresses with their texts, each in the slot of its text, where it stays until the next one
+/// comes. However many addresses a file has, this doesn't grow, and one slot is looked at for each.
+/// Contracts see nothing of what it keeps.
 #[derive(Drop)]
 pub(crate) struct Addresses {
     slots: Vec<Option<Known>>,

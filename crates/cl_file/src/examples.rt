@@ -8,27 +8,42 @@ ghost use Rattle.serde_json.specs.Read.{read};
 ghost use Rattle.cl_file.specs.declared.entry.Entry.TheVariants as entry;
 ghost use Rattle.cl_file.specs.declared.refusal.TxRefusal.TheVariants.{NotJson, Field, BadValue, HeightFalls, Version};
 
-/// The file of one block, a version that isn't 1, the least unknown member, and a height that falls.
+/// The file of one block, a version that isn't 1, the least unknown member, and a height that
+/// falls.
 pub fn files_by_example()
-    ensures block { (v : Values) → json_file v (read (codes "{\"version\":1,\"genesis\":[],\"entries\":[{\"block\":{\"height\":2}}]}"))
+    ensures block { (v : Values) →
+        json_file v (read (codes
+        "{\"version\":1,\"genesis\":[],\"entries\":[{\"block\":{\"height\":2}}]}"))
         ≡ Ok (record { genesis = []; entries = entry.Block 2 ∷ [] }) }
-    ensures version { (v : Values) → json_file v (read (codes "{\"version\":2,\"x\":0}")) ≡ Err Version }
-    ensures unknown { (v : Values) → json_file v (read (codes "{\"version\":1,\"y\":0,\"x\":0}")) ≡ Err (Field (chars (codes "/x"))) }
-    ensures falls { (v : Values) → json_file v (read (codes "{\"version\":1,\"genesis\":[],\"entries\":[{\"block\":{\"height\":2}},{\"block\":{\"height\":1}}]}"))
+    ensures version { (v : Values) →
+        json_file v (read (codes "{\"version\":2,\"x\":0}")) ≡ Err Version }
+    ensures unknown { (v : Values) →
+        json_file v (read (codes "{\"version\":1,\"y\":0,\"x\":0}"))
+        ≡ Err (Field (chars (codes "/x"))) }
+    ensures falls { (v : Values) →
+        json_file v (read (codes
+        "{\"version\":1,\"genesis\":[],\"entries\":[{\"block\":{\"height\":2}},{\"block\":{\"height\":1}}]}"))
         ≡ Err (HeightFalls (chars (below (below (codes "/entries") (decimal 1)) (codes "block/height")))) }
 {}
 
-/// Members that are absent, an entry of another kind, one with no member, a height that is no number, and a holder without a principal.
+/// Members that are absent, an entry of another kind, one with no member, a height that is no
+/// number, and a holder without a principal.
 pub fn faults_by_example()
     ensures no_object { (v : Values) → json_file v (read (codes "[]")) ≡ Err NotJson }
     ensures no_version { (v : Values) → json_file v (read (codes "{}")) ≡ Err Version }
-    ensures absent { (v : Values) → json_file v (read (codes "{\"version\":1}")) ≡ Err (Field (chars (codes "/genesis"))) }
-    ensures kind { (v : Values) → json_file v (read (codes "{\"version\":1,\"genesis\":[],\"entries\":[{\"x\":{}}]}"))
+    ensures absent { (v : Values) →
+        json_file v (read (codes "{\"version\":1}")) ≡ Err (Field (chars (codes "/genesis"))) }
+    ensures kind { (v : Values) →
+        json_file v (read (codes "{\"version\":1,\"genesis\":[],\"entries\":[{\"x\":{}}]}"))
         ≡ Err (Field (chars (below (below (codes "/entries") (decimal 0)) (codes "x")))) }
-    ensures alone { (v : Values) → json_file v (read (codes "{\"version\":1,\"genesis\":[],\"entries\":[{}]}"))
+    ensures alone { (v : Values) →
+        json_file v (read (codes "{\"version\":1,\"genesis\":[],\"entries\":[{}]}"))
         ≡ Err (BadValue (chars (below (codes "/entries") (decimal 0)))) }
-    ensures height { (v : Values) → json_file v (read (codes "{\"version\":1,\"genesis\":[],\"entries\":[{\"block\":{\"height\":null}}]}"))
+    ensures height { (v : Values) →
+        json_file v (read (codes
+        "{\"version\":1,\"genesis\":[],\"entries\":[{\"block\":{\"height\":null}}]}"))
         ≡ Err (BadValue (chars (below (below (below (codes "/entries") (decimal 0)) (codes "block")) (codes "height")))) }
-    ensures holder { (v : Values) → json_file v (read (codes "{\"version\":1,\"genesis\":[{\"stx\":\"u1\"}],\"entries\":[]}"))
+    ensures holder { (v : Values) →
+        json_file v (read (codes "{\"version\":1,\"genesis\":[{\"stx\":\"u1\"}],\"entries\":[]}"))
         ≡ Err (Field (chars (below (below (codes "/genesis") (decimal 0)) (codes "principal")))) }
 {}

@@ -109,8 +109,9 @@ fn read_text(alloc: Global, bytes: &[u8]) -> Read<TxFile>
     }
 }
 
-/// Reads a transaction file of version 1: the file, or its first fault. Tests come in this order: the text is JSON and an object;
-/// the version is 1; the top members; the holders in their order; their sum; the number of entries; the entries in their order.
+/// Reads a transaction file of version 1: the file, or its first fault. Tests come in this order:
+/// the text is JSON and an object; the version is 1; the top members; the holders in their order;
+/// their sum; the number of entries; the entries in their order.
 pub fn read(alloc: Global, bytes: &[u8]) -> Result<TxFile, Fault<TxRefusal>>
     ensures found { IfOk result (λ f. FileReads bytes.now (Ok f)) }
     ensures broken { IfRefused result (λ r. FileReads bytes.now (Err r)) }

@@ -94,12 +94,15 @@ fn added(sum: Option<u128>, amount: u128) -> Option<u128>
     }
 }
 
-// One more holder, who holds nothing yet, and for whom there is room. It takes the parts of a principal, since this kit can't
-// prove an insertion into a map of numbers in a function whose signature doesn't name `ContractName`.
+// One more holder, who holds nothing yet, and for whom there is room. It takes the parts of a
+// principal, since this kit can't prove an insertion into a map of numbers in a function whose
+// signature doesn't name `ContractName`.
 fn add(holders: &mut Holders, address: Address, contract: Option<ContractName>, amount: u128)
     requires room { 0 < spare holders.old }
-    requires new { holds holders.old.entries (record { address = address; contract = contract }) ≡ false }
-    ensures { holders.new.entries ≡ holders.old.entries ++ (record { address = address; contract = contract }, amount) ∷ [] }
+    requires new { holds holders.old.entries (record { address = address; contract = contract })
+        ≡ false }
+    ensures { holders.new.entries
+        ≡ holders.old.entries ++ (record { address = address; contract = contract }, amount) ∷ [] }
 {
     match holders.insert(Principal { address, contract }, amount) {
         Ok(_) => {}

@@ -11,8 +11,8 @@ use indexmap::IndexMap;
 use std::alloc::Global;
 use std::marker::Model;
 
-/// The holders of the first state, each once, and the entries, at most 100,000. What the holders have together is below 2^128,
-/// and the heights of blocks never fall.
+/// The holders of the first state, each once, and the entries, at most 100,000. What the holders
+/// have together is below 2^128, and the heights of blocks never fall.
 #[derive(Drop)]
 pub struct TxFile {
     genesis: IndexMap<Principal, u128>,

@@ -17,7 +17,7 @@ use Rattle.cl_rules.specs.Acceptance.{Accepted, known_of}
 use Rattle.cl_expression_sound.specs.Sound.{AreBound}
 use Rattle.cl_contract_sound.specs.Nodes.{IsNode}
 use Rattle.cl_contract_sound.specs.Deployments.{IsDone, IsFineEndUnder, of_text}
-use Rattle.cl_contract_sound.proofs.Texts.{text_is_done, text_is_sound}
+use Rattle.cl_contract_sound.proofs.TextDeployments.{text_is_done, text_is_sound}
 use Rattle.cl_contract_sound.proofs.UnderLimits.{end_under, charged, charged_low}
 use Rattle.cl_expression_sound.proofs.Costs.{at_most}
 use Rattle.cl_file.specs.declared.entry.Common.{Common}

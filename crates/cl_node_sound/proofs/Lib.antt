@@ -6,5 +6,5 @@ pub mod Constants
 pub mod Entries
 pub mod NewContracts
 pub mod KnownStay
-pub mod Lines
+pub mod BoundsSeen
 pub mod Told

@@ -31,7 +31,7 @@ use Rattle.cl_node_sound.specs.Told.{ToldLast, none_told, or_before, told_after,
 use Rattle.cl_node_sound.proofs.Calling.{some_cost}
 use Rattle.cl_node_sound.proofs.Entries.{first_sound, sound_stays, calls_within, bound_above, same_bounds, evaluated_tells, deployments_within, deployments_not_stopped}
 use Rattle.cl_node_sound.proofs.KnownStay.{one_step, call_keeps}
-use Rattle.cl_node_sound.proofs.Lines.{accepted_lines}
+use Rattle.cl_node_sound.proofs.BoundsSeen.{accepted_lines}
 
 -- ---- bounds of what callers know
 

@@ -3,44 +3,48 @@
 
 ghost use Rattle.cl_node_sound.specs.Laws.{FirstIsSound, SoundStay, RunsEndSound, CallsStayWithin, DeploymentsStayWithin, RunsStayWithin, CallsAreNotStopped, DeploymentsAreNotStopped, RunsAreNotStopped, CallsStep, DeploymentsStep, CallsAreTyped, DeployedHaveConstants, NewHaveNoTokens};
 
-/// Before all entries a node is sound: each of its contracts stands for one accepted text, its state is kept, and nothing was
-/// told or moved. It stays so from entry to entry, under each table of costs, whatever limits and conditions the entries have.
+/// Before all entries a node is sound: each of its contracts stands for one accepted text, its
+/// state is kept, and nothing was told or moved. It stays so from entry to entry, under each table
+/// of costs, whatever limits and conditions the entries have.
 pub fn nodes_stay_sound()
     ensures first { FirstIsSound }
     ensures stay { SoundStay }
     ensures run { RunsEndSound }
 {}
 
-/// At a sound node a call, aborted or not, is charged at most the bound of its function, and a deployment at most its own, in
-/// each of the five dimensions. So each call of a file is charged at most the bound that was told last for its function, by the
-/// deployment of its contract.
+/// At a sound node a call, aborted or not, is charged at most the bound of its function, and a
+/// deployment at most its own, in each of the five dimensions. So each call of a file is charged at
+/// most the bound that was told last for its function, by the deployment of its contract.
 pub fn costs_stay_within_bounds()
     ensures calls { CallsStayWithin }
     ensures deployments { DeploymentsStayWithin }
     ensures run { RunsStayWithin }
 {}
 
-/// At a sound node an entry whose limit in each of the five dimensions is no less than its bound never ends in A8. So it is with
-/// each call of a file whose limit is no less than the bound that was told last for its function.
+/// At a sound node an entry whose limit in each of the five dimensions is no less than its bound
+/// never ends in A8. So it is with each call of a file whose limit is no less than the bound that
+/// was told last for its function.
 pub fn bounds_suffice_as_limits()
     ensures calls { CallsAreNotStopped }
     ensures deployments { DeploymentsAreNotStopped }
     ensures run { RunsAreNotStopped }
 {}
 
-/// Each call, and each deployment of an accepted source, comes to something at a sound node: no evaluation is wrong, and none
-/// needs more depth than there is.
+/// Each call, and each deployment of an accepted source, comes to something at a sound node: no
+/// evaluation is wrong, and none needs more depth than there is.
 pub fn entries_come_to_something()
     ensures calls { CallsStep }
     ensures deployments { DeploymentsStep }
 {}
 
-/// The value that a call gives at a sound node is of the type that its function returns, an ok and an err as responses.
+/// The value that a call gives at a sound node is of the type that its function returns, an ok and
+/// an err as responses.
 pub fn answers_have_their_types()
     ensures { CallsAreTyped }
 {}
 
-/// Each value that the deployment of an accepted source gives at a sound node is of the type of the constant of its name.
+/// Each value that the deployment of an accepted source gives at a sound node is of the type of the
+/// constant of its name.
 pub fn constants_have_their_types()
     ensures { DeployedHaveConstants }
 {}

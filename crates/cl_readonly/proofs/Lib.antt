@@ -1,7 +1,7 @@
 pub mod Heads
 pub mod InOrder
 pub mod Least
-pub mod NodeLaws
+pub mod WritesOfParts
 pub mod NodeNames
 pub mod Noting
 pub mod Publics

@@ -35,7 +35,7 @@ use Rattle.cl_code.specs.Typed.{Typed, expression_of}
 use Rattle.cl_readonly.specs.Naming.{gives_it, calls_it, IsNamed, AllNameUnknown}
 use Rattle.cl_readonly.proofs.Tests.{either_is, both_are, differ}
 use Rattle.cl_readonly.proofs.Heads.{applies_head, is_tuple, applies_name, tuple_name, is_native, no_applying, no_tuple, no_native}
-use Rattle.cl_readonly.proofs.NodeLaws.{not_true, is_none, let_free, parts_plain, name_plain, iteration_plain}
+use Rattle.cl_readonly.proofs.WritesOfParts.{not_true, is_none, let_free, parts_plain, name_plain, iteration_plain}
 
 either : (a b c d : Bool) → (a || b) ≡ true → (a ≡ true → c ≡ true) → (b ≡ true → d ≡ true) → (c || d) ≡ true
 either true b c d h f g = ap (λ e. e || d) (f refl)

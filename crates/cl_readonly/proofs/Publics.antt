@@ -1,8 +1,7 @@
 -- Public functions as callers know them.
-use Rattle.std.proofs.Common.{◌≡◌, ℕ, Bool, false, List, Option, Some, None, refl, sym, ap, ◌∙◌, rules}
+use Rattle.std.proofs.Common.{◌≡◌, ℕ, Bool, false, List, Option, Some, None, refl, sym, ap, ◌∙◌}
 use Rattle.std.specs.Prelude.{option_map, if◌then◌else◌}
 use Rattle.cl_c32.specs.declared.principal.Principal.{Principal}
-use Rattle.cl_c32.specs.contracts.principal.PrincipalPartialEq.TheImpl.{eq-value}
 use Rattle.cl_code.specs.declared.definition.Function.{Function as TypedFunction}
 use Rattle.cl_rules.specs.Context.{Signature, Known, known_at, signature_in, same_principal, another_at}
 use Rattle.cl_rules.specs.Acceptance.{is_public, is_public_there, is_public_in}
@@ -12,9 +11,6 @@ use Rattle.cl_contracts.specs.Seen.{function_under, contract_under, AreIndexed}
 use Rattle.cl_contracts.specs.Standings.{Knows}
 use Rattle.cl_contracts.specs.Known.{Shown, seen, shown, AreKnownAs, KnownAsDeployed}
 use Rattle.cl_readonly.specs.Publics.{public_if, public_under}
-
-pub equal_so : (p q : Principal) → eq-value.it p q ≡ same_principal p q
-equal_so p q = search rules
 
 abbrev public_shown : Option Shown → Bool
 public_shown None = false

@@ -18,7 +18,7 @@ use Rattle.cl_code.specs.Typed.{Typed, TypedAs, typeds, expression_of, weight_of
 use Rattle.cl_contracts.specs.Standing.{Stands, StandAll}
 use Rattle.cl_readonly.specs.Writing.{has_write, node_writes, AreFunctions}
 use Rattle.cl_readonly.specs.Naming.{NamesUnknown, AllNameUnknown}
-use Rattle.cl_readonly.proofs.NodeLaws.{node_has}
+use Rattle.cl_readonly.proofs.WritesOfParts.{node_has}
 use Rattle.cl_readonly.proofs.NodeNames.{node_named, all_named}
 
 pub part_falls : (qs : List Typed) (i : ℕ) (q : Typed) → i < length qs → get_or qs i q ≡ q → weight_of q < weights_of (typeds qs)

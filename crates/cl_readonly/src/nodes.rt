@@ -76,7 +76,7 @@ fn literal(own: &Principal, target: &Target) -> Option<Principal>
     }
 }
 
-#[tactic(auto, using(crate::proofs::Publics::equal_so))]
+#[tactic(auto, using(cl_c32::proofs::Principals::same_in_code))]
 fn is_same(p: &Principal, q: &Principal) -> bool
     ensures { result ≡ same_principal p.now q.now }
 {

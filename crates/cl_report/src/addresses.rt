@@ -8,7 +8,8 @@ use cl_types::NoMemory;
 use std::alloc::Global;
 use std::marker::Model;
 
-// An address with its text. Contracts see the address alone, since the text is always that of `encode`.
+// An address with its text. Contracts see the address alone, since the text is always that of
+// `encode`.
 #[derive(Drop)]
 struct Spelled {
     address: Address,
@@ -48,8 +49,9 @@ impl Spelled {
     }
 }
 
-/// The texts of addresses that were made before: a direct-mapped cache, which never grows. The checksum in a text takes two
-/// digests, and a text that is still there spares both. Contracts see it as the addresses in its slots, at most 256.
+/// The texts of addresses that were made before: a direct-mapped cache, which never grows. The
+/// checksum in a text takes two digests, and a text that is still there spares both. Contracts see
+/// it as the addresses in its slots, at most 256.
 #[derive(Drop)]
 pub struct AddressCache {
     slots: Vec<Spelled>,
@@ -117,7 +119,8 @@ impl AddressCache {
     }
 }
 
-// The slot of an address. Both ends of the hash count, so that addresses which differ at one end alone are spread.
+// The slot of an address. Both ends of the hash count, so that addresses which differ at one end
+// alone are spread.
 fn slot_of(address: &Address) -> usize {
     usize::from(address.hash[0].wrapping_add(address.hash[19]))
 }

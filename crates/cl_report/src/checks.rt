@@ -12,7 +12,8 @@ use cl_types::{NoMemory, SizedTy};
 use std::alloc::Global;
 
 fn write_contract(out: &mut Vec<u8>, alloc: Global, principal: &Principal) -> Result<(), NoMemory>
-    ensures { IfOk result (λ _. out.new.items ≡ out.old.items ++ (codes "contract " ++ principal_text principal.now)) }
+    ensures { IfOk result (λ _. out.new.items
+        ≡ out.old.items ++ (codes "contract " ++ principal_text principal.now)) }
 {
     let text = print_principal(alloc, principal)?;
     out.extend_from_slice(b"contract ")?;
@@ -20,8 +21,8 @@ fn write_contract(out: &mut Vec<u8>, alloc: Global, principal: &Principal) -> Re
     Ok(())
 }
 
-/// The lines of an accepted contract: `contract` and its principal, and below it its bounds, with the types that its functions
-/// return, in the order of its text. Each line ends with LF.
+/// The lines of an accepted contract: `contract` and its principal, and below it its bounds, with
+/// the types that its functions return, in the order of its text. Each line ends with LF.
 pub fn accepted_lines(
     alloc: Global,
     principal: &Principal,
@@ -37,7 +38,8 @@ pub fn accepted_lines(
     Ok(out)
 }
 
-/// The line of a contract whose source breaks a rule: `contract`, its principal, `refused`, and the rule with its span and names.
+/// The line of a contract whose source breaks a rule: `contract`, its principal, `refused`, and the
+/// rule with its span and names.
 pub fn refused_line(
     alloc: Global,
     principal: &Principal,

@@ -58,7 +58,8 @@ fn write_bound(
     bound: &Cost5,
     returns: &SizedTy,
 ) -> Result<(), NoMemory>
-    ensures { IfOk result (λ _. out.new.items ≡ out.old.items ++ bound_line name.now bound.now returns.now) }
+    ensures { IfOk result (λ _. out.new.items
+        ≡ out.old.items ++ bound_line name.now bound.now returns.now) }
 {
     let type_text = print_type(alloc, returns)?;
     out.extend_from_slice(b"  bound ")?;

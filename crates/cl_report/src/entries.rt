@@ -103,7 +103,8 @@ fn write_first(
     entry: &Entry,
     outcome: &Outcome,
 ) -> Result<(), NoMemory>
-    ensures { IfOk result (λ _. out.new.items ≡ out.old.items ++ entry_line number entry.now outcome.now) }
+    ensures { IfOk result (λ _. out.new.items
+        ≡ out.old.items ++ entry_line number entry.now outcome.now) }
 {
     out.extend_from_slice(Buffer::new().format(number).as_bytes())?;
     write_entry(out, alloc, addresses, entry)?;
@@ -144,8 +145,9 @@ fn write_events(
     }
 }
 
-/// The lines of an entry with its number, counted from 0, and its result: what became of it, what it cost, the bounds of a
-/// contract that was accepted, and the events of what was committed; of a block the height alone. Each line ends with LF.
+/// The lines of an entry with its number, counted from 0, and its result: what became of it, what
+/// it cost, the bounds of a contract that was accepted, and the events of what was committed; of a
+/// block the height alone. Each line ends with LF.
 pub fn lines(
     alloc: Global,
     number: u32,

@@ -54,21 +54,24 @@ fn write_two(
     from: &Principal,
     to: &Principal,
 ) -> Result<(), NoMemory>
-    ensures { IfOk result (λ _. out.new.items ≡ out.old.items ++ (who_text from.now ++ who_text to.now)) }
+    ensures { IfOk result (λ _. out.new.items
+        ≡ out.old.items ++ (who_text from.now ++ who_text to.now)) }
 {
     write_who(out, addresses, from)?;
     write_who(out, addresses, to)
 }
 
 fn write_token(out: &mut Vec<u8>, token: &Name, amount: u128) -> Result<(), NoMemory>
-    ensures { IfOk result (λ _. out.new.items ≡ out.old.items ++ (name_text token.now ++ amount_text amount)) }
+    ensures { IfOk result (λ _. out.new.items
+        ≡ out.old.items ++ (name_text token.now ++ amount_text amount)) }
 {
     write_name(out, token)?;
     write_amount(out, amount)
 }
 
 fn write_asset(out: &mut Vec<u8>, alloc: Global, token: &Name, id: &Val) -> Result<(), NoMemory>
-    ensures { IfOk result (λ _. out.new.items ≡ out.old.items ++ (name_text token.now ++ value_text id.now)) }
+    ensures { IfOk result (λ _. out.new.items
+        ≡ out.old.items ++ (name_text token.now ++ value_text id.now)) }
 {
     write_name(out, token)?;
     write_value(out, alloc, id)
@@ -176,7 +179,8 @@ pub fn event_line(alloc: Global, event: &Event) -> Result<Vec<u8>, NoMemory>
     event_line_with(alloc, &mut addresses, event)
 }
 
-/// The same line as that of `event_line`, by the texts of addresses that are kept from event to event.
+/// The same line as that of `event_line`, by the texts of addresses that are kept from event to
+/// event.
 pub fn event_line_with(
     alloc: Global,
     addresses: &mut AddressCache,

@@ -91,7 +91,8 @@ pub(crate) fn stop_text(alloc: Global, stop: Stop) -> Result<String, AllocError>
 
 #[tactic(auto, unfolding(crate::specs::Refusals::entry_refusal_text))]
 fn write_argument(out: &mut Vec<u8>, alloc: Global, index: u32) -> Result<(), NoMemory>
-    ensures { IfOk result (λ _. out.new.items ≡ out.old.items ++ entry_refusal_text (EntryRefusal.Argument index)) }
+    ensures { IfOk result (λ _. out.new.items
+        ≡ out.old.items ++ entry_refusal_text (EntryRefusal.Argument index)) }
 {
     let text = format!(in alloc; "E5 Argument {index}")?;
     out.extend_from_slice(text.as_bytes())?;
@@ -103,7 +104,8 @@ fn write_contract_refused(
     alloc: Global,
     refusal: &SourceRefusal,
 ) -> Result<(), NoMemory>
-    ensures { IfOk result (λ _. out.new.items ≡ out.old.items ++ (codes "E7 ContractRefused " ++ refusal_text refusal.now)) }
+    ensures { IfOk result (λ _. out.new.items
+        ≡ out.old.items ++ (codes "E7 ContractRefused " ++ refusal_text refusal.now)) }
 {
     out.extend_from_slice(b"E7 ContractRefused ")?;
     write_refusal(out, alloc, refusal)

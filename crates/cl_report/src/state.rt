@@ -78,7 +78,8 @@ fn row_lines(
     addresses: &mut AddressCache,
     rows: &[StateRow],
 ) -> Result<Vec<Vec<u8>>, NoMemory>
-    ensures { IfOk result (λ lines. map (λ line. line.items) lines.items ≡ map (λ r. row_line r) rows.now) }
+    ensures { IfOk result (λ lines. map (λ line. line.items) lines.items
+        ≡ map (λ r. row_line r) rows.now) }
 {
     let mut lines = Vec::with_capacity(alloc, rows.len())?;
     for row in rows {
@@ -90,7 +91,8 @@ fn row_lines(
 
 /// The lines rising, each once.
 fn rising(mut lines: Vec<Vec<u8>>) -> Result<Vec<Vec<u8>>, NoMemory>
-    ensures { IfOk result (λ set. IsSetOf (map (λ line. line.items) lines.items) (map (λ line. line.items) set.items)) }
+    ensures { IfOk result (λ set. IsSetOf (map (λ line. line.items) lines.items)
+        (map (λ line. line.items) set.items)) }
 {
     lines.sort()?;
     lines.dedup();

@@ -24,8 +24,8 @@ pub fn each_text_has_an_outcome()
     ensures { (text : List ℕ) → (outcome : Outcome) × Parses text outcome }
 {}
 
-/// What [`crate::print_value`] prints [`crate::parse`] reads as the value again, where it is no longer than a source and
-/// no tuple in the value has a key that is `u` followed by digits alone.
+/// What [`crate::print_value`] prints [`crate::parse`] reads as the value again, where it is no
+/// longer than a source and no tuple in the value has a key that is `u` followed by digits alone.
 pub fn printed_is_read()
     ensures item { (v : Tree) → IsVal v → has_number_key v ≡ false → length (printed v) ≤ 1048576 →
         (item : Item) × Reads (printed v) (Then item Empty) × (literal item ≡ Ok v) }

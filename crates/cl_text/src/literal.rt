@@ -69,7 +69,8 @@ fn list_literal(alloc: Global, span: Span, items: &[Sexpr]) -> Result<Value, Fau
 #[cycle(literal)]
 fn some_literal(alloc: Global, span: Span, parts: &[Sexpr]) -> Result<Value, Fault<Span>>
     ensures found { IfOk result (λ v. made_of SomeV (sole span (forest parts.now)) ≡ Ok v) }
-    ensures broken { IfRefused result (λ part. made_of SomeV (sole span (forest parts.now)) ≡ Err part) }
+    ensures broken { IfRefused result
+        (λ part. made_of SomeV (sole span (forest parts.now)) ≡ Err part) }
 {
     let inner = Box::new(alloc, sole(alloc, span, parts)?)?;
     Ok(Value {
@@ -85,7 +86,8 @@ fn response_literal(
     parts: &[Sexpr],
 ) -> Result<Value, Fault<Span>>
     ensures found { IfOk result (λ v. made_of (ResponseV good) (sole span (forest parts.now)) ≡ Ok v) }
-    ensures broken { IfRefused result (λ part. made_of (ResponseV good) (sole span (forest parts.now)) ≡ Err part) }
+    ensures broken { IfRefused result
+        (λ part. made_of (ResponseV good) (sole span (forest parts.now)) ≡ Err part) }
 {
     let inner = Box::new(alloc, sole(alloc, span, parts)?)?;
     Ok(Value {
@@ -109,8 +111,10 @@ fn sole(alloc: Global, span: Span, parts: &[Sexpr]) -> Result<Value, Fault<Span>
 
 #[cycle(literal)]
 fn items_literal(alloc: Global, items: &[Sexpr]) -> Result<Value, Fault<Span>>
-    ensures found { IfOk result (λ v. made_of (λ vs. ListV (items_of vs)) (literals (forest items.now)) ≡ Ok v) }
-    ensures broken { IfRefused result (λ part. made_of (λ vs. ListV (items_of vs)) (literals (forest items.now)) ≡ Err part) }
+    ensures found { IfOk result
+        (λ v. made_of (λ vs. ListV (items_of vs)) (literals (forest items.now)) ≡ Ok v) }
+    ensures broken { IfRefused result
+        (λ part. made_of (λ vs. ListV (items_of vs)) (literals (forest items.now)) ≡ Err part) }
 {
     let values = literals(alloc, items)?;
     Ok(Value {
@@ -142,8 +146,12 @@ fn tuple_value(alloc: Global, sorted: BTreeMap<Name, Value>) -> Result<Value, Al
 
 #[cycle(literal)]
 fn pairs_literal(alloc: Global, span: Span, items: &[Sexpr]) -> Result<Value, Fault<Span>>
-    ensures found { IfOk result (λ v. tuple_of span (are_pairs (pair_keys (forest items.now))) (pair_entries (forest items.now)) ≡ Ok v) }
-    ensures broken { IfRefused result (λ part. tuple_of span (are_pairs (pair_keys (forest items.now))) (pair_entries (forest items.now)) ≡ Err part) }
+    ensures found { IfOk result
+        (λ v. tuple_of span (are_pairs (pair_keys (forest items.now)))
+        (pair_entries (forest items.now)) ≡ Ok v) }
+    ensures broken { IfRefused result
+        (λ part. tuple_of span (are_pairs (pair_keys (forest items.now)))
+        (pair_entries (forest items.now)) ≡ Err part) }
 {
     if !are_pairs(alloc, items)? {
         return Err(Fault::Refused(span));
@@ -154,8 +162,10 @@ fn pairs_literal(alloc: Global, span: Span, items: &[Sexpr]) -> Result<Value, Fa
 
 #[cycle(literal)]
 fn pair_entries(alloc: Global, items: &[Sexpr]) -> Result<BTreeMap<Name, Value>, Fault<Span>>
-    ensures found { IfOk result (λ sorted. made_of by_key (pair_entries (forest items.now)) ≡ Ok sorted.entries) }
-    ensures broken { IfRefused result (λ part. made_of by_key (pair_entries (forest items.now)) ≡ Err part) }
+    ensures found { IfOk result
+        (λ sorted. made_of by_key (pair_entries (forest items.now)) ≡ Ok sorted.entries) }
+    ensures broken { IfRefused result
+        (λ part. made_of by_key (pair_entries (forest items.now)) ≡ Err part) }
 {
     let mut sorted = BTreeMap::new(alloc);
     for item in items {
@@ -193,8 +203,12 @@ fn entry_in(alloc: Global, span: Span, items: &[Sexpr]) -> Result<(Name, Value),
 
 #[cycle(literal)]
 fn tuple_literal(alloc: Global, span: Span, parts: &[(Name, Sexpr)]) -> Result<Value, Fault<Span>>
-    ensures found { IfOk result (λ v. tuple_of span (are_tuple_keys (keys_of (pairs parts.now))) (entries (pairs parts.now)) ≡ Ok v) }
-    ensures broken { IfRefused result (λ part. tuple_of span (are_tuple_keys (keys_of (pairs parts.now))) (entries (pairs parts.now)) ≡ Err part) }
+    ensures found { IfOk result
+        (λ v. tuple_of span (are_tuple_keys (keys_of (pairs parts.now))) (entries (pairs parts.now))
+        ≡ Ok v) }
+    ensures broken { IfRefused result
+        (λ part. tuple_of span (are_tuple_keys (keys_of (pairs parts.now)))
+        (entries (pairs parts.now)) ≡ Err part) }
 {
     if !has_tuple_keys(alloc, parts)? {
         return Err(Fault::Refused(span));
@@ -205,7 +219,8 @@ fn tuple_literal(alloc: Global, span: Span, parts: &[(Name, Sexpr)]) -> Result<V
 
 #[cycle(literal)]
 fn entries(alloc: Global, parts: &[(Name, Sexpr)]) -> Result<BTreeMap<Name, Value>, Fault<Span>>
-    ensures found { IfOk result (λ sorted. made_of by_key (entries (pairs parts.now)) ≡ Ok sorted.entries) }
+    ensures found { IfOk result
+        (λ sorted. made_of by_key (entries (pairs parts.now)) ≡ Ok sorted.entries) }
     ensures broken { IfRefused result (λ part. made_of by_key (entries (pairs parts.now)) ≡ Err part) }
 {
     let mut sorted = BTreeMap::new(alloc);

@@ -37,7 +37,8 @@ fn item_value(alloc: Global, item: &Sexpr) -> Result<Val, Fault<TextRefusal>>
     requires depth { tree_depth item.now ≤ 64 }
     requires spelled { is_spelled item.now ≡ true }
     ensures found { IfOk result (λ v. value_outcome (span_of item.now) (literal item.now) ≡ Stands v) }
-    ensures broken { IfRefused result (λ r. value_outcome (span_of item.now) (literal item.now) ≡ outcome_of r) }
+    ensures broken { IfRefused result
+        (λ r. value_outcome (span_of item.now) (literal item.now) ≡ outcome_of r) }
     ensures nameless { IfRefused result HasNoNames }
 {
     match literal(alloc, item) {
@@ -68,10 +69,12 @@ fn items_value(alloc: Global, size: u32, items: &[Sexpr]) -> Result<Val, Fault<T
     item_value(alloc, item)
 }
 
-/// The value of a text that is one literal, with separators and comments around it, or the first refusal that holds.
+/// The value of a text that is one literal, with separators and comments around it, or the first
+/// refusal that holds.
 ///
-/// A literal is a number, buffer, string or principal; `true`, `false`, `none`; `(ok v)`, `(err v)`, `(some v)`,
-/// `(list v ..)`; a tuple `{k: v, ..}` or `(tuple (k v) ..)`, with distinct keys in any order.
+/// A literal is a number, buffer, string or principal; `true`, `false`, `none`; `(ok v)`,
+/// `(err v)`, `(some v)`, `(list v ..)`; a tuple `{k: v, ..}` or `(tuple (k v) ..)`, with distinct
+/// keys in any order.
 pub fn parse(alloc: Global, text: &[u8]) -> Result<Val, Fault<TextRefusal>>
     ensures found { IfOk result (λ v. Parses text.now (Stands v)) }
     ensures broken { IfRefused result (λ r. Parses text.now (outcome_of r)) }

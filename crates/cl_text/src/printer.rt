@@ -41,7 +41,8 @@ pub(crate) fn write_bytes(out: &mut Vec<u8>, bytes: &[u8]) -> Result<(), NoMemor
 fn write_int(out: &mut Vec<u8>, number: i128) -> Result<(), NoMemory>
     ensures { IfOk result (λ _. out.new.items ≡ out.old.items ++ signed_decimal number) }
 {
-    write_bytes(out, Buffer::new().format(number).as_bytes())
+    let mut digits = Buffer::new();
+    write_bytes(out, digits.format(number).as_bytes())
 }
 
 fn write_uint(out: &mut Vec<u8>, number: u128) -> Result<(), NoMemory>
@@ -52,7 +53,8 @@ fn write_uint(out: &mut Vec<u8>, number: u128) -> Result<(), NoMemory>
 }
 
 fn write_buff(out: &mut Vec<u8>, alloc: Global, bytes: &[u8]) -> Result<(), NoMemory>
-    ensures { IfOk result (λ _. out.new.items ≡ out.old.items ++ (codes "0x" ++ encode_lower bytes.now)) }
+    ensures { IfOk result (λ _. out.new.items
+        ≡ out.old.items ++ (codes "0x" ++ encode_lower bytes.now)) }
 {
     let digits = hex::encode(alloc, bytes)?;
     write_bytes(out, b"0x")?;
@@ -93,7 +95,8 @@ fn write_ascii_bytes(out: &mut Vec<u8>, bytes: &[u8]) -> Result<(), NoMemory>
 }
 
 fn write_ascii(out: &mut Vec<u8>, bytes: &[u8]) -> Result<(), NoMemory>
-    ensures { IfOk result (λ _. out.new.items ≡ out.old.items ++ quoted (flat_map ascii_text bytes.now)) }
+    ensures { IfOk result (λ _. out.new.items
+        ≡ out.old.items ++ quoted (flat_map ascii_text bytes.now)) }
 {
     write_bytes(out, b"\"")?;
     write_ascii_bytes(out, bytes)?;
@@ -133,7 +136,8 @@ fn write_characters(out: &mut Vec<u8>, alloc: Global, characters: &[char]) -> Re
 }
 
 fn write_utf8(out: &mut Vec<u8>, alloc: Global, characters: &[char]) -> Result<(), NoMemory>
-    ensures { IfOk result (λ _. out.new.items ≡ out.old.items ++ (codes "u" ++ quoted (flat_map unicode_text characters.now))) }
+    ensures { IfOk result (λ _. out.new.items
+        ≡ out.old.items ++ (codes "u" ++ quoted (flat_map unicode_text characters.now))) }
 {
     write_bytes(out, b"u\"")?;
     write_characters(out, alloc, characters)?;
@@ -198,7 +202,8 @@ fn write_wrapped(
     front: &[u8],
     value: &Value,
 ) -> Result<(), NoMemory>
-    ensures { IfOk result (λ _. out.new.items ≡ out.old.items ++ (front.now ++ (printed value.now ++ codes ")"))) }
+    ensures { IfOk result (λ _. out.new.items
+        ≡ out.old.items ++ (front.now ++ (printed value.now ++ codes ")"))) }
 {
     write_bytes(out, front)?;
     write_value(out, alloc, value)?;
@@ -207,7 +212,8 @@ fn write_wrapped(
 
 #[cycle(write)]
 fn write_list(out: &mut Vec<u8>, alloc: Global, values: &[Value]) -> Result<(), NoMemory>
-    ensures { IfOk result (λ _. out.new.items ≡ out.old.items ++ (codes "(list" ++ (items_text (items_of values.now) ++ codes ")"))) }
+    ensures { IfOk result (λ _. out.new.items
+        ≡ out.old.items ++ (codes "(list" ++ (items_text (items_of values.now) ++ codes ")"))) }
 {
     write_bytes(out, b"(list")?;
     write_items(out, alloc, values)?;
@@ -227,7 +233,9 @@ fn write_items(out: &mut Vec<u8>, alloc: Global, values: &[Value]) -> Result<(),
 
 #[cycle(write)]
 fn write_tuple(out: &mut Vec<u8>, alloc: Global, entries: &[(Name, Value)]) -> Result<(), NoMemory>
-    ensures { IfOk result (λ _. out.new.items ≡ out.old.items ++ (codes "{" ++ (entries_text (entries_of entries.now) ++ codes "}"))) }
+    ensures { IfOk result (λ _. out.new.items
+        ≡ out.old.items ++ (codes "{"
+        ++ (entries_text (entries_of entries.now) ++ codes "}"))) }
 {
     write_bytes(out, b"{")?;
     write_entries(out, alloc, entries)?;
@@ -240,7 +248,8 @@ fn write_entries(
     alloc: Global,
     entries: &[(Name, Value)],
 ) -> Result<(), NoMemory>
-    ensures { IfOk result (λ _. out.new.items ≡ out.old.items ++ entries_text (entries_of entries.now)) }
+    ensures { IfOk result (λ _. out.new.items
+        ≡ out.old.items ++ entries_text (entries_of entries.now)) }
 {
     match entries.split_first() {
         None => Ok(()),
@@ -265,7 +274,8 @@ fn write_more(out: &mut Vec<u8>, alloc: Global, entries: &[(Name, Value)]) -> Re
 
 #[cycle(write)]
 fn write_entry(out: &mut Vec<u8>, alloc: Global, entry: &(Name, Value)) -> Result<(), NoMemory>
-    ensures { IfOk result (λ _. out.new.items ≡ out.old.items ++ entry_text entry.now.0 (printed entry.now.1)) }
+    ensures { IfOk result (λ _. out.new.items
+        ≡ out.old.items ++ entry_text entry.now.0 (printed entry.now.1)) }
 {
     write_bytes(out, entry.0.bytes())?;
     write_bytes(out, b": ")?;

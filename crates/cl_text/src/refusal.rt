@@ -6,8 +6,8 @@ use cl_sexpr::{Refusal, Span};
 pub enum TextRefusal {
     /// The text breaks a rule of texts.
     Syntax(Refusal),
-    /// The text isn't one item: the span is the whole text. Or this part, the first from the left, is no literal while
-    /// all around it are.
+    /// The text isn't one item: the span is the whole text. Or this part, the first from the left,
+    /// is no literal while all around it are.
     NotALiteral { span: Span },
     /// The value is deeper than 32; the span is the whole item.
     TooDeep { span: Span },

@@ -8,7 +8,8 @@ use crate::printer::write_bytes;
 use cl_types::{Name, NoMemory, SizedTy, Ty, TyKind};
 use std::alloc::Global;
 
-/// The text of a type, as a contract writes it; `no-type`, which no contract writes, prints as this word.
+/// The text of a type, as a contract writes it; `no-type`, which no contract writes, prints as this
+/// word.
 pub fn print_type(alloc: Global, t: &SizedTy) -> Result<Vec<u8>, NoMemory>
     ensures { IfOk result (λ text. text.items ≡ printed_type t.now) }
 {
@@ -55,7 +56,9 @@ fn write_type(out: &mut Vec<u8>, alloc: Global, ty: &Ty) -> Result<(), NoMemory>
 
 #[cycle(write)]
 fn write_list(out: &mut Vec<u8>, alloc: Global, most: u32, entry: &Ty) -> Result<(), NoMemory>
-    ensures { IfOk result (λ _. out.new.items ≡ out.old.items ++ (codes "(list " ++ (decimal most ++ (codes " " ++ (printed_type entry.now ++ codes ")"))))) }
+    ensures { IfOk result (λ _. out.new.items
+        ≡ out.old.items ++ (codes "(list "
+        ++ (decimal most ++ (codes " " ++ (printed_type entry.now ++ codes ")"))))) }
 {
     write_bytes(out, b"(list ")?;
     write_number(out, alloc, most)?;
@@ -66,7 +69,8 @@ fn write_list(out: &mut Vec<u8>, alloc: Global, most: u32, entry: &Ty) -> Result
 
 #[cycle(write)]
 fn write_optional(out: &mut Vec<u8>, alloc: Global, part: &Ty) -> Result<(), NoMemory>
-    ensures { IfOk result (λ _. out.new.items ≡ out.old.items ++ (codes "(optional " ++ (printed_type part.now ++ codes ")"))) }
+    ensures { IfOk result (λ _. out.new.items
+        ≡ out.old.items ++ (codes "(optional " ++ (printed_type part.now ++ codes ")"))) }
 {
     write_bytes(out, b"(optional ")?;
     write_type(out, alloc, part)?;
@@ -75,7 +79,9 @@ fn write_optional(out: &mut Vec<u8>, alloc: Global, part: &Ty) -> Result<(), NoM
 
 #[cycle(write)]
 fn write_response(out: &mut Vec<u8>, alloc: Global, good: &Ty, bad: &Ty) -> Result<(), NoMemory>
-    ensures { IfOk result (λ _. out.new.items ≡ out.old.items ++ (codes "(response " ++ (printed_type good.now ++ (codes " " ++ (printed_type bad.now ++ codes ")"))))) }
+    ensures { IfOk result (λ _. out.new.items
+        ≡ out.old.items ++ (codes "(response "
+        ++ (printed_type good.now ++ (codes " " ++ (printed_type bad.now ++ codes ")"))))) }
 {
     write_bytes(out, b"(response ")?;
     write_type(out, alloc, good)?;
@@ -86,7 +92,8 @@ fn write_response(out: &mut Vec<u8>, alloc: Global, good: &Ty, bad: &Ty) -> Resu
 
 #[cycle(write)]
 fn write_tuple(out: &mut Vec<u8>, alloc: Global, row: &[(Name, Ty)]) -> Result<(), NoMemory>
-    ensures { IfOk result (λ _. out.new.items ≡ out.old.items ++ (codes "{" ++ (fields_text (fields row.now) ++ codes "}"))) }
+    ensures { IfOk result (λ _. out.new.items
+        ≡ out.old.items ++ (codes "{" ++ (fields_text (fields row.now) ++ codes "}"))) }
 {
     write_bytes(out, b"{")?;
     write_fields(out, alloc, row)?;
@@ -120,7 +127,8 @@ fn write_more(out: &mut Vec<u8>, alloc: Global, row: &[(Name, Ty)]) -> Result<()
 
 #[cycle(write)]
 fn write_field(out: &mut Vec<u8>, alloc: Global, field: &(Name, Ty)) -> Result<(), NoMemory>
-    ensures { IfOk result (λ _. out.new.items ≡ out.old.items ++ entry_text field.now.0 (printed_type field.now.1)) }
+    ensures { IfOk result (λ _. out.new.items
+        ≡ out.old.items ++ entry_text field.now.0 (printed_type field.now.1)) }
 {
     write_bytes(out, field.0.bytes())?;
     write_bytes(out, b": ")?;

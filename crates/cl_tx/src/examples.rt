@@ -1,5 +1,5 @@
-//! Steps by example: each function here says what some entries come to, and does nothing. The costs and bounds are those of
-//! the unit table, worked out by hand from the table of charges.
+//! Steps by example: each function here says what some entries come to, and does nothing. The costs
+//! and bounds are those of the unit table, worked out by hand from the table of charges.
 ghost use Rattle.std.specs.Prelude.{◌≡◌, ◌-◌, ◌^◌, [], ◌∷◌, true, false, pos, codes, Some};
 ghost use Rattle.cl_types.specs.Types.{NoType, IntType, UintType, ResponseType};
 ghost use Rattle.cl_shapes.specs.Costs.{cost5};
@@ -22,9 +22,11 @@ ghost use Rattle.cl_tx.specs.StepRows.{called, ran, not_run, hidden, terms, on_s
 
 /// Calls of the contract of `(define-read-only (add1 (x int)) (+ x 1))`.
 pub fn calls_of_a_function()
-    ensures value { called (add1_contract ∷ []) empty_state P0 (codes "main") (codes "add1") (IntV (pos 41) ∷ [])
+    ensures value { called (add1_contract ∷ []) empty_state P0 (codes "main") (codes "add1")
+        (IntV (pos 41) ∷ [])
         ≡ ran (add1_contract ∷ []) empty_state (Plain (IntV (pos 42))) (cost5 5 0 0 0 0) [] }
-    ensures overflow { called (add1_contract ∷ []) empty_state P0 (codes "main") (codes "add1") (IntV (pos (2 ^ 127 - 1)) ∷ [])
+    ensures overflow { called (add1_contract ∷ []) empty_state P0 (codes "main") (codes "add1")
+        (IntV (pos (2 ^ 127 - 1)) ∷ [])
         ≡ ran (add1_contract ∷ []) empty_state (Aborted Overflow) (cost5 5 0 0 0 0) [] }
     ensures no_contract { called (add1_contract ∷ []) empty_state P0 (codes "other") (codes "add1") []
         ≡ not_run (add1_contract ∷ []) empty_state NoContract }
@@ -32,7 +34,8 @@ pub fn calls_of_a_function()
         ≡ not_run (add1_contract ∷ []) empty_state NoFunction }
     ensures count { called (add1_contract ∷ []) empty_state P0 (codes "main") (codes "add1") []
         ≡ not_run (add1_contract ∷ []) empty_state ArgumentCount }
-    ensures misfit { called (add1_contract ∷ []) empty_state P0 (codes "main") (codes "add1") (UintV 41 ∷ [])
+    ensures misfit { called (add1_contract ∷ []) empty_state P0 (codes "main") (codes "add1")
+        (UintV 41 ∷ [])
         ≡ not_run (add1_contract ∷ []) empty_state (Argument 0) }
     ensures private { called hidden empty_state P0 (codes "p") (codes "h") (UintV 41 ∷ [])
         ≡ not_run hidden empty_state NotPublic }
@@ -44,18 +47,28 @@ pub fn calls_of_public_functions()
         ≡ ran (n_contract ∷ []) (n_is 1) (Good (UintV 1)) (cost5 8 2 34 1 17) [] }
     ensures bad { called both (v_and_w 0 0) P0 (codes "b") (codes "set-it") (UintV 7 ∷ BoolV false ∷ [])
         ≡ ran both (v_and_w 0 0) (Bad (UintV 7)) (cost5 10 0 0 1 17) [] }
-    ensures told { called (token ∷ []) no_coins P0 (codes "token") (codes "mint") (UintV 500 ∷ PrincipalV P1 ∷ [])
+    ensures told { called (token ∷ []) no_coins P0 (codes "token") (codes "mint")
+        (UintV 500 ∷ PrincipalV P1 ∷ [])
         ≡ ran (token ∷ []) after_mint (Good (BoolV true)) (cost5 11 0 0 1 39) (told (FtMint (codes "coin") 500 P1) ∷ []) }
-    ensures aborted { called (token ∷ []) after_mint P0 (codes "token") (codes "mint") (UintV 1000000000001 ∷ PrincipalV P1 ∷ [])
+    ensures aborted { called (token ∷ []) after_mint P0 (codes "token") (codes "mint")
+        (UintV 1000000000001 ∷ PrincipalV P1 ∷ [])
         ≡ ran (token ∷ []) after_mint (Aborted SupplyOverflow) (cost5 11 0 0 1 39) [] }
 {}
 
-/// Calls under a limit that is just enough and one that is one byte too small; and payments that conditions let pass or not.
+/// Calls under a limit that is just enough and one that is one byte too small; and payments that
+/// conditions let pass or not.
 pub fn calls_on_terms()
-    ensures enough { called_on (terms P0 (8 ∷ 2 ∷ 34 ∷ 1 ∷ 17 ∷ []) Allow []) (n_contract ∷ []) (n_is 0) (codes "n") (codes "inc") []
+    ensures enough { called_on (terms P0 (8 ∷ 2 ∷ 34 ∷ 1 ∷ 17 ∷ []) Allow []) (n_contract ∷ [])
+        (n_is 0) (codes "n") (codes "inc") []
         ≡ ran (n_contract ∷ []) (n_is 1) (Good (UintV 1)) (cost5 8 2 34 1 17) [] }
-    ensures too_little { called_on (terms P0 (8 ∷ 2 ∷ 34 ∷ 1 ∷ 16 ∷ []) Allow []) (n_contract ∷ []) (n_is 0) (codes "n") (codes "inc") []
-        ≡ ran (n_contract ∷ []) (n_is 0) (Aborted (CostLimit (record { dimension = WriteLength; attempted = cost5 6 1 17 1 17; limit = 16 }))) (cost5 6 1 17 1 17) [] }
+    ensures too_little { called_on (terms P0 (8 ∷ 2 ∷ 34 ∷ 1 ∷ 16 ∷ []) Allow []) (n_contract ∷ [])
+        (n_is 0) (codes "n") (codes "inc") []
+        ≡ ran (n_contract ∷ []) (n_is 0)
+        (Aborted (CostLimit (record {
+          dimension = WriteLength;
+          attempted = cost5 6 1 17 1 17;
+          limit = 16;
+        }))) (cost5 6 1 17 1 17) [] }
     ensures allowed { pays Allow []
         ≡ ran payer (at_rest paid) (Good (BoolV true)) (cost5 7 0 0 1 61) (record { contract = of_P0 (codes "main"); kind = StxTransfer 300 P1 P0 } ∷ []) }
     ensures denied { pays Deny []
@@ -68,9 +81,11 @@ pub fn calls_on_terms()
         ≡ ran payer rich (Aborted (PostCondition 1)) (cost5 7 0 0 1 61) [] }
 {}
 
-/// Deployments: their costs, and the bounds and return types in the order of the text. The last one aborts, and has them too.
+/// Deployments: their costs, and the bounds and return types in the order of the text. The last one
+/// aborts, and has them too.
 pub fn deployments()
-    ensures add1 { result_in (deployed (codes "main") (codes "(define-read-only (add1 (x int)) (+ x 1))"))
+    ensures add1 { result_in (deployed (codes "main")
+        (codes "(define-read-only (add1 (x int)) (+ x 1))"))
         ≡ Some (record {
           outcome = Done;
           cost = Some (cost5 2 0 0 2 41);
@@ -78,7 +93,8 @@ pub fn deployments()
           types = IntType ∷ [];
           events = [];
         }) }
-    ensures counter { result_in (deployed (codes "n") (codes "(define-data-var n uint u0)(define-public (inc) (begin (var-set n (+ (var-get n) u1)) (ok (var-get n))))"))
+    ensures counter { result_in (deployed (codes "n")
+        (codes "(define-data-var n uint u0)(define-public (inc) (begin (var-set n (+ (var-get n) u1)) (ok (var-get n))))"))
         ≡ Some (record {
           outcome = Done;
           cost = Some (cost5 4 0 0 3 121);
@@ -86,7 +102,8 @@ pub fn deployments()
           types = ResponseType UintType NoType ∷ [];
           events = [];
         }) }
-    ensures in_order { result_in (deployed (codes "a") (codes "(define-private (a) (b))(define-private (b) 1)"))
+    ensures in_order { result_in (deployed (codes "a")
+        (codes "(define-private (a) (b))(define-private (b) 1)"))
         ≡ Some (record {
           outcome = Done;
           cost = Some (cost5 3 0 0 3 46);

@@ -1,8 +1,8 @@
 //! The laws of steps. Each function here is a law, and does nothing.
 ghost use Rattle.cl_tx.specs.Laws.{OneStep, OneRun, OneCommit, FailedChangeNothing, FirstIsNode, NodesStay, RunsEndInNodes, ToldIsAccepted, AcceptedIsTold, CallTellsNone, BlockTellsNone, HeightIsLast};
 
-/// An entry makes one thing of a node: one node after it, with one result. So a file has one list of
-/// results, and commits one list of events.
+/// An entry makes one thing of a node: one node after it, with one result. So a file has one list
+/// of results, and commits one list of events.
 pub fn steps_have_one_result()
     ensures step { OneStep }
     ensures run { OneRun }
@@ -17,8 +17,8 @@ pub fn failed_entries_change_nothing()
     ensures { FailedChangeNothing }
 {}
 
-/// The contracts of a node were accepted and deployed one after another, each with a principal of its own; evaluations and
-/// callers see the same ones; and the state is at rest.
+/// The contracts of a node were accepted and deployed one after another, each with a principal of
+/// its own; evaluations and callers see the same ones; and the state is at rest.
 pub fn nodes_stay_nodes()
     ensures first { FirstIsNode }
     ensures step { NodesStay }
@@ -35,7 +35,8 @@ pub fn bounds_are_told_where_accepted()
     cl_rules::texts_have_one_answer();
 }
 
-/// After the entries of a file the node stands at the height of the file's last block, and at 0 where it has none.
+/// After the entries of a file the node stands at the height of the file's last block, and at 0
+/// where it has none.
 pub fn heights_are_those_of_the_file()
     ensures { HeightIsLast }
 {}

@@ -28,8 +28,8 @@ pub enum Stop {
     EarlyTop,
     /// A8: the charges are above the limit.
     CostLimit(Over),
-    /// A9: the first post-condition that fails, by its place; in deny mode, where each holds and an asset moved that none names,
-    /// their number.
+    /// A9: the first post-condition that fails, by its place; in deny mode, where each holds and an
+    /// asset moved that none names, their number.
     PostCondition { index: u32 },
 }
 
@@ -124,7 +124,8 @@ pub struct Bounds {
 #[derive(Drop)]
 pub struct TxResult {
     pub outcome: Outcome,
-    /// What the entry is charged; up to the first sum that is above the limit. None where it is refused, and of a block.
+    /// What the entry is charged; up to the first sum that is above the limit. None where it is
+    /// refused, and of a block.
     pub cost: Option<Cost5>,
     /// The bounds, where a deployment's source is accepted, also if it then aborts.
     pub bounds: Option<Bounds>,

@@ -8,7 +8,8 @@ use cl_types::NoMemory;
 use std::alloc::Global;
 use std::marker::Model;
 
-/// The calls of a workload, one after another. Contracts see the number that the last one was drawn by.
+/// The calls of a workload, one after another. Contracts see the number that the last one was drawn
+/// by.
 #[derive(Drop)]
 pub struct Draws {
     number: u64,

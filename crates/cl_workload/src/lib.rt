@@ -1,4 +1,5 @@
-//! The workload of the command `gen`: the sample token is deployed, and coins are minted and sent around by drawn numbers.
+//! The workload of the command `gen`: the sample token is deployed, and coins are minted and sent
+//! around by drawn numbers.
 #![tactic(auto)]
 
 mod draws;

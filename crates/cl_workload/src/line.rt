@@ -14,8 +14,8 @@ fn counts_text(alloc: Global, count: u32, tally: &Tally) -> Result<String, Alloc
     format!(in alloc; "calls {count} ok {ok} err {err}")
 }
 
-/// The line of a workload of so many calls: how many gave an ok and an err, how many coins there are after them, how many the
-/// receiver has, and what all entries cost in runtime.
+/// The line of a workload of so many calls: how many gave an ok and an err, how many coins there
+/// are after them, how many the receiver has, and what all entries cost in runtime.
 #[tactic(auto, unfolding(crate::specs::Summary::summary_line))]
 pub fn summary(
     alloc: Global,

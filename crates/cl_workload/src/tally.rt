@@ -67,7 +67,8 @@ impl Tally {
 
     /// Counts one more entry by its result. The results of a workload are small enough for it.
     pub fn add(&mut self, given: &TxResult)
-        ensures { (results : List AResult) → AreSmall (results ++ given.now ∷ []) → self.old ≡ counts_of results → self.new ≡ counts_of (results ++ given.now ∷ []) }
+        ensures { (results : List AResult) → AreSmall (results ++ given.now ∷ []) →
+            self.old ≡ counts_of results → self.new ≡ counts_of (results ++ given.now ∷ []) }
     {
         self.ok = self.ok.saturating_add(ok_of(&given.outcome));
         self.err = self.err.saturating_add(err_of(&given.outcome));

@@ -7,7 +7,8 @@ use cl_ports::Sink;
 use cl_report::{AddressCache, event_line_with};
 use std::alloc::Global;
 
-/// Writes the line of each event to a sink. It counts each line that isn't written, also for want of memory.
+/// Writes the line of each event to a sink. It counts each line that isn't written, also for want
+/// of memory.
 #[derive(Drop)]
 pub(crate) struct EventLines<K> {
     alloc: Global,

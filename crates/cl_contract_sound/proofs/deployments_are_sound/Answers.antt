@@ -1,6 +1,6 @@
 use Rattle.cl_contract_sound.proofs.Deploying.{deployment_is_sound}
 use Rattle.cl_contract_sound.proofs.NextNode.{first_node}
-use Rattle.cl_contract_sound.proofs.Texts.{text_is_sound}
+use Rattle.cl_contract_sound.proofs.TextDeployments.{text_is_sound}
 use Rattle.cl_contract_sound.proofs.deployments_are_sound.Goals as goal
 
 pub returns-clause-sound : goal.returns-clause-sound

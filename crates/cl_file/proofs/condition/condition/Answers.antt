@@ -5,7 +5,7 @@ use Rattle.cl_file.specs.Paths.{below}
 use Rattle.cl_file.specs.Conditions.{condition_by}
 use Rattle.cl_file.proofs.Handed.{ok_so, refuses_so}
 use Rattle.cl_file.proofs.Chain.{then_ok, then_err, said_some, said_none}
-use Rattle.cl_file.proofs.Forms.{condition_is}
+use Rattle.cl_file.proofs.ReadEquations.{condition_is}
 use Rattle.cl_file.proofs.condition.condition.Goals as goal
 
 pub returns-in_default-clause-broken : goal.returns-in_default-clause-broken

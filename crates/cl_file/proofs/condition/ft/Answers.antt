@@ -1,7 +1,7 @@
 use Rattle.std.proofs.Common.{◌∙◌}
 use Rattle.cl_types.proofs.Faults.{passes}
 use Rattle.cl_file.proofs.Chain.{then_ok, then_err}
-use Rattle.cl_file.proofs.Forms.{ft_is}
+use Rattle.cl_file.proofs.ReadEquations.{ft_is}
 use Rattle.cl_file.proofs.condition.ft.Goals as goal
 
 pub returns-in_err-principal-clause-broken : goal.returns-in_err-principal-clause-broken

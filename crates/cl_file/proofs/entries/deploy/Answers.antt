@@ -1,7 +1,7 @@
 use Rattle.std.proofs.Common.{◌∙◌}
 use Rattle.cl_types.proofs.Faults.{passes}
 use Rattle.cl_file.proofs.Chain.{then_ok, then_err}
-use Rattle.cl_file.proofs.Forms.{deploy_is}
+use Rattle.cl_file.proofs.ReadEquations.{deploy_is}
 use Rattle.cl_file.proofs.Filled.{filled_deploy}
 use Rattle.cl_file.proofs.entries.deploy.Goals as goal
 

@@ -2,7 +2,7 @@ use Rattle.std.proofs.Common.{◌∙◌}
 use Rattle.cl_types.proofs.Faults.{passes}
 use Rattle.cl_file.proofs.Handed.{ok_so, refuses_so}
 use Rattle.cl_file.proofs.Chain.{then_ok, then_err}
-use Rattle.cl_file.proofs.Forms.{after_is}
+use Rattle.cl_file.proofs.ReadEquations.{after_is}
 use Rattle.cl_file.proofs.entries.entry_after.Goals as goal
 
 pub returns-in_err-entry-clause-broken : goal.returns-in_err-entry-clause-broken

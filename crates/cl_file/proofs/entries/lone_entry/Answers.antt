@@ -5,7 +5,7 @@ use Rattle.cl_file.specs.Paths.{below}
 use Rattle.cl_file.specs.Entries.{entry_by}
 use Rattle.cl_file.proofs.Handed.{ok_so, refuses_so}
 use Rattle.cl_file.proofs.Chain.{then_ok, then_err, said_some, said_none}
-use Rattle.cl_file.proofs.Forms.{entry_is}
+use Rattle.cl_file.proofs.ReadEquations.{entry_is}
 use Rattle.cl_file.proofs.entries.lone_entry.Goals as goal
 
 pub returns-in_default-clause-broken : goal.returns-in_default-clause-broken

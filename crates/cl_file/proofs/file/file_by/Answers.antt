@@ -1,7 +1,7 @@
 use Rattle.std.proofs.Common.{◌<◌, ◌≤◌, length, ◌∙◌, ap, sym, Ok, arith}
 use Rattle.cl_types.proofs.Faults.{passes}
 use Rattle.cl_file.proofs.Chain.{then_ok, then_err}
-use Rattle.cl_file.proofs.Forms.{file_is}
+use Rattle.cl_file.proofs.ReadEquations.{file_is}
 use Rattle.cl_file.proofs.Tests.{tested_yes, tested_no, few, many}
 use Rattle.cl_file.proofs.file.file_by.Goals as goal
 

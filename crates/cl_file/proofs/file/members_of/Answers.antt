@@ -4,7 +4,7 @@ use Rattle.cl_types.proofs.Faults.{passes}
 use Rattle.cl_file.specs.Objects.{only}
 use Rattle.cl_file.proofs.Handed.{ok_so, refuses_so}
 use Rattle.cl_file.proofs.Chain.{then_ok, then_err}
-use Rattle.cl_file.proofs.Forms.{members_is}
+use Rattle.cl_file.proofs.ReadEquations.{members_is}
 use Rattle.cl_file.proofs.file.members_of.Goals as goal
 
 pub returns-in_err-only-clause-broken : goal.returns-in_err-only-clause-broken

@@ -3,7 +3,7 @@ use Rattle.serde_json.specs.View.{view}
 use Rattle.cl_types.proofs.Faults.{passes}
 use Rattle.cl_file.specs.Objects.{only}
 use Rattle.cl_file.proofs.Chain.{then_ok, then_err}
-use Rattle.cl_file.proofs.Forms.{holder_is}
+use Rattle.cl_file.proofs.ReadEquations.{holder_is}
 use Rattle.cl_file.proofs.holders.holder.Goals as goal
 
 pub returns-in_err-only-clause-broken : goal.returns-in_err-only-clause-broken

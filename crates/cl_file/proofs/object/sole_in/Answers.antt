@@ -1,6 +1,6 @@
 use Rattle.std.proofs.Common.{◌≡◌, List, ℕ, length, Some, ◌∙◌, sym, ap}
 use Rattle.serde_json.specs.View.{view}
-use Rattle.cl_file.proofs.Sole.{not_sole, is_sole}
+use Rattle.cl_file.proofs.SoleMember.{not_sole, is_sole}
 use Rattle.cl_file.proofs.object.sole_in.Goals as goal
 
 pub returns-then-len-ne1 : goal.returns-then-len-ne1

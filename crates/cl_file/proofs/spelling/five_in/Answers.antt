@@ -1,5 +1,5 @@
 use Rattle.std.proofs.Common.{arith}
-use Rattle.cl_file.proofs.Parts.{few_parts, many_parts}
+use Rattle.cl_file.proofs.FiveNumbers.{few_parts, many_parts}
 use Rattle.cl_file.proofs.spelling.five_in.Goals as goal
 
 pub returns-in_default : goal.returns-in_default

@@ -6,7 +6,7 @@ use Rattle.cl_file.specs.Paths.{below, each_from}
 use Rattle.cl_file.specs.Conditions.{condition_at}
 use Rattle.cl_file.proofs.Handed.{ok_so, refuses_so}
 use Rattle.cl_file.proofs.Chain.{then_ok, then_err, said_some, said_none}
-use Rattle.cl_file.proofs.Forms.{post_is}
+use Rattle.cl_file.proofs.ReadEquations.{post_is}
 use Rattle.cl_file.proofs.condition.ConditionsKind.read_at.Goals as goal
 
 pub returns-in_default-clause-broken : goal.returns-in_default-clause-broken
