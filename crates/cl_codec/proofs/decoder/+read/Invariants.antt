@@ -1,7 +1,7 @@
 use Rattle.std.proofs.Common.{◌≡◌, ◌+◌, ◌*◌}
 use Rattle.std.specs.Prelude.{None}
 use Rattle.cl_values.specs.Reading.{read_value, read_items, read_entries}
-use Rattle.cl_codec.proofs.Behind.{with_items, with_entries}
+use Rattle.cl_codec.proofs.RowsRead.{with_items, with_entries}
 use Rattle.cl_codec.proofs.decoder.+read.Given as goal
 
 abbrev pub decreases-read_value : goal.decreases-read_value

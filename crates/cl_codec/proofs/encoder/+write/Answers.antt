@@ -6,7 +6,7 @@ use Rattle.cl_values.specs.Tree.{Tree}
 use Rattle.cl_values.specs.View.{tree_of}
 use Rattle.cl_values.specs.Wire.{body_of, sixteen_bytes}
 use Rattle.cl_values.specs.ViewFalls.{item_lighter, entry_falls}
-use Rattle.cl_codec.proofs.Rows.{values_sized, entries_sized}
+use Rattle.cl_codec.proofs.RowsWritten.{values_sized, entries_sized}
 use Rattle.cl_codec.proofs.encoder.+write.Goals as goal
 
 pub write_body-returns-in-Int : goal.write_body-returns-in-Int
