@@ -1,5 +1,5 @@
 -- The natives as the code tells them apart: by their names, by how many arguments they take.
-use Rattle.std.specs.Prelude.{ℕ, List, [], ◌∷◌, Option, Some, None, if◌then◌else◌}
+use Rattle.std.specs.Prelude.{ℕ, nat_eq, List, [], ◌∷◌, length, Option, Some, None, if◌then◌else◌}
 use Rattle.std.specs.Str.{bytes_eq}
 use Rattle.std.specs.Borrow.{Bor}
 use Rattle.cl_forms.specs.declared.head.Head.{Head}
@@ -22,3 +22,8 @@ seen_entry e = (e.0.now, e.1)
 abbrev pub head_in : List (List ℕ × Head) → List ℕ → Option Head
 head_in [] x = None
 head_in (e ∷ es) x = if bytes_eq e.0 x then Some e.1 else head_in es x
+
+-- the natives whose names are so long
+abbrev pub of_length : ℕ → List (List ℕ × Head) → List (List ℕ × Head)
+of_length n [] = []
+of_length n (e ∷ es) = if nat_eq (length e.0) n then e ∷ of_length n es else of_length n es

@@ -11,11 +11,11 @@ ghost use Rattle.cl_judging.specs.Walking.{Checks, FineAs, ValueAs};
 
 use crate::context::{Context, type_under};
 use crate::names::{is_no_value, keyword_of, keyword_type};
-use crate::node::{broken, finish};
+use crate::node::{broken, finish, node};
 use cl_code::{Keyword, Op};
 use cl_sexpr::{Break, Rule, Span};
 use cl_types::{Fault, Name, SizedTy};
-use cl_typing::{Checked, conclude};
+use cl_typing::{Checked, Concluded, conclude};
 use indexmap::IndexMap;
 use std::alloc::Global;
 
@@ -43,7 +43,13 @@ pub(crate) fn typed(alloc: Global, op: Op, ty: SizedTy, span: Span) -> Result<Ch
     ensures found { FineAs ty span result }
     ensures text { IfOk result (λ c. expression_of c.code ≡ expression op [] span) }
 {
-    value(alloc, op, Ok(ty), span)
+    let codes = Vec::new(alloc);
+    let concluded = Concluded {
+        ty,
+        thrown: None,
+        height: 1,
+    };
+    Ok(node(op, codes, concluded, span))
 }
 
 /// A bound name.

@@ -1,8 +1,8 @@
 //! The natives: their names, how many arguments they take, and which can be given by name (SIP-002).
 ghost use Rattle.std.specs.Prelude.{◌≡◌, map};
-ghost use Rattle.cl_forms.specs.Heads.{row_of, takes};
+ghost use Rattle.cl_forms.specs.Heads.{row_of, table, takes};
 ghost use Rattle.cl_forms.specs.HeadNames.{head_of};
-ghost use Rattle.cl_judging.specs.Natives.{arity_of, head_in, seen_entry};
+ghost use Rattle.cl_judging.specs.Natives.{arity_of, entry_of, head_in, of_length, seen_entry};
 
 use cl_forms::{Head, TokenNative};
 use cl_types::Name;
@@ -94,88 +94,120 @@ fn head_in(natives: &[(&str, Head)], name: &Name) -> Option<Head>
     None
 }
 
-/// The native of a name.
-#[tactic(auto, using(crate::proofs::NativeNames::head_found))]
-pub(crate) fn native(name: &Name) -> Option<Head>
-    ensures { result ≡ head_of name.now }
+/// The natives whose names are so long.
+fn natives_of<'a>(length: usize) -> &'a [(&'a str, Head)]
+    ensures { map seen_entry result.now ≡ of_length length (map entry_of table) }
 {
-    head_in(
-        &[
+    match length {
+        1 => &[
             ("+", Head::OnValues(Native::Add)),
             ("-", Head::OnValues(Native::Subtract)),
             ("*", Head::OnValues(Native::Multiply)),
             ("/", Head::OnValues(Native::Divide)),
+            ("<", Head::OnValues(Native::Less)),
+            (">", Head::OnValues(Native::Greater)),
+        ],
+        2 => &[
+            ("<=", Head::OnValues(Native::AtMost)),
+            (">=", Head::OnValues(Native::AtLeast)),
+            ("ok", Head::OnValues(Native::MakeOk)),
+            ("if", Head::If),
+            ("or", Head::Or),
+        ],
+        3 => &[
             ("mod", Head::OnValues(Native::Modulo)),
             ("pow", Head::OnValues(Native::Power)),
             ("xor", Head::OnValues(Native::Xor)),
-            ("sqrti", Head::OnValues(Native::SquareRoot)),
-            ("log2", Head::OnValues(Native::Log2)),
-            ("to-int", Head::OnValues(Native::ToInt)),
-            ("to-uint", Head::OnValues(Native::ToUint)),
             ("not", Head::OnValues(Native::Not)),
-            ("<", Head::OnValues(Native::Less)),
-            ("<=", Head::OnValues(Native::AtMost)),
-            (">", Head::OnValues(Native::Greater)),
-            (">=", Head::OnValues(Native::AtLeast)),
-            ("is-eq", Head::OnValues(Native::Same)),
-            ("sha256", Head::OnValues(Native::Sha256)),
-            ("sha512/256", Head::OnValues(Native::Sha512Of256)),
-            ("sha512", Head::OnValues(Native::Sha512)),
-            ("some", Head::OnValues(Native::MakeSome)),
-            ("ok", Head::OnValues(Native::MakeOk)),
             ("err", Head::OnValues(Native::MakeErr)),
-            ("is-some", Head::OnValues(Native::IsSome)),
-            ("is-none", Head::OnValues(Native::IsNone)),
-            ("is-ok", Head::OnValues(Native::IsOk)),
-            ("is-err", Head::OnValues(Native::IsErr)),
-            ("default-to", Head::OnValues(Native::DefaultTo)),
-            ("unwrap-panic", Head::OnValues(Native::UnwrapPanic)),
-            ("unwrap-err-panic", Head::OnValues(Native::UnwrapErrPanic)),
-            ("list", Head::OnValues(Native::MakeList)),
-            ("tuple", Head::TupleOf),
-            ("merge", Head::OnValues(Native::Merge)),
-            ("append", Head::OnValues(Native::Append)),
-            ("concat", Head::OnValues(Native::Concat)),
-            ("as-max-len?", Head::AsMaxLen),
             ("get", Head::Get),
             ("len", Head::OnValues(Native::Len)),
-            ("element-at", Head::OnValues(Native::ElementAt)),
-            ("index-of", Head::OnValues(Native::IndexOf)),
+            ("let", Head::Let),
+            ("and", Head::And),
+            ("map", Head::Map),
+        ],
+        4 => &[
+            ("log2", Head::OnValues(Native::Log2)),
+            ("some", Head::OnValues(Native::MakeSome)),
+            ("list", Head::OnValues(Native::MakeList)),
+            ("try!", Head::Try),
+            ("fold", Head::Fold),
+        ],
+        5 => &[
+            ("sqrti", Head::OnValues(Native::SquareRoot)),
+            ("is-eq", Head::OnValues(Native::Same)),
+            ("is-ok", Head::OnValues(Native::IsOk)),
+            ("tuple", Head::TupleOf),
+            ("merge", Head::OnValues(Native::Merge)),
+            ("print", Head::Print),
+            ("begin", Head::Begin),
+            ("match", Head::Match),
+        ],
+        6 => &[
+            ("to-int", Head::OnValues(Native::ToInt)),
+            ("sha256", Head::OnValues(Native::Sha256)),
+            ("sha512", Head::OnValues(Native::Sha512)),
+            ("is-err", Head::OnValues(Native::IsErr)),
+            ("append", Head::OnValues(Native::Append)),
+            ("concat", Head::OnValues(Native::Concat)),
+            ("filter", Head::Filter),
+        ],
+        7 => &[
+            ("to-uint", Head::OnValues(Native::ToUint)),
+            ("is-some", Head::OnValues(Native::IsSome)),
+            ("is-none", Head::OnValues(Native::IsNone)),
             ("var-get", Head::VarGet),
             ("var-set", Head::VarSet),
-            ("map-get?", Head::MapGet),
             ("map-set", Head::MapSet),
-            ("map-insert", Head::MapInsert),
-            ("map-delete", Head::MapDelete),
-            ("ft-get-balance", Head::FtBalance),
-            ("ft-get-supply", Head::FtSupply),
-            ("stx-get-balance", Head::StxBalance),
-            ("nft-get-owner?", Head::NftOwner),
+            ("unwrap!", Head::Unwrap),
+        ],
+        8 => &[
+            ("index-of", Head::OnValues(Native::IndexOf)),
+            ("map-get?", Head::MapGet),
             ("ft-mint?", Head::OnToken(TokenNative::MintFt)),
             ("ft-burn?", Head::OnToken(TokenNative::BurnFt)),
-            ("ft-transfer?", Head::OnToken(TokenNative::SendFt)),
+            ("asserts!", Head::Asserts),
+        ],
+        9 => &[
             ("nft-mint?", Head::OnToken(TokenNative::MintNft)),
             ("nft-burn?", Head::OnToken(TokenNative::BurnNft)),
+            ("stx-burn?", Head::OnToken(TokenNative::BurnStx)),
+        ],
+        10 => &[
+            ("sha512/256", Head::OnValues(Native::Sha512Of256)),
+            ("default-to", Head::OnValues(Native::DefaultTo)),
+            ("element-at", Head::OnValues(Native::ElementAt)),
+            ("map-insert", Head::MapInsert),
+            ("map-delete", Head::MapDelete),
+        ],
+        11 => &[
+            ("as-max-len?", Head::AsMaxLen),
+            ("unwrap-err!", Head::UnwrapErr),
+            ("as-contract", Head::AsContract),
+        ],
+        12 => &[
+            ("unwrap-panic", Head::OnValues(Native::UnwrapPanic)),
+            ("ft-transfer?", Head::OnToken(TokenNative::SendFt)),
+        ],
+        13 => &[
+            ("ft-get-supply", Head::FtSupply),
             ("nft-transfer?", Head::OnToken(TokenNative::SendNft)),
             ("stx-transfer?", Head::OnToken(TokenNative::SendStx)),
-            ("stx-burn?", Head::OnToken(TokenNative::BurnStx)),
-            ("print", Head::Print),
-            ("if", Head::If),
-            ("let", Head::Let),
-            ("begin", Head::Begin),
-            ("and", Head::And),
-            ("or", Head::Or),
-            ("asserts!", Head::Asserts),
-            ("unwrap!", Head::Unwrap),
-            ("unwrap-err!", Head::UnwrapErr),
-            ("try!", Head::Try),
-            ("match", Head::Match),
-            ("as-contract", Head::AsContract),
-            ("map", Head::Map),
-            ("filter", Head::Filter),
-            ("fold", Head::Fold),
+        ],
+        14 => &[
+            ("ft-get-balance", Head::FtBalance),
+            ("nft-get-owner?", Head::NftOwner),
             ("contract-call?", Head::ContractCall),
         ],
-        name,
-    )
+        15 => &[("stx-get-balance", Head::StxBalance)],
+        16 => &[("unwrap-err-panic", Head::OnValues(Native::UnwrapErrPanic))],
+        _ => &[],
+    }
+}
+
+/// The native of a name.
+pub(crate) fn native(name: &Name) -> Option<Head>
+    ensures { result ≡ head_of name.now }
+{
+    head_in(natives_of(name.bytes().len()), name)
 }

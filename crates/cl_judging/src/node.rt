@@ -1,5 +1,5 @@
 //! Nodes of typed trees.
-ghost use Rattle.std.specs.Prelude.{◌≡◌, ◌<◌, length, true, IfOk};
+ghost use Rattle.std.specs.Prelude.{◌≡◌, ◌<◌, length, map, true, IfOk};
 ghost use Rattle.cl_code.specs.Expression.{expression};
 ghost use Rattle.cl_code.specs.Nodes.{has_own_name, has_parts};
 ghost use Rattle.cl_code.specs.Typed.{TypedAs, expression_of, typeds};
@@ -31,35 +31,26 @@ pub(crate) fn broken(rule: Rule, span: Span) -> Fault<Break>
 fn trees(alloc: Global, parts: Vec<Checked>) -> Result<Vec<Code>, NoMemory>
     ensures { IfOk result (λ codes. codes.items ≡ codes_of parts.items) }
 {
-    let mut codes = Vec::new(alloc);
+    let mut codes = Vec::with_capacity(alloc, parts.len())?;
     for part in parts {
-        codes.push(part.code)?;
+        codes.push_reserved(part.code);
     }
     Ok(codes)
 }
 
-#[tactic(auto, using(crate::proofs::Finishing::texts_codes))]
-fn node(
-    alloc: Global,
-    op: Op,
-    parts: Vec<Checked>,
-    concluded: Concluded,
-    span: Span,
-) -> Result<Checked, NoMemory>
-    requires few { length parts.items < 1048576 }
-    requires fit { has_parts op (length parts.items) ≡ true }
+/// A node of what is concluded and its trees. This takes no memory.
+pub(crate) fn node(op: Op, codes: Vec<Code>, concluded: Concluded, span: Span) -> Checked
+    requires few { length codes.items < 1048576 }
+    requires fit { has_parts op (length codes.items) ≡ true }
     requires named { has_own_name op ≡ true }
-    ensures facts { IfOk result (λ c. facts_of c ≡ facts_concluded concluded) }
-    ensures code { IfOk result (λ c. c.code ≡ TypedAs (expression op (texts_of parts.items) span) concluded.ty (typeds (codes_of parts.items))) }
+    ensures facts { facts_of result ≡ facts_concluded concluded }
+    ensures code { result.code ≡ TypedAs (expression op (map expression_of codes.items) span) concluded.ty (typeds codes.items) }
 {
-    let Concluded { ty, thrown, height } = concluded;
-    let codes = trees(alloc, parts)?;
-    let code = Code::make(op, codes, ty, span);
-    Ok(Checked {
-        code,
-        thrown,
-        height,
-    })
+    Checked {
+        code: Code::make(op, codes, concluded.ty, span),
+        thrown: concluded.thrown,
+        height: concluded.height,
+    }
 }
 
 fn at(fault: Fault<Rule>, span: Span) -> Fault<Break>
@@ -87,10 +78,7 @@ pub(crate) fn finish(
     ensures text { IfOk result (λ c. expression_of c.code ≡ expression op (texts_of parts.items) span) }
 {
     match concluded {
-        Ok(concluded) => {
-            let checked = node(alloc, op, parts, concluded, span)?;
-            Ok(checked)
-        }
+        Ok(concluded) => Ok(node(op, trees(alloc, parts)?, concluded, span)),
         Err(fault) => Err(at(fault, span)),
     }
 }

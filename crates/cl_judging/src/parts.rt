@@ -52,7 +52,9 @@ pub(crate) fn split_two(items: &[Sexpr]) -> Option<(&Sexpr, &Sexpr, &[Sexpr])>
 pub(crate) fn push(founds: &mut Vec<Checked>, found: Checked) -> Result<(), NoMemory>
     ensures { OnOk result (founds.new.items ≡ founds.old.items ++ found ∷ []) }
 {
-    Ok(founds.push(found)?)
+    founds.reserve(1)?;
+    founds.push_reserved(found);
+    Ok(())
 }
 
 /// The verdict on a native with these parts.

@@ -1,5 +1,5 @@
-use Rattle.cl_judging.proofs.Atoms.{fine_found}
+use Rattle.cl_judging.proofs.Atoms.{node_fine}
 use Rattle.cl_judging.proofs.leaves.typed.Goals as goal
 
 pub returns-clause-found : goal.returns-clause-found
-returns-clause-found c = fine_found c.args.ty c.args.span c.value.result c.value.ensures.found
+returns-clause-found c = node_fine c.args.ty c.args.span c.node.result c.new-codes.result.items _ c.new-codes.ensures.items c.node.ensures.facts c.node.ensures.code
