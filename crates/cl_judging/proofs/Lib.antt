@@ -14,6 +14,7 @@ pub mod Breaks
 pub mod ControlRows
 pub mod NamedShapes
 pub mod KeywordNames
+pub mod WordLengths
 pub mod OwnNames
 pub mod Counts
 pub mod TargetLaws

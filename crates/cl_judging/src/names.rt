@@ -17,9 +17,14 @@ use indexmap::IndexMap;
 use std::alloc::Global;
 
 /// Whether a name is a word.
+#[tactic(auto, using(crate::proofs::WordLengths::other_length))]
 pub(crate) fn is(name: &Name, word: &str) -> bool
     ensures { result ≡ same name.now word.now }
 {
+    // Most names differ in length, and this is told first.
+    if name.bytes().len() != word.len() {
+        return false;
+    }
     name.bytes() == word.as_bytes()
 }
 
