@@ -72,6 +72,9 @@ fn thrown_by(
 {
     let mut thrown = None;
     for part in parts {
+        if part.thrown.is_none() {
+            continue;
+        }
         match and_thrown(alloc, thrown, &part.thrown) {
             Ok(joined) => thrown = joined,
             Err(fault) => return Err(fault),
