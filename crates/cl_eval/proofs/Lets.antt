@@ -74,9 +74,8 @@ within : (inner base own seen : Bound) → inner ≡ base ++ seen → seen ≡ o
 within inner base own seen h k = ap (λ l. base ++ l) (sym k) ∙ sym h
 
 -- one more name, in a scope of its own
-pub bound_in : (costs : Costs) (q : Purse) (sq : Seen) (through : Take) (S : Scope) (base : Bound) (x : List ℕ) (v : Val) (inner own seen : Bound) (e : Tree) (s : State) → inner ≡ base ++ seen → seen ≡ own → own ≡ (x, v) ∷ [] → watched costs q sq (through (binding x v (with_bound base S)) e s) ≡ watched costs q sq (through (with_bound inner S) e s)
-bound_in costs q sq through S base x v inner own seen e s h k one =
-    ap (λ l. watched costs q sq (through (with_bound (base ++ l) S) e s)) (sym one) ∙ ap (λ b. watched costs q sq (through (with_bound b S) e s)) (within inner base own seen h k)
+pub bound_in : (costs : Costs) (q : Purse) (sq : Seen) (through : Take) (S : Scope) (base : Bound) (x : List ℕ) (v : Val) (inner : Bound) (e : Tree) (s : State) → inner ≡ base ++ (x, v) ∷ [] → watched costs q sq (through (binding x v (with_bound base S)) e s) ≡ watched costs q sq (through (with_bound inner S) e s)
+bound_in costs q sq through S base x v inner e s h = ap (λ b. watched costs q sq (through (with_bound b S) e s)) (sym h)
 
 -- ---- let
 

@@ -1,5 +1,5 @@
 //! Names that are bound to values.
-ghost use Rattle.std.specs.Prelude.{◌≡◌, ◌++◌, [], option_copied};
+ghost use Rattle.std.specs.Prelude.{◌≡◌, ◌++◌, ◌∷◌, [], option_copied};
 ghost use Rattle.std.specs.Option.{option_or};
 ghost use Rattle.cl_meaning.specs.Deployed.{value_of};
 ghost use Rattle.cl_eval.specs.Named.{own_seen, paired};
@@ -58,6 +58,20 @@ impl<'a> Names<'a> {
         Names {
             outer: Some(outer),
             own: Own::Pairs(own),
+        }
+    }
+
+    /// The names of a scope, and one more.
+    pub(crate) fn with_one(
+        outer: &'a Names<'a>,
+        name: &'a Name,
+        value: &'a Val,
+    ) -> Names<'a>
+        ensures { result.values ≡ outer.now.values ++ (name.now, value.now) ∷ [] }
+    {
+        Names {
+            outer: Some(outer),
+            own: Own::One(name, value),
         }
     }
 

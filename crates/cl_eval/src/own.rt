@@ -1,5 +1,5 @@
 //! The names of one scope, with their values.
-ghost use Rattle.std.specs.Prelude.{◌≡◌, option_copied};
+ghost use Rattle.std.specs.Prelude.{◌≡◌, ◌∷◌, [], option_copied};
 ghost use Rattle.std.specs.Str.{bytes_eq};
 ghost use Rattle.cl_meaning.specs.Deployed.{value_of};
 ghost use Rattle.cl_eval.specs.Named.{own_seen, paired};
@@ -13,6 +13,8 @@ use cl_values::Val;
 pub(crate) enum Own<'a> {
     /// The parameters of a function, and the values that it is called with.
     Call(&'a Function, &'a [Val]),
+    /// A name that is bound to a value.
+    One(&'a Name, &'a Val),
     /// Names that are bound one after another.
     Pairs(&'a [(Name, Val)]),
 }
@@ -24,6 +26,7 @@ impl<'a> Own<'a> {
     {
         match self {
             Own::Call(function, values) => among_params(function, values, name),
+            Own::One(bound, value) => only_under(bound, value, name),
             Own::Pairs(pairs) => among_pairs(pairs, name),
         }
     }
@@ -49,6 +52,17 @@ fn among_params<'a>(function: &Function, values: &'a [Val], name: &Name) -> Opti
         }
     }
     None
+}
+
+/// The value that one name is bound to, where it is this one.
+fn only_under<'a>(bound: &Name, value: &'a Val, name: &Name) -> Option<&'a Val>
+    ensures { option_copied result ≡ value_of name.now ((bound.now, value.now) ∷ []) }
+{
+    if is_same(bound, name) {
+        Some(value)
+    } else {
+        None
+    }
 }
 
 /// The first value of a name among these.

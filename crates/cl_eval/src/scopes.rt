@@ -110,9 +110,8 @@ fn evaluate_with<W: Watch>(
     ensures grew { amount (W.seen watch.old) ≤ amount (W.seen watch.new) }
 {
     pay_for(context.costs, meter, CostName::Bind, &value)?;
-    let mut own = Vec::with_capacity(context.alloc, 1)?;
-    own.push((name.name, value))?;
-    evaluate_in(context, names, &own, code, below, world, meter, watch)
+    let inner = Names::with_one(&*names, &name.name, &value);
+    evaluate(context, &inner, code, below, world, meter, watch)
 }
 
 /// A part that sees more names.

@@ -433,7 +433,7 @@ scopes::evaluate_with-returns-in_err-pay_for-clause-meant g t c fits = pay_fails
 
 pub scopes::evaluate_with-returns-clause-meant : goal.scopes::evaluate_with-returns-clause-meant
 scopes::evaluate_with-returns-clause-meant g t c fits =
-    ends_so _ _ _ _ _ _ (charge_within _ _ _ _ _ _ _ c.in_ok-pay_for.ensures ∙ Lets.bound_in (costs_of c.args.context.now) _ _ (means c.args.below) (scope c.args.context.now c.args.names.now) c.args.names.now.values _ _ _ _ _ _ _ refl c.deref.ensures.value (c.in_ok-push.ensures.items ∙ ap (λ l. l ++ (c.args.name.now.name, c.args.value) ∷ []) c.in_ok-own.ensures.items)) (c.evaluate_in.ensures.meant fits)
+    ends_so _ _ _ _ _ _ (charge_within _ _ _ _ _ _ _ c.in_ok-pay_for.ensures ∙ Lets.bound_in (costs_of c.args.context.now) _ _ (means c.args.below) (scope c.args.context.now c.args.names.now) c.args.names.now.values _ _ _ _ _ c.with_one-inner.ensures) (c.evaluate.ensures.meant fits)
 
 pub scopes::evaluate_in-returns-clause-meant : goal.scopes::evaluate_in-returns-clause-meant
 scopes::evaluate_in-returns-clause-meant g t c fits = ends_so _ _ _ _ _ _ (ap (λ b. watched (costs_of c.args.context.now) c.args.meter.now (g.W.Watch.seen c.args.watch.now) (means c.args.below (scope_of c.args.context.now b) (expression_of c.args.code.now) c.args.world.now.stack.top)) (sym c.within-inner.ensures)) (c.evaluate.ensures.meant fits)
@@ -821,12 +821,6 @@ evaluate::evaluate-returns-in_err-saw-clause-meant g t c fits =
 
 pub evaluate::evaluate_parts-returns-in_err-values-clause-meant : goal.evaluate::evaluate_parts-returns-in_err-values-clause-meant
 evaluate::evaluate_parts-returns-in_err-values-clause-meant g t c fits = onto_memory _ _ _ _ _ [] _ _ (err_from_is_err_and c.from_residual.result c.from_residual.ensures.1) (onto-nil _)
-
-pub scopes::evaluate_with-returns-in_err-own-clause-meant : goal.scopes::evaluate_with-returns-in_err-own-clause-meant
-scopes::evaluate_with-returns-in_err-own-clause-meant g t c fits = memory_fails _ _ _ _ _ _ _ _ (err_from_is_err_and c.from_residual-in_err-own.result c.from_residual-in_err-own.ensures.1) (charge_within _ _ _ _ _ _ _ c.in_ok-pay_for.ensures)
-
-pub scopes::evaluate_with-returns-in_err-push-clause-meant : goal.scopes::evaluate_with-returns-in_err-push-clause-meant
-scopes::evaluate_with-returns-in_err-push-clause-meant g t c fits = memory_fails _ _ _ _ _ _ _ _ (err_from_is_err_and c.from_residual-in_err-push.result c.from_residual-in_err-push.ensures.1) (charge_within _ _ _ _ _ _ _ c.in_ok-pay_for.ensures)
 
 pub scopes::evaluate_bindings-returns-in_err-own-clause-meant : goal.scopes::evaluate_bindings-returns-in_err-own-clause-meant
 scopes::evaluate_bindings-returns-in_err-own-clause-meant g t c body fits =
