@@ -127,11 +127,13 @@ fn keep(value: Val, world: &mut World) -> Result<Val, Stop>
 }
 
 /// An early return taken for a return.
+#[inline]
 pub(crate) fn returned(answer: Result<Val, Stop>) -> Result<Val, Stop>
     ensures { result ≡ returned_result answer }
 {
     match answer {
+        Ok(value) => Ok(value),
         Err(Stop::Thrown(value)) => Ok(value),
-        other => other,
+        Err(stop) => Err(stop),
     }
 }

@@ -21,11 +21,12 @@ use crate::payment::pay_for;
 use crate::stop::Stop;
 use cl_c32::{ContractName, Principal};
 use cl_code::Keyword;
-use cl_seq::{bool_value, none, uint_value};
+use cl_seq::{bool_value, int_value, none, uint_value};
 use cl_shapes::{CostName, Meter};
-use cl_types::Name;
+use cl_types::{Name, NoMemory};
 use cl_values::{Kind, Val, Value};
 use indexmap::IndexMap;
+use std::alloc::Global;
 
 /// A value that stands there, charged by its size.
 pub(crate) fn stands(
@@ -40,12 +41,24 @@ pub(crate) fn stands(
     Ok(value)
 }
 
+/// A copy of a value. A number is made anew, which takes less.
+#[inline]
+fn copied(alloc: Global, value: &Val) -> Result<Val, NoMemory>
+    ensures { IfOk result (λ copy. copy ≡ value.now) }
+{
+    match &value.value().kind {
+        Kind::Int(number) => Ok(int_value(*number)),
+        Kind::Uint(number) => Ok(uint_value(*number)),
+        _ => value.copy(alloc),
+    }
+}
+
 /// A copy of a value that stands there, charged by its size.
 fn reads(context: &Context, cost: CostName, value: &Val, meter: &mut Meter) -> Result<Val, Stop>
     ensures { (s : State) → Runs context.now meter.old (standing cost value.now s) result meter.new s }
 {
     pay_for(context.costs, meter, cost, value)?;
-    Ok(value.copy(context.alloc)?)
+    Ok(copied(context.alloc, value)?)
 }
 
 /// A literal of bytes or characters, where they are a value.

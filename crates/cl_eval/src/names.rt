@@ -62,11 +62,7 @@ impl<'a> Names<'a> {
     }
 
     /// The names of a scope, and one more.
-    pub(crate) fn with_one(
-        outer: &'a Names<'a>,
-        name: &'a Name,
-        value: &'a Val,
-    ) -> Names<'a>
+    pub(crate) fn with_one(outer: &'a Names<'a>, name: &'a Name, value: &'a Val) -> Names<'a>
         ensures { result.values ≡ outer.now.values ++ (name.now, value.now) ∷ [] }
     {
         Names {

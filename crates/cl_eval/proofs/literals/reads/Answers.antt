@@ -24,4 +24,4 @@ returns-in_err-pay_for c s =
 
 pub returns : goal.returns
 returns c s =
-    ap (limited _ _) (Laws.standing_at _ _ _) ∙ charge_within _ _ _ _ _ _ c.in_ok-pay_for.ensures ∙ gives _ _ _ _ _ _ c.in_ok-copy.ensures refl
+    ap (limited _ _) (Laws.standing_at _ _ _) ∙ charge_within _ _ _ _ _ _ c.in_ok-pay_for.ensures ∙ gives _ _ _ _ _ _ c.in_ok-copied.ensures refl
