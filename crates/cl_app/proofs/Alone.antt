@@ -1,7 +1,7 @@
 -- Answers that need no file.
 use Rattle.std.proofs.Common.{◌≡◌, ℕ, List, Bool, Option, Some, Result, Ok, Err, IfOk, refl, subst}
 use Rattle.cl_c32.specs.Address.{AddressParts}
-use Rattle.cl_text.specs.Parsed.{Outcome}
+use Rattle.cl_text.specs.Parsed.{Reading}
 use Rattle.cl_values.specs.Tree.{Tree}
 use Rattle.cl_app.specs.declared.pieces.Reply.{Reply}
 use Rattle.cl_app.specs.declared.pieces.Stop.{Stop}
@@ -29,10 +29,10 @@ check_alone costs address paths (Ok reply) = tt
 check_alone costs address paths (Err stop) = tt
 
 -- arguments are values, or refused by one outcome
-differ : (values : List Tree) (outcome : Outcome) (answer : Answer) (a : Arguments) → a ≡ Ok values → a ≡ Err outcome → answer ≡ no_value_answer outcome
+differ : (values : List Tree) (outcome : Reading) (answer : Answer) (a : Arguments) → a ≡ Ok values → a ≡ Err outcome → answer ≡ no_value_answer outcome
 differ values outcome answer a good bad = absurd cc
 
-same : (outcome other : Outcome) (a : Arguments) → a ≡ Err outcome → a ≡ Err other → outcome ≡ other
+same : (outcome other : Reading) (a : Arguments) → a ≡ Err outcome → a ≡ Err other → outcome ≡ other
 same outcome other a one two = cc
 
 -- where all arguments are values no outcome refuses them
@@ -45,6 +45,6 @@ called_alone once file function words values (Ok reply) spelled = values_alone o
 called_alone once file function words values (Err stop) spelled = tt
 
 -- where one is none, there is one answer
-pub refused_alone : OneOutcome → (file function : List ℕ) (words : List (List ℕ)) (outcome : Outcome) (answer : Answer) → Spell words (Err outcome) → answer ≡ no_value_answer outcome → IsAnswerAlone (Some (Call file function words)) answer
+pub refused_alone : OneOutcome → (file function : List ℕ) (words : List (List ℕ)) (outcome : Reading) (answer : Answer) → Spell words (Err outcome) → answer ≡ no_value_answer outcome → IsAnswerAlone (Some (Call file function words)) answer
 refused_alone once file function words outcome answer spelled is other refused =
-    subst (λ (o : Outcome). answer ≡ no_value_answer o) (same outcome other (Err outcome) refl (spell_same once words (Err outcome) (Err other) spelled refused)) is
+    subst (λ (o : Reading). answer ≡ no_value_answer o) (same outcome other (Err outcome) refl (spell_same once words (Err outcome) (Err other) spelled refused)) is

@@ -16,7 +16,7 @@ use Rattle.cl_rules.specs.FormRules.{Defined}
 use Rattle.cl_rules.specs.Acceptance.{known_of}
 use Rattle.cl_rules.specs.Laws.{AcceptedIsClean, OneDefined, OneFirstOf, OneOrder}
 use Rattle.cl_values.specs.Tree.{Tree}
-use Rattle.cl_text.specs.Parsed.{Outcome, Stands, Broken, NotALiteral, TooDeep, TooLarge, Parses}
+use Rattle.cl_text.specs.Parsed.{Reading, Stands, Broken, NotALiteral, TooDeep, TooLarge, Parses}
 use Rattle.cl_events.specs.State.{State}
 use Rattle.cl_tx.specs.declared.outcome.TxResult.{TxResult}
 use Rattle.cl_file.specs.Files.{FileSeen}
@@ -42,7 +42,7 @@ use Rattle.cl_app.specs.Top.{IsAnswer, AnswersPart, AsksPart}
 use Rattle.cl_app.proofs.Counted.{generated_same}
 
 abbrev pub OneOutcome : Type 0
-OneOutcome = (text : List ℕ) (a b : Outcome) → Parses text a → Parses text b → a ≡ b
+OneOutcome = (text : List ℕ) (a b : Reading) → Parses text a → Parses text b → a ≡ b
 
 abbrev pub OneStateText : Type 0
 OneStateText = (s : State) (a b : List ℕ) → IsStateText s a → IsStateText s b → a ≡ b
@@ -142,7 +142,7 @@ check_same : OneOfSources → (files : Held) (costs : List ℕ) (address : Addre
 check_same laws files costs address paths =
     file_same costs (λ bytes. IsAnswerUnder files costs address paths (table_of bytes)) (λ bytes. under_same laws files costs address paths (table_of bytes)) (content_of files costs)
 
-from_same : (o : Outcome) (Behind : Arguments → Type 0) → ((a b : Arguments) → Behind a → Behind b → a ≡ b) → (a b : Arguments) → from_word o Behind a → from_word o Behind b → a ≡ b
+from_same : (o : Reading) (Behind : Arguments → Type 0) → ((a b : Arguments) → Behind a → Behind b → a ≡ b) → (a b : Arguments) → from_word o Behind a → from_word o Behind b → a ≡ b
 from_same (Stands v) Behind once a b p q = p.2 ∙ ap (before v) (once p.0 q.0 p.1 q.1) ∙ sym q.2
 from_same (Broken r) Behind once a b p q = p ∙ sym q
 from_same (NotALiteral span) Behind once a b p q = p ∙ sym q
@@ -154,7 +154,7 @@ pub spell_same : OneOutcome → (words : List (List ℕ)) (a b : Arguments) → 
 spell_same once [] a b p q = p ∙ sym q
 spell_same once (word ∷ words) a b p q =
     let outcome : p.0 ≡ q.0 = once word p.0 q.0 p.1 q.1 in
-    from_same q.0 (Spell words) (spell_same once words) a b (subst (λ (o : Outcome). from_word o (Spell words) a) outcome p.2) q.2
+    from_same q.0 (Spell words) (spell_same once words) a b (subst (λ (o : Reading). from_word o (Spell words) a) outcome p.2) q.2
 
 arguments_same : OneRun → (file function : List ℕ) (args : Arguments) (files : Held) → OneAnswer (IsArgumentsAnswer file function args files)
 arguments_same once file function (Err outcome) files x y p q = p ∙ sym q

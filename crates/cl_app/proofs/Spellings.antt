@@ -5,7 +5,7 @@ use Rattle.cl_ports.specs.Files.{Held}
 use Rattle.hex.specs.Hex.{decode_of}
 use Rattle.cl_values.specs.Reading.{decoded}
 use Rattle.cl_types.specs.declared.fault.NoMemory.{NoMemory}
-use Rattle.cl_text.specs.Parsed.{Outcome, Parses, outcome_of}
+use Rattle.cl_text.specs.Parsed.{Reading, Parses, outcome_of}
 use Rattle.cl_text.specs.declared.refusal.TextRefusal.{TextRefusal}
 use Rattle.cl_text.specs.declared.refusal.TextRefusal.TheVariants as refused
 use Rattle.cl_app.specs.Spelling.{Answer, digits_in, bytes_answer, hex_answer, value_answer, no_value_answer, wire_answer}
@@ -20,7 +20,7 @@ value_of_bytes r word digits bytes held d e h answers =
     let is : bytes_answer (decoded held) ≡ value_answer word = ap (λ (b : List ℕ). bytes_answer (decoded b)) h ∙ sym (ap hex_answer (ap decode_of (sym d) ∙ e)) in
     subst (λ (a : Answer). IfOk r (λ reply. answer_of reply ≡ a)) is answers
 
-pub wire_of_outcome : (r : Result Reply NoMemory) (word : List ℕ) (o : Outcome) → Parses word o → IfOk r (λ reply. answer_of reply ≡ wire_answer o) → IfOk r (λ reply. IsWireAnswer word (answer_of reply))
+pub wire_of_outcome : (r : Result Reply NoMemory) (word : List ℕ) (o : Reading) → Parses word o → IfOk r (λ reply. answer_of reply ≡ wire_answer o) → IfOk r (λ reply. IsWireAnswer word (answer_of reply))
 wire_of_outcome (Ok reply) word o parses h = (o, parses, h)
 wire_of_outcome (Err e) word o parses h = tt
 

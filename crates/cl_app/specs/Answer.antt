@@ -1,7 +1,7 @@
 -- What the program writes for its words and the files that are held, and the status that it ends with.
 use Rattle.std.specs.Prelude.{◌≡◌, ℕ, List, [], ◌∷◌, Option, Some, None, Ok, Err, codes}
 use Rattle.cl_ports.specs.Files.{Held, content_of}
-use Rattle.cl_text.specs.Parsed.{Outcome, Parses}
+use Rattle.cl_text.specs.Parsed.{Reading, Parses}
 use Rattle.cl_app.specs.Words.{Command, Call, Run, Check, Value, Wire, Gen}
 use Rattle.cl_app.specs.Argument.{Arguments, Spell}
 use Rattle.cl_app.specs.Spelling.{Answer, no_value_answer, value_answer, wire_answer}
@@ -26,7 +26,7 @@ IsCallAnswer file function words files answer = (args : Arguments) × Spell word
 
 -- the answer to `wire`
 abbrev pub IsWireAnswer : List ℕ → Answer → Type 0
-IsWireAnswer word answer = (outcome : Outcome) × Parses word outcome × (answer ≡ wire_answer outcome)
+IsWireAnswer word answer = (outcome : Reading) × Parses word outcome × (answer ≡ wire_answer outcome)
 
 -- the answer to a command; none where a file isn't held that is reached
 abbrev pub IsAnswerTo : Option Command → Held → Answer → Type 0
@@ -56,7 +56,7 @@ IsNamed (Some (Gen seed count)) files names = names ≡ []
 -- `call` where an argument is no value
 abbrev pub IsAnswerAlone : Option Command → Answer → Type 0
 IsAnswerAlone None answer = answer ≡ usage_answer
-IsAnswerAlone (Some (Call file function words)) answer = (outcome : Outcome) → Spell words (Err outcome) → answer ≡ no_value_answer outcome
+IsAnswerAlone (Some (Call file function words)) answer = (outcome : Reading) → Spell words (Err outcome) → answer ≡ no_value_answer outcome
 IsAnswerAlone (Some (Run costs file state)) answer = Unit {0}
 IsAnswerAlone (Some (Check costs address paths)) answer = Unit {0}
 IsAnswerAlone (Some (Value word)) answer = answer ≡ value_answer word

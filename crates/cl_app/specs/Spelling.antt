@@ -8,7 +8,7 @@ use Rattle.cl_values.specs.Reading.{decoded}
 use Rattle.cl_values.specs.declared.fault.DecodeRefusal.{DecodeRefusal}
 use Rattle.cl_values.specs.declared.fault.DecodeRefusal.TheVariants.{Ended, BadPrefix, BadName, KeysOrder, BadText, TooDeep as DeepBytes, TooLong, Extra, NoKeys}
 use Rattle.cl_text.specs.Printed.{printed}
-use Rattle.cl_text.specs.Parsed.{Outcome, Stands, Broken, NotALiteral, TooDeep, TooLarge}
+use Rattle.cl_text.specs.Parsed.{Reading, Stands, Broken, NotALiteral, TooDeep, TooLarge}
 use Rattle.cl_sexpr.specs.Rules.{rule_text}
 use Rattle.cl_report.specs.Refusals.{span_text}
 
@@ -57,7 +57,7 @@ abbrev pub value_answer : List ℕ → Answer
 value_answer word = hex_answer (decode_of (digits_in word))
 
 -- why a text is no value, and where
-abbrev pub outcome_text : Outcome → List ℕ
+abbrev pub outcome_text : Reading → List ℕ
 outcome_text (Stands v) = []
 outcome_text (Broken b) = rule_text b.rule ++ span_text b.span
 outcome_text (NotALiteral span) = codes "NotALiteral" ++ span_text span
@@ -65,11 +65,11 @@ outcome_text (TooDeep span) = codes "TooDeep" ++ span_text span
 outcome_text (TooLarge span) = codes "TooLarge" ++ span_text span
 
 -- the answer to a text that is no value
-abbrev pub no_value_answer : Outcome → Answer
+abbrev pub no_value_answer : Reading → Answer
 no_value_answer outcome = refused_answer (outcome_text outcome)
 
 -- the answer to `wire`, by what becomes of the word
-abbrev pub wire_answer : Outcome → Answer
+abbrev pub wire_answer : Reading → Answer
 wire_answer (Stands v) = line_answer (codes "0x" ++ encode_lower (wire v))
 wire_answer (Broken b) = no_value_answer (Broken b)
 wire_answer (NotALiteral span) = no_value_answer (NotALiteral span)

@@ -3,16 +3,16 @@ use Rattle.std.proofs.Common.{◌≡◌, ◌≢◌, List, [], ◌∷◌, length,
 use Rattle.cl_values.specs.declared.native.Arity.TheVariants as arity
 use Rattle.cl_values.specs.Tree.{Tree}
 use Rattle.cl_values.specs.Computed.{Undefined}
-use Rattle.cl_values.specs.Natives.{Row, One, Two, Each, arity_of, at_row}
+use Rattle.cl_values.specs.Natives.{ValueRow, One, Two, Each, arity_of, at_row}
 
-pub not_one : (row : Row) (vs : List Tree) → arity_of row ≡ arity.One → length vs ≢ 1 → at_row row vs ≡ Undefined
+pub not_one : (row : ValueRow) (vs : List Tree) → arity_of row ≡ arity.One → length vs ≢ 1 → at_row row vs ≡ Undefined
 not_one (One f) [] e h = refl
 not_one (One f) (v ∷ []) e h = absurd (h refl)
 not_one (One f) (v ∷ w ∷ vs) e h = refl
 not_one (Two f) vs e h = absurd cc
 not_one (Each f) vs e h = absurd cc
 
-pub not_two : (row : Row) (vs : List Tree) → arity_of row ≡ arity.Two → length vs ≢ 2 → at_row row vs ≡ Undefined
+pub not_two : (row : ValueRow) (vs : List Tree) → arity_of row ≡ arity.Two → length vs ≢ 2 → at_row row vs ≡ Undefined
 not_two (Two f) [] e h = refl
 not_two (Two f) (v ∷ []) e h = refl
 not_two (Two f) (v ∷ w ∷ []) e h = absurd (h refl)

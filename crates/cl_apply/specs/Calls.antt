@@ -6,14 +6,14 @@ use Rattle.cl_values.specs.Tree.{Tree}
 use Rattle.cl_values.specs.Computed.{Computed, Gives, Fails, Panics, kept}
 use Rattle.cl_values.specs.Sequences.{within_length}
 use Rattle.cl_values.specs.Tuples.{part_at}
-use Rattle.cl_values.specs.Natives.{Row, One, row_of, at_row}
+use Rattle.cl_values.specs.Natives.{ValueRow, One, value_row_of, at_row}
 use Rattle.cl_apply.specs.declared.refusal.ApplyRefusal.{ApplyRefusal}
 use Rattle.cl_apply.specs.declared.refusal.ApplyRefusal.TheVariants.{Arith, Panic}
 use Rattle.cl_apply.specs.declared.call.NativeCall.{NativeCall}
 use Rattle.cl_apply.specs.declared.call.NativeCall.TheVariants.{OnValues, Get, AsMaxLen}
 
-abbrev pub call_row : NativeCall → Row
-call_row (OnValues native) = row_of native
+abbrev pub call_row : NativeCall → ValueRow
+call_row (OnValues native) = value_row_of native
 call_row (Get key) = One (part_at key)
 call_row (AsMaxLen most) = One (within_length most)
 

@@ -6,7 +6,7 @@ ghost use Rattle.cl_values.specs.declared.native.Arity.TheVariants.{One, Two, Ea
 ghost use Rattle.cl_values.specs.Tree.{SomeV, ResponseV, depth_of, entries_of};
 ghost use Rattle.cl_values.specs.Computed.{Computed, Undefined, is_within, is_defined, kept};
 ghost use Rattle.cl_values.specs.Applied.{Answered};
-ghost use Rattle.cl_values.specs.Natives.{One as RowOfOne, native_value, at_row, arity_of, row_of};
+ghost use Rattle.cl_values.specs.Natives.{One as RowOfOne, native_value, at_row, arity_of, value_row_of};
 ghost use Rattle.cl_values.specs.Natives.{unwrap_panic, unwrap_err_panic, default_to, digest, listed};
 ghost use Rattle.sha2.specs.Sha256.{sha256};
 ghost use Rattle.sha2.specs.Sha512.{sha512, sha512_256};
@@ -259,7 +259,7 @@ fn has_key(key: &Name, value: &Val) -> bool
 /// A native of one argument.
 #[tactic(auto, unfolding(cl_values::specs::Natives::native_value))]
 fn is_defined_at_one(native: Native, value: &Val) -> bool
-    requires { arity_of (row_of native) ≡ One }
+    requires { arity_of (value_row_of native) ≡ One }
     ensures { result ≡ is_defined (kept (native_value native (value.now ∷ []))) }
 {
     match native {
@@ -274,7 +274,7 @@ fn is_defined_at_one(native: Native, value: &Val) -> bool
 /// A native of two arguments.
 #[tactic(auto, unfolding(cl_values::specs::Natives::native_value))]
 fn is_defined_at_two(native: Native, first: &Val, second: &Val) -> bool
-    requires { arity_of (row_of native) ≡ Two }
+    requires { arity_of (value_row_of native) ≡ Two }
     ensures { result ≡ is_defined (kept (native_value native (first.now ∷ second.now ∷ []))) }
 {
     match native {
@@ -291,7 +291,7 @@ fn is_defined_at_two(native: Native, first: &Val, second: &Val) -> bool
 /// A native of any number of arguments.
 #[tactic(auto, unfolding(cl_values::specs::Natives::native_value))]
 fn is_defined_at_each(native: Native, values: &[Val]) -> bool
-    requires { arity_of (row_of native) ≡ Each }
+    requires { arity_of (value_row_of native) ≡ Each }
     ensures { result ≡ is_defined (kept (native_value native values.now)) }
 {
     match native {

@@ -4,7 +4,7 @@ ghost use Rattle.cl_values.specs.declared.native.Arity.TheVariants.{One, Two, Ea
 ghost use Rattle.cl_values.specs.Tree.{UintV};
 ghost use Rattle.cl_values.specs.Computed.{Computed, Gives};
 ghost use Rattle.cl_values.specs.Applied.{Answered, Applied};
-ghost use Rattle.cl_values.specs.Natives.{native_value, arity_of, row_of};
+ghost use Rattle.cl_values.specs.Natives.{native_value, arity_of, value_row_of};
 ghost use Rattle.cl_values.specs.Sequences.{length_of, element_at, index_of, optional};
 ghost use Rattle.cl_apply.specs.Entries.{as_optional};
 ghost use Rattle.cl_apply.specs.Reading.{is_read};
@@ -51,7 +51,7 @@ fn count(value: &Val) -> Result<Val, NoValue>
 /// A native of one argument that is only looked at.
 #[tactic(auto, unfolding(cl_values::specs::Natives::native_value))]
 pub(crate) fn read_one(native: Native, value: &Val) -> Result<Val, NoValue>
-    requires one { arity_of (row_of native) ≡ One }
+    requires one { arity_of (value_row_of native) ≡ One }
     requires read { is_read native ≡ true }
     ensures { Answered (native_value native (value.now ∷ [])) result }
 {
@@ -73,7 +73,7 @@ pub(crate) fn read_one(native: Native, value: &Val) -> Result<Val, NoValue>
 /// A native of one argument.
 #[tactic(auto, unfolding(cl_values::specs::Natives::native_value))]
 fn apply_one(alloc: Global, native: Native, value: Val) -> Result<Val, Fault<NoValue>>
-    requires { arity_of (row_of native) ≡ One }
+    requires { arity_of (value_row_of native) ≡ One }
     ensures { Applied (native_value native (value ∷ [])) result }
 {
     match native {
@@ -139,7 +139,7 @@ fn place_of(alloc: Global, sequence: &Val, item: &Val) -> Result<Val, Fault<NoVa
 /// A native of two arguments that are only looked at.
 #[tactic(auto, unfolding(cl_values::specs::Natives::native_value))]
 pub(crate) fn read_two(native: Native, first: &Val, second: &Val) -> Result<Val, NoValue>
-    requires two { arity_of (row_of native) ≡ Two }
+    requires two { arity_of (value_row_of native) ≡ Two }
     requires read { is_read native ≡ true }
     ensures { Answered (native_value native (first.now ∷ second.now ∷ [])) result }
 {
@@ -158,7 +158,7 @@ pub(crate) fn read_two(native: Native, first: &Val, second: &Val) -> Result<Val,
 /// A native of two arguments.
 #[tactic(auto, unfolding(cl_values::specs::Natives::native_value))]
 fn apply_two(alloc: Global, native: Native, first: Val, second: Val) -> Result<Val, Fault<NoValue>>
-    requires { arity_of (row_of native) ≡ Two }
+    requires { arity_of (value_row_of native) ≡ Two }
     ensures { Applied (native_value native (first ∷ second ∷ [])) result }
 {
     match native {
@@ -175,7 +175,7 @@ fn apply_two(alloc: Global, native: Native, first: Val, second: Val) -> Result<V
 /// A native of any number of arguments that are only looked at.
 #[tactic(auto, unfolding(cl_values::specs::Natives::native_value))]
 pub(crate) fn read_each(native: Native, values: &[Val]) -> Result<Val, NoValue>
-    requires each { arity_of (row_of native) ≡ Each }
+    requires each { arity_of (value_row_of native) ≡ Each }
     requires read { is_read native ≡ true }
     ensures { Answered (native_value native values.now) result }
 {
@@ -190,7 +190,7 @@ pub(crate) fn read_each(native: Native, values: &[Val]) -> Result<Val, NoValue>
 }
 
 fn read_values(native: Native, values: &[Val]) -> Result<Val, Fault<NoValue>>
-    requires each { arity_of (row_of native) ≡ Each }
+    requires each { arity_of (value_row_of native) ≡ Each }
     requires read { is_read native ≡ true }
     ensures { Applied (native_value native values.now) result }
 {
@@ -200,7 +200,7 @@ fn read_values(native: Native, values: &[Val]) -> Result<Val, Fault<NoValue>>
 /// A native of any number of arguments.
 #[tactic(auto, unfolding(cl_values::specs::Natives::native_value))]
 fn apply_each(alloc: Global, native: Native, values: Vec<Val>) -> Result<Val, Fault<NoValue>>
-    requires { arity_of (row_of native) ≡ Each }
+    requires { arity_of (value_row_of native) ≡ Each }
     ensures { Applied (native_value native values.items) result }
 {
     match native {

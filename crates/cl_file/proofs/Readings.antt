@@ -1,12 +1,12 @@
 -- What the bytes of a file read as is one, since each text has one outcome.
 use Rattle.std.proofs.Common.{◌≡◌, ℕ, List, sym, ap, ◌∙◌}
-use Rattle.cl_text.specs.Parsed.{Outcome, Parses}
+use Rattle.cl_text.specs.Parsed.{Reading, Parses}
 use Rattle.cl_file.specs.Objects.{Values, Texts, value_in}
 use Rattle.cl_file.specs.Files.{file_of}
 use Rattle.cl_file.specs.Laws.{OneFile, EachFile}
 use Rattle.cl_text.proofs.EachParses.{each_parses}
 
-module _ (one : (text : List ℕ) (a b : Outcome) → Parses text a → Parses text b → a ≡ b) where
+module _ (one : (text : List ℕ) (a b : Reading) → Parses text a → Parses text b → a ≡ b) where
   -- the values of texts
   the_texts : Texts
   the_texts = record {

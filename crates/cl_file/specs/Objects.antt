@@ -5,7 +5,7 @@ use Rattle.std.specs.Str.{chars}
 use Rattle.serde_json.specs.Data.{Data, Members, no_members, member as one_member}
 use Rattle.serde_json.specs.Find.{get, as_object}
 use Rattle.cl_values.specs.Tree.{Tree}
-use Rattle.cl_text.specs.Parsed.{Outcome, Stands, Parses}
+use Rattle.cl_text.specs.Parsed.{Reading, Stands, Parses}
 use Rattle.cl_json.specs.Json.{unknown_member}
 use Rattle.cl_file.specs.Paths.{Read, below, and_then, said}
 use Rattle.cl_file.specs.declared.refusal.TxRefusal.TheVariants.{Field, BadValue}
@@ -14,14 +14,14 @@ use Rattle.cl_file.specs.declared.refusal.TxRefusal.TheVariants.{Field, BadValue
 abbrev pub Values : Type 0
 Values = List ℕ → Option Tree
 
-abbrev pub value_in : Outcome → Option Tree
+abbrev pub value_in : Reading → Option Tree
 value_in (Stands v) = Some v
 value_in outcome = None
 
 -- values that are those of the texts
 pub record Texts : Type 0 where
   pub of : Values
-  pub right : (text : List ℕ) (outcome : Outcome) → Parses text outcome → of text ≡ value_in outcome
+  pub right : (text : List ℕ) (outcome : Reading) → Parses text outcome → of text ≡ value_in outcome
 
 -- what a value at a path reads as
 abbrev pub Kind : Type 0 → Type 0

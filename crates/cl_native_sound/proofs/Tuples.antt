@@ -6,11 +6,11 @@ use Rattle.std.specs.Cmp.Lexicographic.{pointwise, same_text}
 use Rattle.std.proofs.lemmas.Bool.{and_parts, and_from, or_parts, false≢true}
 use Rattle.cl_types.specs.Name.{IsName, AreNames}
 use Rattle.cl_types.specs.Types.{PlainType, TupleType, OptionalType, Fields, NoField, Field}
-use Rattle.cl_types.specs.Sized.{is_below, is_among, rises_from as keys_from, rises as keys_rise, placed, fields_rise}
+use Rattle.cl_types.specs.Sized.{is_below, is_among, keys_in, some_rise, rises as keys_rise, placed, fields_rise}
 use Rattle.cl_types.proofs.Lattice.{key_same}
-use Rattle.cl_types.proofs.Rising.{rising_fields, rise_above, absent_above, absent_placed, placed_rises}
+use Rattle.cl_types.proofs.Rising.{rising_fields, rest_rises, absent_above, absent_placed, placed_rises}
 use Rattle.cl_values.specs.Tree.{Tree, TupleV, SomeV, Entries, NoEntry, Entry}
-use Rattle.cl_values.specs.Valid.{IsVal, EntriesInRange, has_rising_keys, has_good_texts, entries_have_rising_keys, entries_have_good_texts, rises_from, rises}
+use Rattle.cl_values.specs.Valid.{IsVal, EntriesInRange, has_rising_keys, has_good_texts, entries_have_rising_keys, entries_have_good_texts, keys_in as entry_keys, rises}
 use Rattle.cl_values.specs.Inhabits.{inhabits, entries_inhabit}
 use Rattle.cl_values.specs.Tuples.{value_at, is_among as entry_among, placed as entry_placed, merged as entries_merged, sorted_entries, merge, known, part_at}
 use Rattle.cl_values.specs.Typed.{IsOf}
@@ -81,17 +81,14 @@ tuple_of P v fs i p =
     (λ es g j. let keys = and_parts (rises es) (entries_have_rising_keys es) j.keys in p es (matched es fs (record { ranges = j.ranges; keys = keys.1; texts = j.texts; typed = g })) keys.0) i
 
 -- the keys of the fields rise as those of the entries
-same_from : (k : List ℕ) (es : Entries) (fs : Fields) → Match es fs → rises_from k es ≡ keys_from k fs
-same_from k NoEntry NoField m = refl
-same_from k NoEntry (Field j t fs) m = absurd m
-same_from k (Entry i v es) NoField m = absurd m
-same_from k (Entry i v es) (Field j t fs) m = ap (λ (x : List ℕ). is_below k x && rises_from x es) m.0 ∙ ap (λ (b : Bool). is_below k j && b) (same_from j es fs m.3)
+same_keys : (es : Entries) (fs : Fields) → Match es fs → entry_keys es ≡ keys_in fs
+same_keys NoEntry NoField m = refl
+same_keys NoEntry (Field j t fs) m = absurd m
+same_keys (Entry i v es) NoField m = absurd m
+same_keys (Entry i v es) (Field j t fs) m = λ x. m.0 x ∷ same_keys es fs m.3 x
 
 pub same_rises : (es : Entries) (fs : Fields) → Match es fs → rises es ≡ keys_rise fs
-same_rises NoEntry NoField m = refl
-same_rises NoEntry (Field j t fs) m = absurd m
-same_rises (Entry k v es) NoField m = absurd m
-same_rises (Entry k v es) (Field j t fs) m = ap (λ (x : List ℕ). rises_from x es) m.0 ∙ same_from j es fs m.3
+same_rises es fs m = ap some_rise (same_keys es fs m)
 
 -- ---- what is made of entries matches what is made of their fields
 
@@ -139,7 +136,7 @@ absent_merged q (Field k t fs) gs n m =
 
 fields_merged_rise : (fs gs : Fields) → fields_rise fs ≡ true → keys_rise gs ≡ true → keys_rise (fields_merged fs gs) ≡ true
 fields_merged_rise NoField gs h g = g
-fields_merged_rise (Field k t fs) gs h g = by (is_among k gs) refl (fields_merged_rise fs gs (rise_above k fs h) g)
+fields_merged_rise (Field k t fs) gs h g = by (is_among k gs) refl (fields_merged_rise fs gs (rest_rises k fs h) g)
   where
     by : (b : Bool) → is_among k gs ≡ b → keys_rise (fields_merged fs gs) ≡ true → keys_rise (if b then fields_merged fs gs else placed k t (fields_merged fs gs)) ≡ true
     by true e rest = rest

@@ -17,16 +17,16 @@ use Rattle.cl_sexpr.specs.Token.{Token, Separator, Comment, Colon, Comma, Opens,
 use Rattle.cl_sexpr.specs.Grammar.{unspaced, IsItem, IsRow, ArePairs, AreMore}
 use Rattle.cl_sexpr.specs.Text.{token_at, Spells, Cuts, Reads}
 use Rattle.cl_values.specs.Tree.{Tree, IntV, UintV, BoolV, BuffV, AsciiV, Utf8V, PrincipalV, ListV, TupleV, NoneV, SomeV, ResponseV, Items, NoItem, Item as Value, Entries, NoEntry, Entry, entries_of, items_of, depth_of, items_depth, entries_depth}
-use Rattle.cl_values.specs.Valid.{rises, has_rising_keys, items_have_rising_keys, entries_have_rising_keys, has_good_texts, items_have_good_texts, entries_have_good_texts, InRange, ItemsInRange, EntriesInRange, IsVal}
+use Rattle.cl_values.specs.Valid.{keys_in, rises, has_rising_keys, items_have_rising_keys, entries_have_rising_keys, has_good_texts, items_have_good_texts, entries_have_good_texts, InRange, ItemsInRange, EntriesInRange, IsVal}
 use Rattle.cl_values.specs.Wire.{size_of}
 use Rattle.cl_text.specs.Printed.{printed, items_text, entries_text, more_text, entry_text, quoted, ascii_text, unicode_text, principal_text}
 use Rattle.cl_text.specs.Literal.{leaf_value, are_tuple_keys, keys_of, by_key, made_of, in_front, tuple_of, literal, literals, entries}
 use Rattle.cl_text.specs.Named.{is_number_name, has_number_key, items_have_number_key, entries_have_number_key}
-use Rattle.cl_text.specs.Parsed.{Outcome, Stands, TooDeep, TooLarge, within_limits, value_outcome, Parses, reads}
+use Rattle.cl_text.specs.Parsed.{Reading, Stands, TooDeep, TooLarge, within_limits, value_outcome, Parses, reads}
 use Rattle.cl_text.proofs.Runs.{no, neither, stops, IsRunOf, run_spells}
 use Rattle.cl_text.proofs.Leaves.{AddressLaws, int_run, uint_run, buffer_run, principal_run, name_run}
 use Rattle.cl_text.proofs.Strings.{ascii_spells, unicode_spells}
-use Rattle.cl_text.proofs.Rising.{list_of, entry_list, keys_in, items_again, entries_again, rising_keys, sorted_again}
+use Rattle.cl_text.proofs.Rising.{list_of, entry_list, items_again, entries_again, rising_keys, sorted_again}
 
 -- ---- cuts
 

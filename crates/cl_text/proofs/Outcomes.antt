@@ -9,14 +9,14 @@ use Rattle.cl_sexpr.specs.Tree.{Tree as Item, Forest, Then, forest}
 use Rattle.cl_sexpr.specs.Text.{Reads, Breaks}
 use Rattle.cl_values.specs.Tree.{Tree}
 use Rattle.cl_text.specs.declared.refusal.TextRefusal.{TextRefusal}
-use Rattle.cl_text.specs.Parsed.{Outcome, Stands, Broken, NotALiteral, items_outcome, Parses, breaks, reads, outcome_of}
+use Rattle.cl_text.specs.Parsed.{Reading, Stands, Broken, NotALiteral, items_outcome, Parses, breaks, reads, outcome_of}
 
 pub more_items : (size : ℕ) (t : Item) (ts : List Item) → (length ts == 0) ≡ false → items_outcome size (Then t (forest ts)) ≡ NotALiteral (record { start = 0; end = size })
 more_items size t [] e = absurd cc
 more_items size t (u ∷ ts) e = refl
 
 -- with the laws of reading: a text has one list of items or one break
-pub one_outcome : ((bytes : List ℕ) (a b : Forest) → Reads bytes a → Reads bytes b → a ≡ b) → ((bytes : List ℕ) (a : Forest) (r : Break) → Reads bytes a → Breaks bytes r → ⊥) → ((bytes : List ℕ) (r s : Break) → Breaks bytes r → Breaks bytes s → r ≡ s) → (text : List ℕ) (a b : Outcome) → Parses text a → Parses text b → a ≡ b
+pub one_outcome : ((bytes : List ℕ) (a b : Forest) → Reads bytes a → Reads bytes b → a ≡ b) → ((bytes : List ℕ) (a : Forest) (r : Break) → Reads bytes a → Breaks bytes r → ⊥) → ((bytes : List ℕ) (r s : Break) → Breaks bytes r → Breaks bytes s → r ≡ s) → (text : List ℕ) (a b : Reading) → Parses text a → Parses text b → a ≡ b
 one_outcome reading either first text a b (breaks r h p) (breaks s g q) = p ∙ (ap Broken (first text r s h g) ∙ sym q)
 one_outcome reading either first text a b (breaks r h p) (reads f g q) = absurd (either text f r g h)
 one_outcome reading either first text a b (reads f h p) (breaks s g q) = absurd (either text f s h g)

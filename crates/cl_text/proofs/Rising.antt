@@ -10,7 +10,7 @@ use Rattle.std.specs.BTreeMap.{insert_entry}
 use Rattle.std.proofs.lemmas.Bool.{and_parts}
 use Rattle.std.proofs.lemmas.Map.Text.{is_eq-slice_cmp}
 use Rattle.cl_values.specs.Tree.{Tree, Items, NoItem, Item, Entries, NoEntry, Entry, items_of, entries_of}
-use Rattle.cl_values.specs.Valid.{is_below, rises_from, rises}
+use Rattle.cl_values.specs.Valid.{is_below, keys_in, rises_from, rises}
 use Rattle.cl_text.specs.Literal.{are_distinct, are_tuple_keys, by_key}
 use Rattle.cl_text.proofs.Sorted.{both_true}
 use Rattle.cl_text.proofs.Parts.{sorted_onto}
@@ -23,10 +23,6 @@ list_of (Item v vs) = v ∷ list_of vs
 abbrev pub entry_list : Entries → List (List ℕ × Tree)
 entry_list NoEntry = []
 entry_list (Entry k v es) = (k, v) ∷ entry_list es
-
-abbrev pub keys_in : Entries → List (List ℕ)
-keys_in NoEntry = []
-keys_in (Entry k v es) = k ∷ keys_in es
 
 pub items_again : (vs : Items) → items_of (list_of vs) ≡ vs
 items_again NoItem = refl

@@ -7,21 +7,21 @@ ghost use Rattle.cl_values.specs.Valid.{IsVal};
 ghost use Rattle.cl_text.specs.Printed.{printed};
 ghost use Rattle.cl_text.specs.Literal.{literal};
 ghost use Rattle.cl_text.specs.Named.{has_number_key};
-ghost use Rattle.cl_text.specs.Parsed.{Outcome, Stands, Parses};
+ghost use Rattle.cl_text.specs.Parsed.{Reading, Stands, Parses};
 
 use cl_c32::{one_number, one_text};
 use cl_sexpr::one_reading;
 
 /// Each text has one outcome: a value, or a refusal with its span.
 pub fn one_outcome()
-    ensures { (text : List ℕ) (a b : Outcome) → Parses text a → Parses text b → a ≡ b }
+    ensures { (text : List ℕ) (a b : Reading) → Parses text a → Parses text b → a ≡ b }
 {
     one_reading();
 }
 
 /// The law that each text has an outcome. With [`one_outcome`] it has one alone.
 pub fn each_text_has_an_outcome()
-    ensures { (text : List ℕ) → (outcome : Outcome) × Parses text outcome }
+    ensures { (text : List ℕ) → (outcome : Reading) × Parses text outcome }
 {}
 
 /// What [`crate::print_value`] prints [`crate::parse`] reads as the value again, where it is no

@@ -6,7 +6,7 @@ ghost use Rattle.cl_values.specs.Tree.{depth_of};
 ghost use Rattle.cl_values.specs.Valid.{has_rising_keys, has_good_texts};
 ghost use Rattle.cl_text.specs.Literal.{literal};
 ghost use Rattle.cl_text.specs.Spelled.{is_spelled, are_spelled};
-ghost use Rattle.cl_text.specs.Parsed.{Outcome, Stands, Parses, within_limits, value_outcome, items_outcome, outcome_of, HasNoNames};
+ghost use Rattle.cl_text.specs.Parsed.{Reading, Stands, Parses, within_limits, value_outcome, items_outcome, outcome_of, HasNoNames};
 
 use crate::TextRefusal;
 use crate::literal::literal;

@@ -2,7 +2,7 @@
 use Rattle.std.proofs.Common.{◌≡◌, ℕ, ◌≤◌, Bool, true, false, ◌&&◌, max, nat_eq, nat_le, List, [], ◌∷◌, Option, Some, None, option_map, if◌then◌else◌, refl, sym, ap, ◌∙◌, subst, arith}
 use Rattle.std.specs.Cmp.Lexicographic.{pointwise}
 use Rattle.cl_types.specs.Types.{PlainType, NoType, IntType, UintType, BoolType, PrincipalType, BuffType, AsciiType, Utf8Type, ListType, TupleType, OptionalType, ResponseType, Fields, NoField, Field, IsLeastSupertype, depth_of, depths_of}
-use Rattle.cl_types.specs.Sized.{most_size, everywhere, everywhere_in, rises_from, rises, keys_rise, are_named, keys_are_names, length_of, is_within, IsSized}
+use Rattle.cl_types.specs.Sized.{most_size, everywhere, everywhere_in, keys_in, some_rise, rises, keys_rise, are_named, keys_are_names, length_of, is_within, IsSized}
 use Rattle.cl_types.specs.Lattice.{both, joined, joined_fields, size_is_within}
 use Rattle.cl_types.proofs.Lattice.{and_left, and_right, and_both, le_max}
 use Rattle.cl_types.proofs.LatticeLeast.{least_joined}
@@ -71,12 +71,8 @@ least_deep a b c l = joined_deep a b c (least_joined a b c l)
 
 -- the keys are those of either
 
-abbrev keys_of : Fields → List (List ℕ)
-keys_of NoField = []
-keys_of (Field k t fs) = k ∷ keys_of fs
-
 abbrev SameKeys : Fields → Option Fields → Type 0
-SameKeys fs (Some hs) = keys_of fs ≡ keys_of hs
+SameKeys fs (Some hs) = keys_in fs ≡ keys_in hs
 SameKeys fs None = Unit {0}
 
 field_keys : (j : List ℕ) (a : PlainType) (fs : Fields) (same : Bool) (o : Option PlainType) (p : Option Fields) → SameKeys fs p → SameKeys (Field j a fs) (if same then both (Field j) o p else None)
@@ -97,7 +93,7 @@ record IsKept (test : PlainType → Bool) : Type 0 where
   ascii : (m n : ℕ) → test (AsciiType m) ≡ true → test (AsciiType n) ≡ true → test (AsciiType (max m n)) ≡ true
   utf8 : (m n : ℕ) → test (Utf8Type m) ≡ true → test (Utf8Type n) ≡ true → test (Utf8Type (max m n)) ≡ true
   list : (m n : ℕ) (a b c : PlainType) → test (ListType m a) ≡ true → test (ListType n b) ≡ true → test (ListType (max m n) c) ≡ true
-  tuple : (fs hs : Fields) → keys_of fs ≡ keys_of hs → test (TupleType fs) ≡ true → test (TupleType hs) ≡ true
+  tuple : (fs hs : Fields) → keys_in fs ≡ keys_in hs → test (TupleType fs) ≡ true → test (TupleType hs) ≡ true
   optional : (a b : PlainType) → test (OptionalType a) ≡ true → test (OptionalType b) ≡ true
   response : (a b c d : PlainType) → test (ResponseType a b) ≡ true → test (ResponseType c d) ≡ true
 
@@ -163,7 +159,7 @@ kept_by test is a b c e = subst (Kept test a b) e (kept test is a b)
 
 -- names and their order
 
-named_alike : (fs hs : Fields) → keys_of fs ≡ keys_of hs → are_named fs ≡ are_named hs
+named_alike : (fs hs : Fields) → keys_in fs ≡ keys_in hs → are_named fs ≡ are_named hs
 named_alike NoField NoField e = refl
 named_alike NoField (Field k t hs) e = absurd cc
 named_alike (Field j t fs) NoField e = absurd cc
@@ -172,22 +168,8 @@ named_alike (Field j t fs) (Field k u hs) e =
     let two : are_named fs ≡ are_named hs = named_alike fs hs cc in
     cc
 
-rises_alike : (j k : List ℕ) (fs hs : Fields) → j ≡ k → keys_of fs ≡ keys_of hs → rises_from j fs ≡ rises_from k hs
-rises_alike j k NoField NoField p e = refl
-rises_alike j k NoField (Field m t hs) p e = absurd cc
-rises_alike j k (Field l t fs) NoField p e = absurd cc
-rises_alike j k (Field l t fs) (Field m u hs) p e =
-    let one : l ≡ m = cc in
-    let two : rises_from l fs ≡ rises_from m hs = rises_alike l m fs hs one cc in
-    cc
-
-rising_alike : (fs hs : Fields) → keys_of fs ≡ keys_of hs → rises fs ≡ rises hs
-rising_alike NoField NoField e = refl
-rising_alike NoField (Field k t hs) e = absurd cc
-rising_alike (Field j t fs) NoField e = absurd cc
-rising_alike (Field j t fs) (Field k u hs) e =
-    let one : j ≡ k = cc in
-    rises_alike j k fs hs one cc
+rising_alike : (fs hs : Fields) → keys_in fs ≡ keys_in hs → rises fs ≡ rises hs
+rising_alike fs hs e = ap some_rise e
 
 names_kept : IsKept keys_are_names
 names_kept = record {

@@ -137,9 +137,9 @@ rising_fields NoField h = refl
 rising_fields (Field k t fs) h = h
 
 -- fields above a key rise, and it isn't among them
-pub rise_above : (k : List ℕ) (fs : Fields) → rises_from k fs ≡ true → fields_rise fs ≡ true
-rise_above k NoField h = refl
-rise_above k (Field j t fs) h = (and_parts (is_below k j) (rises_from j fs) h).1
+pub rest_rises : (k : List ℕ) (fs : Fields) → rises_from k fs ≡ true → fields_rise fs ≡ true
+rest_rises k NoField h = refl
+rest_rises k (Field j t fs) h = (and_parts (is_below k j) (rises_from j fs) h).1
 
 pub absent_above : (k : List ℕ) (fs : Fields) → rises_from k fs ≡ true → is_among k fs ≡ false
 absent_above k NoField h = refl

@@ -53,19 +53,33 @@ abbrev pub is_below : List ℕ → List ℕ → Bool
 is_below k j = is_lt (slice_cmp nat_cmp k j)
 
 -- each key is above the one before it, the first above k
+abbrev pub rise_above : List ℕ → List (List ℕ) → Bool
+rise_above k [] = true
+rise_above k (j ∷ js) = is_below k j && rise_above j js
+
+-- each key is above the one before it
+abbrev pub all_rise : List (List ℕ) → Bool
+all_rise [] = true
+all_rise (k ∷ ks) = rise_above k ks
+
+-- the same, and there is a key
+abbrev pub some_rise : List (List ℕ) → Bool
+some_rise [] = false
+some_rise (k ∷ ks) = rise_above k ks
+
+-- the keys of fields, in their order
+abbrev pub keys_in : Fields → List (List ℕ)
+keys_in NoField = []
+keys_in (Field k t fs) = k ∷ keys_in fs
+
 abbrev pub rises_from : List ℕ → Fields → Bool
-rises_from k NoField = true
-rises_from k (Field j t fs) = is_below k j && rises_from j fs
+rises_from k fs = rise_above k (keys_in fs)
 
--- there is a key, and each is above the one before it
 abbrev pub rises : Fields → Bool
-rises NoField = false
-rises (Field k t fs) = rises_from k fs
+rises fs = some_rise (keys_in fs)
 
--- the same of fields, which may be none
 abbrev pub fields_rise : Fields → Bool
-fields_rise NoField = true
-fields_rise (Field k t fs) = rises_from k fs
+fields_rise fs = all_rise (keys_in fs)
 
 -- the keys of a tuple rise
 abbrev pub keys_rise : PlainType → Bool
