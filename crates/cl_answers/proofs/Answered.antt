@@ -10,7 +10,7 @@ use Rattle.cl_forms.specs.Order.{IsGoodOrder, ordered}
 use Rattle.cl_rules.specs.Context.{CostTable, Known}
 use Rattle.cl_rules.specs.FormRules.{Defined, nothing_defined}
 use Rattle.cl_rules.specs.FormTyping.{FormsTyped, FirstFormBreak}
-use Rattle.cl_rules.specs.Acceptance.{Ordered, TypedAs, forms_at, NoneWrites, Accepted, FirstUnordered, FirstBreakOf, unordered, in_typing, in_writing, in_bounds, in_deployment}
+use Rattle.cl_rules.specs.Acceptance.{Ordered, TypedAs, forms_at, NoneWrites, Accepted, FirstUnordered, unordered, in_typing, in_writing, FirstBreakOf, before_bounds, in_bounds, in_deployment}
 use Rattle.cl_rules.specs.PlainProgram.{bound_stop}
 use Rattle.cl_rules.specs.Laws.{TextDecided, BoundStopIsFirst, NoStopIsBounded, IsFirstAboveLimit}
 use Rattle.cl_answers.specs.Laws.{EachHasOrder, EachWritesOrNot, EachHasAnswer}
@@ -44,15 +44,15 @@ module _ (passes : Passes) (deployed : List Known) (principal : Principal) (tabl
 
       typed_ends : WritingEnds deployed principal forms order → HasAnswer
       typed_ends (inl none) = bounds_end none (bound_stop table defined (forms_at forms order)) refl
-      typed_ends (inr first) = inr (WritesInReadOnly, first.0, [], in_writing forms order defined typed_as first.1 refl refl)
+      typed_ends (inr first) = inr (WritesInReadOnly, first.0, [], before_bounds (in_writing forms order defined typed_as first.1 refl refl))
 
     ordered_ends : ((E : Defined) × FormsTyped (nothing_defined deployed principal (length text)) (forms_at forms order) E) ⊎ ((r : Rule) × (s : Span) × FirstFormBreak (nothing_defined deployed principal (length text)) (forms_at forms order) r s) → HasAnswer
     ordered_ends (inl there) = typed_ends there.0 there.1 (writing_ends passes.writing deployed principal forms order (passes.good forms order is_ordered.order_is))
-    ordered_ends (inr first) = inr (first.0, first.1, [], in_typing forms order is_ordered first.2 refl)
+    ordered_ends (inr first) = inr (first.0, first.1, [], before_bounds (in_typing forms order is_ordered first.2 refl))
 
   text_ends : ((forms : List Form) × (order : List ℕ) × Ordered text forms order) ⊎ ((rule : Rule) × (span : Span) × (names : List (List ℕ)) × FirstUnordered text rule span names) → HasAnswer
   text_ends (inl there) = ordered_ends there.0 there.1 there.2 (passes.typing deployed principal text there.0 there.1 there.2)
-  text_ends (inr first) = inr (first.0, first.1, first.2, unordered first.3)
+  text_ends (inr first) = inr (first.0, first.1, first.2, before_bounds (unordered first.3))
 
 pub each_has_answer : Passes → EachHasAnswer
 each_has_answer passes deployed principal table text = text_ends passes deployed principal table text (passes.order text)

@@ -14,7 +14,7 @@ use Rattle.cl_sexpr.specs.declared.rule.Rule.TheVariants.{BoundTooLarge}
 use Rattle.cl_shapes.specs.declared.cost.Dimension.{Dimension}
 use Rattle.cl_rules.specs.Context.{CostTable, Known, same_principal, same_part}
 use Rattle.cl_rules.specs.FormRules.{Defined, nothing_defined}
-use Rattle.cl_rules.specs.Acceptance.{FirstBreakOf, NoneWrites, TypedAs, in_bounds, in_deployment, known_of}
+use Rattle.cl_rules.specs.Acceptance.{FirstBreakBeforeBounds, FirstBreakOf, NoneWrites, TypedAs, before_bounds, in_bounds, in_deployment, known_of}
 use Rattle.cl_rules.specs.Laws.{IsFirstAboveLimit}
 use Rattle.cl_contracts.specs.declared.checked.Checked.{Checked}
 use Rattle.cl_contracts.specs.declared.contract.Contract.{Contract}
@@ -219,10 +219,10 @@ names_apart (path ∷ paths) h = second (list_all has_name (path ∷ paths)) (na
 
 -- what the checker refuses
 pub break_is_refused : (table : CostTable) (before : Contracts) (source : Source) (text : List ℕ) (broken : SourceBreak) (line : List ℕ) → text ≡ source.text →
-    ((known : List Known) → AreStanding [] before known → (t : CostTable) → FirstBreakOf known source.principal t text broken.rule broken.span broken.names) → line ≡ refused_line source.principal broken → IsRefused table before source line
+    ((known : List Known) → AreStanding [] before known → FirstBreakBeforeBounds known source.principal text broken.rule broken.span broken.names) → line ≡ refused_line source.principal broken → IsRefused table before source line
 break_is_refused table before source text broken line same first is = record {
   broken = broken;
-  first = λ known stand. subst (λ (t : List ℕ). FirstBreakOf known source.principal table t broken.rule broken.span broken.names) same (first known stand table);
+  first = λ known stand. subst (λ (t : List ℕ). FirstBreakOf known source.principal table t broken.rule broken.span broken.names) same (before_bounds (first known stand));
   line = is;
 }
 

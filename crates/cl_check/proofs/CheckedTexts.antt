@@ -16,12 +16,12 @@ use Rattle.cl_forms.specs.Forms.{Form}
 use Rattle.cl_forms.specs.Order.{IsGoodOrder}
 use Rattle.cl_code.specs.declared.definition.Definition.{Definition}
 use Rattle.cl_code.specs.Definitions.{form_defined}
-use Rattle.cl_rules.specs.Context.{CostTable, Known, same, is_named}
+use Rattle.cl_rules.specs.Context.{Known, same, is_named}
 use Rattle.cl_rules.specs.FormRules.{Defined, nothing_defined}
 use Rattle.cl_rules.specs.FormTyping.{FirstFormBreak}
 use Rattle.cl_rules.specs.Laws.{FormsJudgedAreTyped, FormsJudgedStop, TextWalkIsFirst}
 use Rattle.cl_rules.specs.Judging.{Fails, forms_judged}
-use Rattle.cl_rules.specs.Acceptance.{Ordered, TypedAs, NoneWrites, FirstWriting, FirstUnordered, FirstBreakOf, unordered, in_typing, in_writing, forms_at}
+use Rattle.cl_rules.specs.Acceptance.{Ordered, TypedAs, NoneWrites, FirstWriting, FirstUnordered, FirstBreakBeforeBounds, unordered, in_typing, in_writing, forms_at}
 use Rattle.cl_contracts.specs.declared.checked.Checked.{Checked}
 use Rattle.cl_contracts.specs.declared.deployed.Deployed.{Deployed}
 use Rattle.cl_contracts.specs.Seen.{forms_of}
@@ -48,16 +48,16 @@ typed_breaks ctx d p fs NoMemory shown h = tt
 
 -- what comes of a fault, whatever the deployed contracts are known as
 abbrev pub IsFirstOf : Deployed → Principal → List ℕ → Fault Refusal → Type 0
-IsFirstOf d p text fault = IsRefusal fault (λ r. (known : List Known) → Knows d known → (table : CostTable) → FirstBreakOf known p table text r.rule r.span r.names.items)
+IsFirstOf d p text fault = IsRefusal fault (λ r. (known : List Known) → Knows d known → FirstBreakBeforeBounds known p text r.rule r.span r.names.items)
 
 pub text_unordered : (d : Deployed) (p : Principal) (text : List ℕ) (fault : Fault Refusal) → IsRefusal fault (λ r. FirstUnordered text r.rule r.span r.names.items) → IsFirstOf d p text fault
-text_unordered d p text (Refused r) h = λ known k table. unordered h
+text_unordered d p text (Refused r) h = λ known k. unordered h
 text_unordered d p text NoMemory h = tt
 
 pub text_untyped : (d : Deployed) (p : Principal) (text : List ℕ) (forms fs : List Form) (order ns : List ℕ) (fault : Fault Break) (given : Fault Refusal) → fs ≡ forms → ns ≡ order → IsRefusalOf fault given →
     IsRefusal fault (λ b. (known : List Known) (size : ℕ) → Knows d known → forms_judged (nothing_defined known p size) (forms_at fs ns) ≡ Fails b.rule b.span) →
     Ordered text forms order → FormsJudgedStop → TextWalkIsFirst → IsFirstOf d p text given
-text_untyped d p text forms fs order ns (Refused b) (Refused r) same_forms same_order is h ordered stop first = λ known k table.
+text_untyped d p text forms fs order ns (Refused b) (Refused r) same_forms same_order is h ordered stop first = λ known k.
     let D : Defined = nothing_defined known p (length text) in
     let judged : forms_judged D (forms_at forms order) ≡ Fails b.rule b.span = subst (λ (ms : List ℕ). forms_judged D (forms_at forms ms) ≡ Fails b.rule b.span) same_order (subst (λ (gs : List Form). forms_judged D (forms_at gs ns) ≡ Fails b.rule b.span) same_forms (h known (length text) k)) in
     let there : FirstFormBreak D (forms_at forms order) b.rule b.span = first D text forms order b.rule b.span ordered (stop D (forms_at forms order) b.rule b.span judged) in
@@ -97,7 +97,7 @@ module _ (d : Deployed) (p : Principal) (text : List ℕ) (c : Checked) (princip
 
   pub text_writes : (span : Span) (b : Break) (given : Fault Refusal) → b.rule ≡ WritesInReadOnly → b.span ≡ span → IsRefusalOf (Refused b) given →
       ((known : List Known) (E : Defined) → Knows d known → StandsAfter known c E → FirstWriting known c.principal (forms_of c) c.order.items span) → IsFirstOf d p text given
-  text_writes span b (Refused r) rule at is first = λ known k table.
+  text_writes span b (Refused r) rule at is first = λ known k.
       let t = typed known k in
       let there : FirstWriting known p (forms_of c) c.order.items span = subst (λ (q : Principal). FirstWriting known q (forms_of c) c.order.items span) principal (first known t.0 k (stands_after known t.0 t.2)) in
       in_writing (forms_of c) c.order.items t.0 t.1 (subst (λ (s : Span). FirstWriting known p (forms_of c) c.order.items s) (sym (is.1 ∙ at)) there) (is.0 ∙ rule) is.2

@@ -3,8 +3,8 @@ ghost use Rattle.std.specs.Prelude.{◌≡◌, ◌≤◌, ℕ, List, false, leng
 ghost use Rattle.cl_types.specs.Fault.{IfRefused};
 ghost use Rattle.cl_forms.specs.Order.{IsGoodOrder};
 ghost use Rattle.cl_code.specs.Definitions.{form_defined};
-ghost use Rattle.cl_rules.specs.Acceptance.{FirstBreakOf, NoneWrites, TypedAs, forms_at};
-ghost use Rattle.cl_rules.specs.Context.{CostTable, Known};
+ghost use Rattle.cl_rules.specs.Acceptance.{FirstBreakBeforeBounds, NoneWrites, TypedAs, forms_at};
+ghost use Rattle.cl_rules.specs.Context.{Known};
 ghost use Rattle.cl_rules.specs.FormRules.{Defined, nothing_defined};
 ghost use Rattle.cl_rules.specs.Judging.{Fails, forms_judged};
 ghost use Rattle.cl_contracts.specs.Seen.{AreIndexed, IsIndexed, forms_of};
@@ -135,7 +135,7 @@ fn typed_text(
     ensures indexed { IfOk result (λ c. IsIndexed c) }
     ensures principal { IfOk result (λ c. c.principal ≡ principal.now) }
     ensures length { IfOk result (λ c. c.source_length ≡ length source.now) }
-    ensures broken { IfRefused result (λ r. (known : List Known) → Knows deployed.now known → (table : CostTable) → FirstBreakOf known principal.now table source.now r.rule r.span r.names.items) }
+    ensures broken { IfRefused result (λ r. (known : List Known) → Knows deployed.now known → FirstBreakBeforeBounds known principal.now source.now r.rule r.span r.names.items) }
 {
     the_plain_program_is_right();
     forms_of_texts_are_decided();
@@ -168,7 +168,7 @@ pub fn check(
     ensures indexed { IfOk result (λ c. IsIndexed c) }
     ensures principal { IfOk result (λ c. c.principal ≡ principal.now) }
     ensures length { IfOk result (λ c. c.source_length ≡ length source.now) }
-    ensures broken { IfRefused result (λ r. (known : List Known) → Knows deployed.now known → (table : CostTable) → FirstBreakOf known principal.now table source.now r.rule r.span r.names.items) }
+    ensures broken { IfRefused result (λ r. (known : List Known) → Knows deployed.now known → FirstBreakBeforeBounds known principal.now source.now r.rule r.span r.names.items) }
 {
     let checked = match typed_text(alloc, deployed, principal, source) {
         Ok(checked) => checked,

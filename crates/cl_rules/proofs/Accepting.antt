@@ -15,7 +15,7 @@ use Rattle.cl_forms.specs.Shapes.{trees_of}
 use Rattle.cl_rules.specs.Context.{CostTable, Known}
 use Rattle.cl_rules.specs.FormRules.{Defined, nothing_defined}
 use Rattle.cl_rules.specs.FormTyping.{FormsTyped}
-use Rattle.cl_rules.specs.Acceptance.{Ordered, TypedAs, forms_at, WritesWrongly, most_cost, bound_of, Accepted, FirstUnordered, in_text, in_forms, in_order, FirstBreakOf, unordered, in_typing, in_writing, in_bounds, in_deployment}
+use Rattle.cl_rules.specs.Acceptance.{Ordered, TypedAs, forms_at, WritesWrongly, NoneWrites, most_cost, bound_of, Accepted, FirstUnordered, in_text, in_forms, in_order, FirstBreakBeforeBounds, unordered, in_typing, in_writing, FirstBreakOf, before_bounds, in_bounds, in_deployment}
 use Rattle.cl_rules.proofs.FormWalk.{one_end, forms_never_both}
 
 -- what the reader's laws say
@@ -112,16 +112,20 @@ module _ (reading : Reading) where
     pub one_defined : (table : CostTable) (a b : Accepted deployed principal table text) → a.defined ≡ b.defined
     one_defined table a b = defined_same a.typed b.typed
 
-    pub accepted_clean : (table : CostTable) (rule : Rule) (span : Span) (names : List (List ℕ)) → Accepted deployed principal table text → FirstBreakOf deployed principal table text rule span names → ⊥
-    accepted_clean table rule span names a (unordered x) = never_unordered a.typed.is_ordered x
-    accepted_clean table rule span names a (in_typing forms order o x e) =
-        let h = ordered_same a.typed.is_ordered o in
-        forms_never_both (nothing_defined deployed principal (length text)) a.defined (forms_at forms order) rule span (typed_along h.0 h.1 a.typed.are_typed) x
-    accepted_clean table rule span names a (in_writing forms order defined t x e f) =
-        let h = ordered_same a.typed.is_ordered t.is_ordered in
-        a.none_writes x.form
+    -- typed, and none writes: then there is no break before the bounds
+    pub typed_clean : {again : List Form} {places : List ℕ} {D : Defined} (rule : Rule) (span : Span) (names : List (List ℕ)) → TypedAs deployed principal text again places D → NoneWrites deployed principal again → FirstBreakBeforeBounds deployed principal text rule span names → ⊥
+    typed_clean rule span names t none (unordered x) = never_unordered t.is_ordered x
+    typed_clean {D = D} rule span names t none (in_typing forms order o x e) =
+        let h = ordered_same t.is_ordered o in
+        forms_never_both (nothing_defined deployed principal (length text)) D (forms_at forms order) rule span (typed_along h.0 h.1 t.are_typed) x
+    typed_clean rule span names t none (in_writing forms order defined u x e f) =
+        let h = ordered_same t.is_ordered u.is_ordered in
+        none x.form
         (subst (λ fs. Contains fs x.form) (sym h.0) (form_in forms order x.place x.form x.there))
         (subst (λ fs. WritesWrongly deployed principal fs x.form) (sym h.0) x.writes)
+
+    pub accepted_clean : (table : CostTable) (rule : Rule) (span : Span) (names : List (List ℕ)) → Accepted deployed principal table text → FirstBreakOf deployed principal table text rule span names → ⊥
+    accepted_clean table rule span names a (before_bounds x) = typed_clean rule span names a.typed a.none_writes x
     accepted_clean table rule span names a (in_bounds forms order defined dimension t q x e f) =
         let h = ordered_same a.typed.is_ordered t.is_ordered in
         none_some dimension

@@ -10,9 +10,9 @@ use Rattle.cl_forms.specs.Forms.{Form}
 use Rattle.cl_rules.specs.Context.{CostTable, Bound, Known}
 use Rattle.cl_rules.specs.FormRules.{Defined, nothing_defined}
 use Rattle.cl_rules.specs.FormTyping.{FirstFormBreak}
-use Rattle.cl_rules.specs.Acceptance.{Ordered, TypedAs, forms_at, WritesWrongly, FirstWriting, NoneWrites, most_cost, bound_of, FirstBound, DeploymentAbove, FirstBreakOf, unordered, in_typing, in_writing, in_bounds, in_deployment}
+use Rattle.cl_rules.specs.Acceptance.{Ordered, TypedAs, forms_at, FirstWriting, NoneWrites, most_cost, bound_of, FirstBound, DeploymentAbove, FirstBreakBeforeBounds, unordered, in_typing, in_writing, FirstBreakOf, before_bounds, in_bounds, in_deployment}
 use Rattle.cl_rules.proofs.FormWalk.{forms_never_both, one_first_form}
-use Rattle.cl_rules.proofs.Accepting.{some_same, none_some, form_in, ordered_same, never_unordered, typed_along, defined_same}
+use Rattle.cl_rules.proofs.Accepting.{some_same, none_some, form_in, ordered_same, never_unordered, typed_along, defined_same, typed_clean}
 use Rattle.cl_rules.proofs.OneUnordered.{Firsts, Same, one_unordered}
 
 module _ (known : Firsts) (deployed : List Known) (principal : Principal) (table : CostTable) (text : List ℕ) where
@@ -25,11 +25,6 @@ module _ (known : Firsts) (deployed : List Known) (principal : Principal) (table
   break_typed {forms = forms} {order = order} {D = D} {r = r} {s = s} o x t =
       let h = ordered_same known.reading t.is_ordered o in
       forms_never_both Start D (forms_at forms order) r s (typed_along known.reading deployed principal text h.0 h.1 t.are_typed) x
-
-  writing_none : {forms again : List Form} {order places : List ℕ} {s : Span} → Ordered text forms order → FirstWriting deployed principal forms order s → Ordered text again places → NoneWrites deployed principal again → ⊥
-  writing_none {forms = forms} {order = order} o x p q =
-      let h = ordered_same known.reading p o in
-      q x.form (subst (λ fs. Contains fs x.form) (sym h.0) (form_in forms order x.place x.form x.there)) (subst (λ fs. WritesWrongly deployed principal fs x.form) (sym h.0) x.writes)
 
   bound_deployment : {forms again : List Form} {order places : List ℕ} {D E : Defined} {d e : Dimension} {s : Span} → TypedAs deployed principal text forms order D → FirstBound D forms order table d s → TypedAs deployed principal text again places E → DeploymentAbove E again table e → ⊥
   bound_deployment {forms = forms} {order = order} {d = d} t x u y =
@@ -63,29 +58,28 @@ module _ (known : Firsts) (deployed : List Known) (principal : Principal) (table
   two_deployments {d = d} {e = e} t x v y =
       some_same d e (sym x.above ∙ ap (λ (k : Defined). first_above most_cost (k.deploy table)) (defined_same known.reading deployed principal text t v) ∙ y.above)
 
+  -- a typed contract in which none writes has no break before its bounds
+  none_before : {forms : List Form} {order : List ℕ} {D : Defined} {r : Rule} {s : Span} {n : List (List ℕ)} → TypedAs deployed principal text forms order D → NoneWrites deployed principal forms → FirstBreakBeforeBounds deployed principal text r s n → ⊥
+  none_before {r = r} {s = s} {n = n} t none x = typed_clean known.reading deployed principal text r s n t none x
+
+  one_before : (r q : Rule) (s u : Span) (n m : List (List ℕ)) → FirstBreakBeforeBounds deployed principal text r s n → FirstBreakBeforeBounds deployed principal text q u m → Same r s n q u m
+  one_before r q s u n m (unordered z) (unordered z') = one_unordered known text r q s u n m z z'
+  one_before r q s u n m (unordered z) (in_typing forms order o x e) = absurd (never_unordered known.reading o z)
+  one_before r q s u n m (unordered z) (in_writing forms order D t x e f) = absurd (never_unordered known.reading t.is_ordered z)
+  one_before r q s u n m (in_typing forms order o x e) (unordered z) = absurd (never_unordered known.reading o z)
+  one_before r q s u n m (in_typing forms order o x e) (in_typing forms' order' o' x' e') = let h = ordered_same known.reading o' o in let y = subst (λ fs. FirstFormBreak Start (forms_at fs order) q u) h.0 (subst (λ ps. FirstFormBreak Start (forms_at forms' ps) q u) h.1 x') in let z = one_first_form Start (forms_at forms order) r q s u x y in (z.0, z.1, e ∙ sym e')
+  one_before r q s u n m (in_typing forms order o x e) (in_writing forms' order' D' t' x' e' f') = absurd (break_typed o x t')
+  one_before r q s u n m (in_writing forms order D t x e f) (unordered z) = absurd (never_unordered known.reading t.is_ordered z)
+  one_before r q s u n m (in_writing forms order D t x e f) (in_typing forms' order' o' x' e') = absurd (break_typed o' x' t)
+  one_before r q s u n m (in_writing forms order D t x e f) (in_writing forms' order' D' t' x' e' f') = (e ∙ sym e', two_writings t.is_ordered x t'.is_ordered x', f ∙ sym f')
+
   pub one_first_of : (r q : Rule) (s u : Span) (n m : List (List ℕ)) → FirstBreakOf deployed principal table text r s n → FirstBreakOf deployed principal table text q u m → Same r s n q u m
-  one_first_of r q s u n m (unordered z) (unordered z') = one_unordered known text r q s u n m z z'
-  one_first_of r q s u n m (unordered z) (in_typing forms order o x e) = absurd (never_unordered known.reading o z)
-  one_first_of r q s u n m (unordered z) (in_writing forms order D t x e f) = absurd (never_unordered known.reading t.is_ordered z)
-  one_first_of r q s u n m (unordered z) (in_bounds forms order D d t w x e f) = absurd (never_unordered known.reading t.is_ordered z)
-  one_first_of r q s u n m (unordered z) (in_deployment forms order D d t w x e f g) = absurd (never_unordered known.reading t.is_ordered z)
-  one_first_of r q s u n m (in_typing forms order o x e) (unordered z) = absurd (never_unordered known.reading o z)
-  one_first_of r q s u n m (in_typing forms order o x e) (in_typing forms' order' o' x' e') = let h = ordered_same known.reading o' o in let y = subst (λ fs. FirstFormBreak Start (forms_at fs order) q u) h.0 (subst (λ ps. FirstFormBreak Start (forms_at forms' ps) q u) h.1 x') in let z = one_first_form Start (forms_at forms order) r q s u x y in (z.0, z.1, e ∙ sym e')
-  one_first_of r q s u n m (in_typing forms order o x e) (in_writing forms' order' D' t' x' e' f') = absurd (break_typed o x t')
-  one_first_of r q s u n m (in_typing forms order o x e) (in_bounds forms' order' D' d' t' w' x' e' f') = absurd (break_typed o x t')
-  one_first_of r q s u n m (in_typing forms order o x e) (in_deployment forms' order' D' d' t' w' x' e' f' g') = absurd (break_typed o x t')
-  one_first_of r q s u n m (in_writing forms order D t x e f) (unordered z) = absurd (never_unordered known.reading t.is_ordered z)
-  one_first_of r q s u n m (in_writing forms order D t x e f) (in_typing forms' order' o' x' e') = absurd (break_typed o' x' t)
-  one_first_of r q s u n m (in_writing forms order D t x e f) (in_writing forms' order' D' t' x' e' f') = (e ∙ sym e', two_writings t.is_ordered x t'.is_ordered x', f ∙ sym f')
-  one_first_of r q s u n m (in_writing forms order D t x e f) (in_bounds forms' order' D' d' t' w' x' e' f') = absurd (writing_none t.is_ordered x t'.is_ordered w')
-  one_first_of r q s u n m (in_writing forms order D t x e f) (in_deployment forms' order' D' d' t' w' x' e' f' g') = absurd (writing_none t.is_ordered x t'.is_ordered w')
-  one_first_of r q s u n m (in_bounds forms order D d t w x e f) (unordered z) = absurd (never_unordered known.reading t.is_ordered z)
-  one_first_of r q s u n m (in_bounds forms order D d t w x e f) (in_typing forms' order' o' x' e') = absurd (break_typed o' x' t)
-  one_first_of r q s u n m (in_bounds forms order D d t w x e f) (in_writing forms' order' D' t' x' e' f') = absurd (writing_none t'.is_ordered x' t.is_ordered w)
+  one_first_of r q s u n m (before_bounds x) (before_bounds y) = one_before r q s u n m x y
+  one_first_of r q s u n m (before_bounds x) (in_bounds forms' order' D' d' t' w' y e' f') = absurd (none_before t' w' x)
+  one_first_of r q s u n m (before_bounds x) (in_deployment forms' order' D' d' t' w' y e' f' g') = absurd (none_before t' w' x)
+  one_first_of r q s u n m (in_bounds forms order D d t w x e f) (before_bounds y) = absurd (none_before t w y)
+  one_first_of r q s u n m (in_deployment forms order D d t w x e f g) (before_bounds y) = absurd (none_before t w y)
   one_first_of r q s u n m (in_bounds forms order D d t w x e f) (in_bounds forms' order' D' d' t' w' x' e' f') = let h = two_bounds t x t' x' in (e ∙ ap BoundTooLarge h.0 ∙ sym e', h.1, f ∙ sym f')
   one_first_of r q s u n m (in_bounds forms order D d t w x e f) (in_deployment forms' order' D' d' t' w' x' e' f' g') = absurd (bound_deployment t x t' x')
-  one_first_of r q s u n m (in_deployment forms order D d t w x e f g) (unordered z) = absurd (never_unordered known.reading t.is_ordered z)
-  one_first_of r q s u n m (in_deployment forms order D d t w x e f g) (in_typing forms' order' o' x' e') = absurd (break_typed o' x' t)
-  one_first_of r q s u n m (in_deployment forms order D d t w x e f g) (in_writing forms' order' D' t' x' e' f') = absurd (writing_none t'.is_ordered x' t.is_ordered w)
   one_first_of r q s u n m (in_deployment forms order D d t w x e f g) (in_bounds forms' order' D' d' t' w' x' e' f') = absurd (bound_deployment t' x' t x)
   one_first_of r q s u n m (in_deployment forms order D d t w x e f g) (in_deployment forms' order' D' d' t' w' x' e' f' g') = (e ∙ ap BoundTooLarge (two_deployments t x t' x') ∙ sym e', f ∙ sym f', g ∙ sym g')

@@ -153,15 +153,19 @@ pub data FirstUnordered (text : List ℕ) (rule : Rule) (span : Span) (names : L
   in_forms : (items : Forest) (b : Break) → Reads text items → IsFirstFormRule (trees_of items) b → rule ≡ b.rule → span ≡ b.span → names ≡ [] → FirstUnordered text rule span names
   in_order : (items : Forest) (forms : List Form) → Reads text items → AreForms (trees_of items) forms → IsOfTheCycle forms rule span names → FirstUnordered text rule span names
 
--- The first break of a text, by phases: its rule and span, and for a cycle the names of the forms in it. In the first phase in
--- which a rule is broken, it is the first there.
-pub data FirstBreakOf (deployed : List Known) (principal : Principal) (table : CostTable) (text : List ℕ) (rule : Rule) (span : Span) (names : List (List ℕ)) : Type 0 where
+-- The first break of a text before its bounds are looked at, by phases: its rule and span, and for a cycle the names of the
+-- forms in it. In the first phase in which a rule is broken, it is the first there. No table of costs has a part in it.
+pub data FirstBreakBeforeBounds (deployed : List Known) (principal : Principal) (text : List ℕ) (rule : Rule) (span : Span) (names : List (List ℕ)) : Type 0 where
   -- the text has no forms in an order
-  unordered : FirstUnordered text rule span names → FirstBreakOf deployed principal table text rule span names
+  unordered : FirstUnordered text rule span names → FirstBreakBeforeBounds deployed principal text rule span names
   -- a form isn't typed
-  in_typing : (forms : List Form) (order : List ℕ) → Ordered text forms order → FirstFormBreak (nothing_defined deployed principal (length text)) (forms_at forms order) rule span → names ≡ [] → FirstBreakOf deployed principal table text rule span names
+  in_typing : (forms : List Form) (order : List ℕ) → Ordered text forms order → FirstFormBreak (nothing_defined deployed principal (length text)) (forms_at forms order) rule span → names ≡ [] → FirstBreakBeforeBounds deployed principal text rule span names
   -- a read-only function writes
-  in_writing : (forms : List Form) (order : List ℕ) (defined : Defined) → TypedAs deployed principal text forms order defined → FirstWriting deployed principal forms order span → rule ≡ WritesInReadOnly → names ≡ [] → FirstBreakOf deployed principal table text rule span names
+  in_writing : (forms : List Form) (order : List ℕ) (defined : Defined) → TypedAs deployed principal text forms order defined → FirstWriting deployed principal forms order span → rule ≡ WritesInReadOnly → names ≡ [] → FirstBreakBeforeBounds deployed principal text rule span names
+
+-- the first break of a text: one before its bounds are looked at, or else of them
+pub data FirstBreakOf (deployed : List Known) (principal : Principal) (table : CostTable) (text : List ℕ) (rule : Rule) (span : Span) (names : List (List ℕ)) : Type 0 where
+  before_bounds : FirstBreakBeforeBounds deployed principal text rule span names → FirstBreakOf deployed principal table text rule span names
   -- the bound of a function is above the limit
   in_bounds : (forms : List Form) (order : List ℕ) (defined : Defined) (dimension : Dimension) → TypedAs deployed principal text forms order defined → NoneWrites deployed principal forms → FirstBound defined forms order table dimension span → rule ≡ BoundTooLarge dimension → names ≡ [] → FirstBreakOf deployed principal table text rule span names
   -- the bound of the deployment is

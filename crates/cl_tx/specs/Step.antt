@@ -31,6 +31,9 @@ use Rattle.cl_file.specs.Files.{FileSeen}
 use Rattle.cl_tx.specs.Nodes.{NodeSeen, Stepped, Told, frame_of, contract_of, purse_of, refused, moved, call_ended, deployment_ended}
 
 -- ---- a call
+--
+-- The order of its tests, which are written from the last to the first: the contract is deployed, it has the function, the
+-- function isn't private, it takes so many arguments, each argument is of its parameter's type; then it is applied.
 
 -- the first argument, counted from a number on, that isn't of its parameter's type
 abbrev pub first_misfit : ℕ → List (List ℕ × PlainType) → List Tree → Option ℕ

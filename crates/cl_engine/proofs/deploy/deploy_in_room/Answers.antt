@@ -3,8 +3,8 @@ use Rattle.cl_costs.specs.Tables.{function_of}
 use Rattle.cl_types.specs.Fault.{IsRefusal}
 use Rattle.cl_contracts.specs.Seen.{contract_under}
 use Rattle.cl_contracts.specs.Standings.{Knows}
-use Rattle.cl_rules.specs.Acceptance.{FirstBreakOf}
-use Rattle.cl_rules.specs.Context.{CostTable, Known}
+use Rattle.cl_rules.specs.Acceptance.{FirstBreakBeforeBounds, FirstBreakOf, before_bounds}
+use Rattle.cl_rules.specs.Context.{Known}
 use Rattle.cl_tx.specs.Nodes.{contract_of}
 use Rattle.cl_engine.proofs.Knowing.{is_known, unknown, some_copied, none_copied}
 use Rattle.cl_engine.proofs.Deployments.{checked_so, name_is_taken, source_is_refused}
@@ -29,7 +29,7 @@ returns-in-Err-Refused-clause-steps c = λ known sound.
     let p = contract_of c.args.common.now.sender c.args.name.now in
     let none = ap (λ r. contract_under r es) (sym c.principal_of-principal.ensures) ∙ sym c.find.ensures.there ∙ none_copied c.find.result (sym c.is_some.ensures ∙ c.if-is_some.false) in
     let new = unknown c.args.deployed.now c.what_callers_know.ensures.known c.requires.indexed known sound.trees p none in
-    let broken = subst (λ f. IsRefusal f (λ r. (ks : List Known) → Knows c.args.deployed.now ks → (table : CostTable) → FirstBreakOf ks c.principal_of-principal.result table c.args.source.now r.rule r.span r.names.items)) c.in-Err-Refused.field-0-is c.in-Err-Refused.ensures.broken in
+    let broken = subst (λ f. IsRefusal f (λ r. (ks : List Known) → Knows c.args.deployed.now ks → FirstBreakBeforeBounds ks c.principal_of-principal.result c.args.source.now r.rule r.span r.names.items)) c.in-Err-Refused.field-0-is c.in-Err-Refused.ensures.broken in
     source_is_refused c.args.costs.now es c.args.world.now.stack.top c.args.height c.args.common.now c.args.name.now c.args.source.now known sound q.rule q.span q.names.items new
-    (subst (λ r. FirstBreakOf known r (function_of c.args.costs.now) c.args.source.now q.rule q.span q.names.items) c.principal_of-principal.ensures (broken known sound.trees (function_of c.args.costs.now)))
+    (subst (λ r. FirstBreakOf known r (function_of c.args.costs.now) c.args.source.now q.rule q.span q.names.items) c.principal_of-principal.ensures (before_bounds (broken known sound.trees)))
     c.source_refused.result c.source_refused.ensures
