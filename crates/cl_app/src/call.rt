@@ -154,7 +154,9 @@ fn report_from_genesis(alloc: Global, first: &Entry, second: &Entry) -> Result<R
     let holders = Vec::new(alloc);
     let costs = CostTable::builtin();
     let mut node = Node::genesis(alloc, holders, &costs)?;
-    report_of(alloc, &mut node, first, second)
+    let reply = report_of(alloc, &mut node, first, second);
+    drop(node);
+    reply
 }
 
 /// The call of a function of the contract, by its name.

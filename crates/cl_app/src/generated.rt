@@ -114,6 +114,7 @@ pub(crate) fn gen_reply(alloc: Global, seed: u64, count: u32) -> Result<Reply, N
     let holders = Vec::new(alloc);
     let costs = CostTable::builtin();
     let mut node = Node::genesis(alloc, holders, &costs)?;
-    let line = workload_line(alloc, &mut node, seed, count)?;
-    Ok(one_piece(alloc, line, 0)?)
+    let line = workload_line(alloc, &mut node, seed, count);
+    drop(node);
+    Ok(one_piece(alloc, line?, 0)?)
 }

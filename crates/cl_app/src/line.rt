@@ -4,7 +4,7 @@ ghost use Rattle.cl_app.specs.Seen.{line_of};
 ghost use Rattle.cl_app.specs.Words.{texts, is_dashed, keeps_rule, flag_in, positional, line_in, same_texts};
 
 use cl_types::NoMemory;
-use clap::{Arg, ArgAction, Command};
+use clap::{Arg, ArgAction, ArgMatches, Command};
 use std::alloc::Global;
 
 /// The positional words of a command line that keeps the rule, and whether `--state` is there.
@@ -103,6 +103,23 @@ fn push_copy(alloc: Global, words: &mut Vec<String>, word: &str) -> Result<(), N
     Ok(())
 }
 
+/// The words and the flag that `clap` found.
+fn found(alloc: Global, matches: &ArgMatches) -> Result<Line, NoMemory> {
+    let mut positional = Vec::new(alloc);
+    if let Some(first) = matches.get_str("COMMAND") {
+        push_copy(alloc, &mut positional, first)?;
+    }
+    if let Some(rest) = matches.get_strs("WORDS") {
+        for word in rest {
+            push_copy(alloc, &mut positional, word)?;
+        }
+    }
+    Ok(Line {
+        words: positional,
+        state: matches.get_flag("state"),
+    })
+}
+
 /// What `clap` makes of words that keep the rule. It refuses none of them: where it fails, memory
 /// ran out. No clause speaks of what it gives, since that is tested.
 fn by_clap(alloc: Global, words: &[String]) -> Result<Line, NoMemory> {
@@ -120,19 +137,9 @@ fn by_clap(alloc: Global, words: &[String]) -> Result<Line, NoMemory> {
     let Ok(matches) = command.try_get_matches_from(words) else {
         return Err(NoMemory);
     };
-    let mut positional = Vec::new(alloc);
-    if let Some(first) = matches.get_str("COMMAND") {
-        push_copy(alloc, &mut positional, first)?;
-    }
-    if let Some(rest) = matches.get_strs("WORDS") {
-        for word in rest {
-            push_copy(alloc, &mut positional, word)?;
-        }
-    }
-    Ok(Line {
-        words: positional,
-        state: matches.get_flag("state"),
-    })
+    let line = found(alloc, &matches);
+    drop(matches);
+    line
 }
 
 /// Reads the words; none where they don't keep the rule. It is tested on the words themselves, as

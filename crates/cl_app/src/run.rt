@@ -92,7 +92,9 @@ fn file_report<K: Sink, L: Listener>(
     events_told_in_turn();
     let holders = file.genesis(alloc)?;
     let mut node = Node::genesis(alloc, holders, costs)?;
-    report(alloc, &mut node, file, state, out, listeners)
+    let reply = report(alloc, &mut node, file, state, out, listeners);
+    drop(node);
+    reply
 }
 
 /// The reply to `run` for the bytes that are held under the name.

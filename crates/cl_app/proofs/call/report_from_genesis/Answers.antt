@@ -12,8 +12,8 @@ genesis-requires c =
       total = subst (λ (holders : List (Principal × ℕ)). total holders < 2 ^ 128) (sym c.new-holders.ensures.items) few;
     }
 
-pub report_of-requires : goal.report_of-requires
-report_of-requires c = record {
+pub report_of-reply-requires : goal.report_of-reply-requires
+report_of-reply-requires c = record {
   first = c.in_ok-node.ensures.first ∙ (λ i. record { state = genesis (c.new-holders.ensures.items i); contracts = []; height = 0; costs = c.builtin-costs.ensures i });
   rising = c.requires;
 }

@@ -12,5 +12,5 @@ genesis-requires c =
       total = subst (λ (holders : List (Principal × ℕ)). total holders < 2 ^ 128) (sym c.new-holders.ensures.items) few;
     }
 
-pub workload_line-requires : goal.workload_line-requires
-workload_line-requires c = c.in_ok-node.ensures.first ∙ (λ i. record { state = genesis (c.new-holders.ensures.items i); contracts = []; height = 0; costs = c.builtin-costs.ensures i })
+pub workload_line-line-requires : goal.workload_line-line-requires
+workload_line-line-requires c = c.in_ok-node.ensures.first ∙ (λ i. record { state = genesis (c.new-holders.ensures.items i); contracts = []; height = 0; costs = c.builtin-costs.ensures i })

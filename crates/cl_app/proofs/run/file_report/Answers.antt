@@ -20,30 +20,30 @@ genesis-requires-2 g c = record {
   total = subst (λ (holders : List (Principal × ℕ)). total holders < 2 ^ 128) (sym c.in_ok-holders.ensures.value) c.genesis.ensures.total;
 }
 
-pub report-requires-clause-first : goal.report-requires-clause-first
-report-requires-clause-first g c =
+pub report-reply-requires-clause-first : goal.report-reply-requires-clause-first
+report-reply-requires-clause-first g c =
     let first = c.in_ok-node.ensures.first in
     subst (λ (holders : List (Principal × ℕ)). IsFirst c.in_ok-node.node.costs holders c.in_ok-node.node) c.in_ok-holders.ensures.value
     (subst (λ (table : List CostFn). IsFirst table c.in_ok-holders.holders.items c.in_ok-node.node) (sym (ap (λ (n : Seen). n.costs) first)) first)
 
-pub report-requires-clause-holders : goal.report-requires-clause-holders
-report-requires-clause-holders g c =
+pub report-reply-requires-clause-holders : goal.report-reply-requires-clause-holders
+report-reply-requires-clause-holders g c =
     subst (λ (holders : List (Principal × ℕ)). All (λ (h : Principal × ℕ). IsPrincipal h.0) holders) c.in_ok-holders.ensures.value c.genesis-2.ensures.principals
 
 pub returns-clause-hears : goal.returns-clause-hears
 returns-clause-hears g c =
-    subst (λ (table : List CostFn). OnOk c.report.result (TellsAll (function_of table) c.args.file.now c.args.listeners.now c.report.new.listeners))
-    (ap (λ (n : Seen). n.costs) c.in_ok-node.ensures.first) c.report.ensures.hears
+    subst (λ (table : List CostFn). OnOk c.report-reply.result (TellsAll (function_of table) c.args.file.now c.args.listeners.now c.report-reply.new.listeners))
+    (ap (λ (n : Seen). n.costs) c.in_ok-node.ensures.first) c.report-reply.ensures.hears
 
 pub returns-clause-stops : goal.returns-clause-stops
 returns-clause-stops g c =
-    subst (λ (table : List CostFn). IfErr c.report.result (λ _. WritesFirst (function_of table) c.args.file.now (g.K.Sink.written c.args.out.now) (g.K.Sink.written c.report.new.out) c.args.listeners.now c.report.new.listeners))
-    (ap (λ (n : Seen). n.costs) c.in_ok-node.ensures.first) c.report.ensures.stops
+    subst (λ (table : List CostFn). IfErr c.report-reply.result (λ _. WritesFirst (function_of table) c.args.file.now (g.K.Sink.written c.args.out.now) (g.K.Sink.written c.report-reply.new.out) c.args.listeners.now c.report-reply.new.listeners))
+    (ap (λ (n : Seen). n.costs) c.in_ok-node.ensures.first) c.report-reply.ensures.stops
 
 pub returns-clause-answer : goal.returns-clause-answer
 returns-clause-answer g c =
-    subst (λ (table : List CostFn). IfOk c.report.result (Completes (IsRun (function_of table) c.args.file.now c.args.state) (g.K.Sink.written c.args.out.now) (g.K.Sink.written c.report.new.out)))
-    (ap (λ (n : Seen). n.costs) c.in_ok-node.ensures.first) c.report.ensures.answer
+    subst (λ (table : List CostFn). IfOk c.report-reply.result (Completes (IsRun (function_of table) c.args.file.now c.args.state) (g.K.Sink.written c.args.out.now) (g.K.Sink.written c.report-reply.new.out)))
+    (ap (λ (n : Seen). n.costs) c.in_ok-node.ensures.first) c.report-reply.ensures.answer
 
 pub returns-in_err-holders-clause-stops : goal.returns-in_err-holders-clause-stops
 returns-in_err-holders-clause-stops g c =
