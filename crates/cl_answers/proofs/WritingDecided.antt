@@ -10,8 +10,8 @@ use Rattle.cl_types.specs.declared.sized.Access.{Access}
 use Rattle.cl_types.proofs.Lattice.{keys_equal, key_same}
 use Rattle.cl_sexpr.specs.Tree.{Tree, LeafAt, Leaf, Named, Forest, Then}
 use Rattle.cl_forms.specs.Forms.{Form, FormKind, FunctionForm}
-use Rattle.cl_forms.specs.Names.{same}
-use Rattle.cl_forms.specs.Writes.{writing_natives, applying_natives, is_one_of, Call, calls_in, Writes, WritesIn, has_writing_body, by_native, by_function, by_name, by_contract}
+use Rattle.cl_forms.specs.Names.{same, is_one_of}
+use Rattle.cl_forms.specs.Writes.{writing_natives, applying_natives, Call, calls_in, Writes, WritesIn, has_writing_body, by_native, by_function, by_name, by_contract}
 use Rattle.cl_answers.specs.Laws.{EachWritesOrNot}
 
 any_there : {A : Type 0} (test : A → Bool) (xs : List A) (x : A) → Contains xs x → test x ≡ true → list_any test xs ≡ true

@@ -29,7 +29,8 @@ use Rattle.cl_bound.specs.declared.prices.Application.{Application}
 use Rattle.cl_bound.specs.declared.prices.Prices.{Prices}
 use Rattle.cl_bound.specs.Sums.{told}
 use Rattle.cl_bound.specs.Seen.{ShowsPrices, ShowFunctions, application_of}
-use Rattle.cl_contracts.proofs.Places.{same_turned, under_name}
+use Rattle.cl_forms.proofs.SameNames.{same_turned}
+use Rattle.cl_contracts.proofs.Places.{under_name}
 use Rattle.cl_bound.proofs.Adding.{rest_of}
 
 pub on_ok : {A E P Q : Type 0} (r : Result A E) → (P → Q) → OnOk r P → OnOk r Q

@@ -1,28 +1,24 @@
 -- Each kind of expression is charged itself and for its parts.
 use Rattle.std.proofs.Common.{◌≡◌, ◌≢◌, ℕ, suc, ◌+◌, ◌-◌, ◌<◌, ◌≤◌, Bool, true, false, List, [], ◌∷◌, length, take, drop, Option, Some, None, refl, ap, sym, subst, ◌∙◌, arith, inl, inr}
-use Rattle.std.specs.Prelude.{not, ◌||◌, if◌then◌else◌, nat_eq, codes, is_some}
-use Rattle.std.specs.Cmp.Lexicographic.{pointwise}
-use Rattle.std.specs.Cmp.{both_ways}
-use Rattle.cl_types.proofs.Lattice.{key_back}
+use Rattle.std.specs.Prelude.{not, ◌||◌, nat_eq, is_some}
 use Rattle.std.proofs.lemmas.Bool.{eq-eqb, cases_eq}
 use Rattle.std.specs.Global.{Vec}
 use Rattle.std.proofs.lemmas.List.{length-drop, length-map, take-map}
 use Rattle.cl_types.specs.Types.{PlainType, NoType, IntType, UintType, BoolType, PrincipalType, BuffType, AsciiType, Utf8Type, ListType, TupleType, OptionalType, ResponseType, size_of}
-use Rattle.cl_shapes.specs.declared.name.CostName.{CostName}
-use Rattle.cl_shapes.specs.declared.name.CostName.TheVariants.{Control, Literal, Lookup, Context as ContextCost, ContractCall as ContractCallCost}
+use Rattle.cl_shapes.specs.declared.name.CostName.TheVariants.{Control, Lookup, ContractCall as ContractCallCost}
 use Rattle.cl_shapes.specs.Costs.{plus, greater}
 use Rattle.cl_sexpr.specs.declared.sexpr.Span.{Span}
 use Rattle.cl_sexpr.specs.declared.rule.Rule.{Rule}
 use Rattle.cl_sexpr.specs.declared.rule.Rule.TheVariants.{ArgumentCount}
 use Rattle.cl_sexpr.specs.Tree.{Tree, LeafAt, ListAt, Standing, Local, Unsigned, forest}
-use Rattle.cl_forms.specs.Heads.{Row, native, row_of, is_one_of, keywords}
+use Rattle.cl_forms.specs.Heads.{Row, native, row_of}
 use Rattle.cl_forms.specs.declared.head.Head.{Head}
 use Rattle.cl_forms.specs.declared.head.Head.TheVariants as heads
 use Rattle.cl_forms.specs.HeadNames.{name_of}
 use Rattle.cl_forms.specs.Shapes.{trees_of}
 use Rattle.cl_c32.specs.declared.principal.Principal.{Principal}
 use Rattle.cl_rules.specs.Faults.{sound_shape, type_rules, when}
-use Rattle.cl_rules.specs.Context.{Context, Names, Bound, CostTable, Signature, Known, charge, both, signature_in, if_callable, target_at, keyword, same, named_in, is_no_value}
+use Rattle.cl_rules.specs.Context.{Context, Names, Bound, CostTable, Signature, Known, charge, both, signature_in, if_callable, target_at, named_in, is_no_value}
 use Rattle.cl_rules.specs.Verdicts.{Found, type_at, types_of, sum_of}
 use Rattle.cl_rules.specs.ControlShapes.{name_shape, keyword_or, value_or, no_value_shape, let_verdict, match_verdict, binds, bound_branch, optional_verdict, response_verdict}
 use Rattle.cl_rules.specs.CallShapes.{call_shape, target_or_not, contract_literal, call_verdict, is_unlike_function, length_at, function_of}
@@ -33,8 +29,11 @@ use Rattle.cl_code.specs.declared.op.Binding.{Binding}
 use Rattle.cl_code.specs.declared.op.Callee.{Callee}
 use Rattle.cl_code.specs.declared.op.Target.{Target}
 use Rattle.cl_code.specs.declared.op.Target.TheVariants.{Standing as StandingAt, Local as LocalAt}
-use Rattle.cl_code.specs.declared.op.Keyword.{Keyword}
-use Rattle.cl_code.specs.declared.op.Keyword.TheVariants as keys
+use Rattle.cl_forms.specs.declared.keyword.Keyword.{Keyword}
+use Rattle.cl_forms.specs.declared.keyword.Keyword.TheVariants as keys
+use Rattle.cl_forms.specs.Names.{is_one_of}
+use Rattle.cl_forms.specs.Keywords.{keyword_of, keywords}
+use Rattle.cl_forms.proofs.Keywords.{keyless}
 use Rattle.cl_code.specs.declared.op.Op.{Op}
 use Rattle.cl_code.specs.declared.op.Op.TheVariants as ops
 use Rattle.cl_code.specs.OpNames.{parts_head, name_head, iteration_head}
@@ -73,31 +72,9 @@ let_bound G head at bs k b fs table count rest =
 
 -- ---- names
 
-same_turned : (x y : List ℕ) → pointwise nat_eq x y ≡ pointwise nat_eq y x
-same_turned x y = both_ways (pointwise nat_eq x y) (pointwise nat_eq y x) (key_back x y) (key_back y x)
-
--- the keyword of a name by its tests
-abbrev keyword_at : Bool → Bool → Bool → Bool → Bool → Bool → Option (CostName × PlainType)
-keyword_at a b c d e f =
-    if a || b then Some (Literal, BoolType)
-    else (if c then Some (Literal, OptionalType NoType)
-    else (if d || e then Some (ContextCost, PrincipalType)
-    else (if f then Some (ContextCost, UintType)
-    else None)))
-
-keyword_by : (a b c d e f : Bool) → not (a || (b || (c || (d || (e || (f || false)))))) ≡ true → keyword_at a b c d e f ≡ None
-keyword_by true b c d e f h = absurd cc
-keyword_by false true c d e f h = absurd cc
-keyword_by false false true d e f h = absurd cc
-keyword_by false false false true e f h = absurd cc
-keyword_by false false false false true f h = absurd cc
-keyword_by false false false false false true h = absurd cc
-keyword_by false false false false false false h = refl
-
-no_keyword : (x : List ℕ) → not (is_one_of keywords x) ≡ true → keyword x ≡ None
-no_keyword x h =
-    let turned : (k : List ℕ) → pointwise nat_eq x k ≡ pointwise nat_eq k x = λ k. same_turned x k in
-    keyword_by (same x (codes "true")) (same x (codes "false")) (same x (codes "none")) (same x (codes "tx-sender")) (same x (codes "contract-caller")) (same x (codes "block-height")) ((λ i. not (turned (codes "true") i || (turned (codes "false") i || (turned (codes "none") i || (turned (codes "tx-sender") i || (turned (codes "contract-caller") i || (turned (codes "block-height") i || false))))))) ∙ h)
+not_true : (b : Bool) → not b ≡ true → b ≡ false
+not_true true h = absurd cc
+not_true false h = refl
 
 found_charges : (n : ℕ) (o p : Option PlainType) (known : Bool) → Charges (value_or o (value_or p (no_value_shape known))) n (λ t ts. charge Lookup (size_of t)) sum_of
 found_charges n None None true fs table sound count fine = absurd cc
@@ -186,8 +163,8 @@ module _ (G : Context) (B : Names) (es : List Tree) where
   keyword_charges keys.ContractCaller at fs table sound count fine = refl
   keyword_charges keys.BlockHeight at fs table sound count fine = refl
 
-  name_charges : (x : List ℕ) → keyword x ≡ None → Charges (name_shape G B x) (length es) (λ t ts. charge Lookup (size_of t)) sum_of
-  name_charges x own_name = subst (λ (o : Option (CostName × PlainType)). Charges (keyword_or o (value_or (named_in x B) (value_or (named_in x G.constants) (no_value_shape (is_no_value G x))))) (length es) (λ t ts. charge Lookup (size_of t)) sum_of) (sym own_name) (found_charges (length es) (named_in x B) (named_in x G.constants) (is_no_value G x))
+  name_charges : (x : List ℕ) → keyword_of x ≡ None → Charges (name_shape G B x) (length es) (λ t ts. charge Lookup (size_of t)) sum_of
+  name_charges x own_name = subst (λ (o : Option Keyword). Charges (keyword_or o (value_or (named_in x B) (value_or (named_in x G.constants) (no_value_shape (is_no_value G x))))) (length es) (λ t ts. charge Lookup (size_of t)) sum_of) (sym own_name) (found_charges (length es) (named_in x B) (named_in x G.constants) (is_no_value G x))
 
   -- ---- functions
 
@@ -271,8 +248,8 @@ op_charges G B (ops.Utf8 text) es at named = λ fs table sound count fine. refl
 op_charges G B (ops.Standing p) es at named = λ fs table sound count fine. refl
 op_charges G B (ops.Local c) es at named = λ fs table sound count fine. refl
 op_charges G B (ops.Keyword k) es at named = keyword_charges G B es k at
-op_charges G B (ops.Bound x) es at named = name_charges G B es x (no_keyword x named)
-op_charges G B (ops.Constant x) es at named = name_charges G B es x (no_keyword x named)
+op_charges G B (ops.Bound x) es at named = name_charges G B es x (keyless x (not_true (is_one_of keywords x) named))
+op_charges G B (ops.Constant x) es at named = name_charges G B es x (keyless x (not_true (is_one_of keywords x) named))
 op_charges G B (ops.OnValues n head) es at named = by_head (heads.OnValues n) head at (es) G B (length es) (own G (ops.OnValues n head)) (inside (ops.OnValues n head)) (values_charges G B es n head)
 op_charges G B (ops.OnParts n head) es at named = by_head (parts_head n) head at (es) G B (length es) (own G (ops.OnParts n head)) (inside (ops.OnParts n head)) (parts_charges G B es n head)
 op_charges G B (ops.OnName n head w) es at named = by_head (name_head n) head at (word w ∷ es) G B (length es) (own G (ops.OnName n head w)) (inside (ops.OnName n head w)) (named_charges G B w head es n)

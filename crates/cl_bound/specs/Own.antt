@@ -3,9 +3,10 @@ use Rattle.std.specs.Prelude.{ℕ, min, suc, ◌+◌, ◌-◌, List, [], ◌∷�
 use Rattle.cl_types.specs.Types.{PlainType, NoType, OptionalType, ResponseType, size_of}
 use Rattle.cl_types.specs.Sized.{length_of}
 use Rattle.cl_shapes.specs.declared.name.CostName.{CostName}
-use Rattle.cl_shapes.specs.declared.name.CostName.TheVariants.{Literal, Lookup, Context as ContextCost, Control, Make, ReadVar, ReadMap, Iterate, ContractCall as ContractCallCost}
+use Rattle.cl_shapes.specs.declared.name.CostName.TheVariants.{Literal, Lookup, Control, Make, ReadVar, ReadMap, Iterate, ContractCall as ContractCallCost}
 use Rattle.cl_values.specs.declared.native.Native.{Native}
 use Rattle.cl_forms.specs.declared.head.Head.TheVariants as heads
+use Rattle.cl_forms.specs.Keywords.{keyword_cost}
 use Rattle.cl_forms.specs.Heads.{row_of}
 use Rattle.cl_types.specs.TypeKinds.{entry_of}
 use Rattle.cl_rules.specs.NativeTypes.{first_of}
@@ -17,8 +18,6 @@ use Rattle.cl_rules.specs.Shapes.{First, There}
 use Rattle.cl_sexpr.specs.Tree.{Leaf, Standing as Standing_leaf, Local as Local_leaf}
 use Rattle.cl_code.specs.declared.op.Target.{Target}
 use Rattle.cl_code.specs.declared.op.Target.TheVariants.{Standing as StandingAt, Local as LocalAt}
-use Rattle.cl_code.specs.declared.op.Keyword.{Keyword}
-use Rattle.cl_code.specs.declared.op.Keyword.TheVariants.{True, False, None as NoneWord, TxSender, ContractCaller, BlockHeight}
 use Rattle.cl_code.specs.declared.op.PartsNative.{PartsNative}
 use Rattle.cl_code.specs.declared.op.PartsNative.TheVariants.{If}
 use Rattle.cl_code.specs.declared.op.NameNative.{NameNative}
@@ -43,14 +42,6 @@ parts_cost native = (row_of (parts_head native)).cost
 
 abbrev pub name_cost : NameNative → CostName
 name_cost native = (row_of (name_head native)).cost
-
-abbrev pub keyword_cost : Keyword → CostName
-keyword_cost True = Literal
-keyword_cost False = Literal
-keyword_cost NoneWord = Literal
-keyword_cost TxSender = ContextCost
-keyword_cost ContractCaller = ContextCost
-keyword_cost BlockHeight = ContextCost
 
 -- ---- the expression itself
 

@@ -1,8 +1,10 @@
 //! What natives are charged as.
 ghost use Rattle.std.specs.Prelude.{◌≡◌};
-ghost use Rattle.cl_bound.specs.Own.{values_cost, parts_cost, name_cost, keyword_cost};
+ghost use Rattle.cl_forms.specs.Keywords.{keyword_cost};
+ghost use Rattle.cl_bound.specs.Own.{values_cost, parts_cost, name_cost};
 
-use cl_code::{Keyword, NameNative, PartsNative};
+use cl_code::{NameNative, PartsNative};
+use cl_forms::Keyword;
 use cl_shapes::CostName;
 use cl_values::Native;
 

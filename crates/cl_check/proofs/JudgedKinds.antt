@@ -22,14 +22,15 @@ use Rattle.cl_sexpr.specs.Tree.{Tree, tree_depth}
 use Rattle.cl_forms.specs.Forms.{FormKind, VariableForm, FungibleForm, FunctionForm}
 use Rattle.cl_code.specs.Typed.{Typed, Typeds, TypedAs, MoreTyped, NoTyped, expression_of, type_of}
 use Rattle.cl_rules.specs.Faults.{form_rules, when}
-use Rattle.cl_forms.specs.FormBreaks.{repeats}
+use Rattle.cl_forms.specs.Names.{stands_twice}
+use Rattle.cl_forms.proofs.Twice.{repeats, twice_is}
 use Rattle.cl_rules.specs.Context.{Context, Names, same, named_in, is_named}
 use Rattle.cl_rules.specs.Verdicts.{Found, Thrown, so_far, thrown_after}
 use Rattle.cl_rules.specs.Shapes.{Plan, Part, Ends}
 use Rattle.cl_rules.specs.Table.{shape}
 use Rattle.cl_rules.specs.FormRules.{Defined, form_plan, form_faults, most_height, is_too_high, may_answer, return_of, answer_faults}
 use Rattle.cl_rules.specs.Judging.{Judged, Holds, Fails, and_judged, unless_broken, walked, judged, nesting}
-use Rattle.cl_contracts.proofs.Places.{same_turned}
+use Rattle.cl_forms.proofs.SameNames.{same_turned}
 use Rattle.cl_contracts.specs.Standing.{Stands, StandAll}
 use Rattle.cl_typing.specs.declared.concluding.Checked.{Checked}
 use Rattle.cl_typing.specs.Verdicts.{Facts, facts, facts_of, counted, refused_throws}
@@ -170,8 +171,8 @@ once_at seen (q ∷ ps) (suc i) p h k =
     ap (list_any (same p.0)) (sym (append_assoc seen (q.0 ∷ []) (map (λ (r : List ℕ × PlainType). r.0) (take i ps))))
     ∙ once_at (seen ++ q.0 ∷ []) ps i p (not_seen q.0 seen (repeats (seen ++ q.0 ∷ []) (map (λ (r : List ℕ × PlainType). r.0) ps)) h).1 k
 
-pub param_free : (ps : List (List ℕ × PlainType)) (i : ℕ) (p : List ℕ × PlainType) → repeats [] (map (λ (q : List ℕ × PlainType). q.0) ps) ≡ false → slice_get ps i ≡ Some p → is_named p.0 (take i ps) ≡ false
-param_free ps i p h k = any_of p.0 (take i ps) (once_at [] ps i p h k)
+pub param_free : (ps : List (List ℕ × PlainType)) (i : ℕ) (p : List ℕ × PlainType) → stands_twice (map (λ (q : List ℕ × PlainType). q.0) ps) ≡ false → slice_get ps i ≡ Some p → is_named p.0 (take i ps) ≡ false
+param_free ps i p h k = any_of p.0 (take i ps) (once_at [] ps i p (twice_is (map (λ (q : List ℕ × PlainType). q.0) ps) ∙ h) k)
 
 at_here : {A : Type 0} (xs : List A) (i : ℕ) (x : A) → i < length xs → x ≡ get_or xs i x → slice_get xs i ≡ Some x
 at_here [] i x l h = absurd (omega arith)
@@ -179,7 +180,7 @@ at_here (y ∷ ys) zero x l h = ap (λ z. Some z) (sym h)
 at_here (y ∷ ys) (suc i) x l h = at_here ys i x (omega arith) h
 
 -- one more parameter is bound
-pub one_bound : {S : Type 0} (ps : List (List ℕ × PlainType)) (i : ℕ) (p : List ℕ × PlainType) (t : PlainType) (m : IndexMap (List ℕ) PlainType S) (es : List (List ℕ × PlainType)) → i < length ps → p ≡ get_or ps i p → repeats [] (map (λ (q : List ℕ × PlainType). q.0) ps) ≡ false → m.entries ≡ take i ps → t ≡ p.1 → es ≡ insert_entry (pointwise nat_eq) m.entries p.0 t → es ≡ take (i + 1) ps
+pub one_bound : {S : Type 0} (ps : List (List ℕ × PlainType)) (i : ℕ) (p : List ℕ × PlainType) (t : PlainType) (m : IndexMap (List ℕ) PlainType S) (es : List (List ℕ × PlainType)) → i < length ps → p ≡ get_or ps i p → stands_twice (map (λ (q : List ℕ × PlainType). q.0) ps) ≡ false → m.entries ≡ take i ps → t ≡ p.1 → es ≡ insert_entry (pointwise nat_eq) m.entries p.0 t → es ≡ take (i + 1) ps
 one_bound ps i p t m es low here once before is h =
     let free : is_named p.0 m.entries ≡ false = ap (is_named p.0) before ∙ param_free ps i p once (at_here ps i p low here) in
     at_end p.0 t m es free h ∙ (λ j. before j ++ (p.0, is j) ∷ []) ∙ ap (λ (q : List ℕ × PlainType). take i ps ++ q ∷ []) here ∙ sym (take_more ps i p low)

@@ -2,7 +2,6 @@ pub mod AddedNames
 pub mod JudgedKinds
 pub mod JudgedForms
 pub mod WalkedForms
-pub mod FreeNames
 pub mod TextNames
 pub mod Sources
 pub mod InTextOrder

@@ -16,10 +16,11 @@ use Rattle.cl_forms.specs.Heads.{is_reserved, native}
 use Rattle.cl_forms.specs.Names.{same}
 use Rattle.cl_forms.specs.Items.{Draft, ConstantDraft, VariableDraft, MapDraft, FungibleDraft, NonFungibleDraft, FunctionDraft, Item, Expression, Misshapen, Definition, item_of, and_type, typed, map_form, kind_of, form_by, form_of}
 use Rattle.cl_forms.specs.WrittenTypes.{written_type}
-use Rattle.cl_forms.specs.FormBreaks.{left_out_in, params_of, defines, is_defined, repeats, uses_name, when, rules_of, broken_at, IsAmong, Breaks, AreForms}
+use Rattle.cl_forms.specs.Names.{stands_twice}
+use Rattle.cl_forms.specs.FormBreaks.{left_out_in, params_of, defines, is_defined, uses_name, when, rules_of, broken_at, IsAmong, Breaks, AreForms}
 use Rattle.cl_forms.specs.Names.{name_at}
 use Rattle.cl_check.specs.JudgingForms.{params_in, is_expression}
-use Rattle.cl_check.proofs.FreeNames.{no_native}
+use Rattle.cl_forms.proofs.FreeNames.{no_native}
 
 abbrev names_of : List (List ℕ × PlainType) → List (List ℕ)
 names_of = map (λ (p : List ℕ × PlainType). p.0)
@@ -247,23 +248,23 @@ module _ (items : List Tree) (forms : List Form) (are : AreForms items forms) wh
   new_place n m f g x y h k a b low =
       let s : Stood n f x = stood n f x h a in
       let t : Stood m g y = stood m g y k b in
-      let all = or_parts (is_defined (take n (map item_of items)) x || repeats [] (params_in f.kind)) (list_any (is_defined (map item_of items)) (params_in f.kind)) (new_stood n f x s) in
-      let before = (or_parts (is_defined (take n (map item_of items)) x) (repeats [] (params_in f.kind)) all.0).0 in
+      let all = or_parts (is_defined (take n (map item_of items)) x || stands_twice (params_in f.kind)) (list_any (is_defined (map item_of items)) (params_in f.kind)) (new_stood n f x s) in
+      let before = (or_parts (is_defined (take n (map item_of items)) x) (stands_twice (params_in f.kind)) all.0).0 in
       let there = taken_at (map item_of items) m n (item_of t.item) low (mapped_at item_of items m t.item t.there) in
       sym (ap (defines x) t.of.is) ∙ any_at (defines x) (take n (map item_of items)) m (item_of t.item) before there
 
-  once_place : (n : ℕ) (f : Form) (z : List ℕ) → slice_get forms n ≡ Some f → f.name ≡ Some z → repeats [] (params_in f.kind) ≡ false
+  once_place : (n : ℕ) (f : Form) (z : List ℕ) → slice_get forms n ≡ Some f → f.name ≡ Some z → stands_twice (params_in f.kind) ≡ false
   once_place n f z h a =
-      let all = or_parts (is_defined (take n (map item_of items)) z || repeats [] (params_in f.kind)) (list_any (is_defined (map item_of items)) (params_in f.kind)) (new_stood n f z (stood n f z h a)) in
-      (or_parts (is_defined (take n (map item_of items)) z) (repeats [] (params_in f.kind)) all.0).1
+      let all = or_parts (is_defined (take n (map item_of items)) z || stands_twice (params_in f.kind)) (list_any (is_defined (map item_of items)) (params_in f.kind)) (new_stood n f z (stood n f z h a)) in
+      (or_parts (is_defined (take n (map item_of items)) z) (stands_twice (params_in f.kind)) all.0).1
 
   pub form_named : (n : ℕ) (form : Form) → slice_get forms n ≡ Some form → is_none form.name ≡ is_expression form.kind
   form_named n form h = let i = item_at items forms n form are.forms_are h in named_if (item_of i.0) (span_of i.0) form i.2
 
-  pub form_once : (n : ℕ) (form : Form) → slice_get forms n ≡ Some form → repeats [] (params_in form.kind) ≡ false
+  pub form_once : (n : ℕ) (form : Form) → slice_get forms n ≡ Some form → stands_twice (params_in form.kind) ≡ false
   form_once n form h = by form.name refl
     where
-      unnamed : (kind : FormKind) → is_expression kind ≡ true → repeats [] (params_in kind) ≡ false
+      unnamed : (kind : FormKind) → is_expression kind ≡ true → stands_twice (params_in kind) ≡ false
       unnamed (ExpressionForm e) h = refl
       unnamed (ConstantForm e) h = refl
       unnamed (VariableForm t e) h = refl
@@ -272,7 +273,7 @@ module _ (items : List Tree) (forms : List Form) (are : AreForms items forms) wh
       unnamed (NonFungibleForm t) h = refl
       unnamed (FunctionForm access params body) h = absurd cc
 
-      by : (o : Option (List ℕ)) → form.name ≡ o → repeats [] (params_in form.kind) ≡ false
+      by : (o : Option (List ℕ)) → form.name ≡ o → stands_twice (params_in form.kind) ≡ false
       by None e = unnamed form.kind (sym (form_named n form h) ∙ ap is_none e)
       by (Some z) e = once_place n form z h e
 

@@ -15,7 +15,7 @@ use Rattle.cl_forms.specs.Forms.{Form, FormKind, FunctionForm, ExpressionForm, e
 use Rattle.cl_forms.specs.Fits.{KindFits}
 use Rattle.cl_forms.specs.Heads.{native}
 use Rattle.cl_forms.specs.Names.{name_at}
-use Rattle.cl_forms.specs.FormBreaks.{repeats}
+use Rattle.cl_forms.specs.Names.{stands_twice}
 use Rattle.cl_code.specs.declared.definition.Definition.{Definition}
 use Rattle.cl_code.specs.Typed.{Typeds, NoTyped, MoreTyped, type_of}
 use Rattle.cl_code.specs.Definitions.{form_defined}
@@ -128,7 +128,7 @@ pub record MayFollow (c : CodeContext) (form : Form) : Type 0 where
   pub fits : KindFits form.kind
   pub named : is_none form.name ≡ is_expression form.kind
   pub new : (x : List ℕ) → form.name ≡ Some x → top_level_in c x ≡ false
-  pub once : repeats [] (params_in form.kind) ≡ false
+  pub once : stands_twice (params_in form.kind) ≡ false
 
 -- ---- forms in their order
 
@@ -140,7 +140,7 @@ pub record AreKnown (forms : List Form) : Type 0 where
   pub named : (n : ℕ) (form : Form) → slice_get forms n ≡ Some form → is_none form.name ≡ is_expression form.kind
   pub new : (n m : ℕ) (x : List ℕ) → name_at forms n ≡ Some x → name_at forms m ≡ Some x → n ≡ m
   pub own : (x : List ℕ) (n : ℕ) → name_at forms n ≡ Some x → native x ≡ None
-  pub once : (n : ℕ) (form : Form) → slice_get forms n ≡ Some form → repeats [] (params_in form.kind) ≡ false
+  pub once : (n : ℕ) (form : Form) → slice_get forms n ≡ Some form → stands_twice (params_in form.kind) ≡ false
 
 -- forms are judged, and these definitions stand for them
 pub record StandingAs (D : Defined) (forms : List Form) (ds : List Definition) : Type 0 where

@@ -1,9 +1,9 @@
 //! Forms one by one.
-ghost use Rattle.std.specs.Prelude.{◌≡◌, ◌<◌, ◌≤◌, ◌^◌, [], false, map, Some, None, IfOk};
+ghost use Rattle.std.specs.Prelude.{◌≡◌, ◌<◌, ◌≤◌, ◌^◌, false, map, Some, None, IfOk};
 ghost use Rattle.cl_sexpr.specs.Tree.{tree_depth, tree_size};
 ghost use Rattle.cl_sexpr.specs.Fits.{Fits};
 ghost use Rattle.cl_forms.specs.Forms.{ConstantForm, VariableForm, MapForm, FungibleForm, NonFungibleForm, FunctionForm, ExpressionForm};
-ghost use Rattle.cl_forms.specs.FormBreaks.{repeats};
+ghost use Rattle.cl_forms.specs.Names.{stands_twice};
 ghost use Rattle.cl_rules.specs.Judging.{nesting};
 ghost use Rattle.cl_judging.specs.Seen.{shown, top_level_in};
 ghost use Rattle.cl_code.specs.declared.definition.Definition.TheVariants.{Function as FunctionOf};
@@ -202,7 +202,7 @@ fn function(
     requires fits { Fits e.now }
     requires nested { tree_depth e.now < nesting }
     requires new { top_level_in ctx.old name.now ≡ false }
-    requires once { repeats [] (map (λ p. p.0) params.now) ≡ false }
+    requires once { stands_twice (map (λ p. p.0) params.now) ≡ false }
     ensures { FindsForm ctx.old (record { name = Some name.now; kind = FunctionForm access params.now e.now; span = span }) result ctx.new }
 {
     let body = match function_body(alloc, ctx, access, params, e, span) {

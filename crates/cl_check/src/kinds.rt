@@ -4,7 +4,7 @@ ghost use Rattle.cl_types.specs.Types.{UintType};
 ghost use Rattle.cl_types.specs.declared.fault.Fault.TheVariants.{Refused};
 ghost use Rattle.cl_sexpr.specs.Tree.{tree_depth, tree_size};
 ghost use Rattle.cl_forms.specs.Forms.{ConstantForm, VariableForm, FungibleForm, FunctionForm, ExpressionForm};
-ghost use Rattle.cl_forms.specs.FormBreaks.{repeats};
+ghost use Rattle.cl_forms.specs.Names.{stands_twice};
 ghost use Rattle.cl_rules.specs.FormRules.{most_height, may_answer};
 ghost use Rattle.cl_rules.specs.Judging.{nesting};
 ghost use Rattle.cl_code.specs.Typed.{expression_of};
@@ -106,7 +106,7 @@ pub(crate) fn declared(
 
 /// The parameters are bound.
 fn bound(alloc: Global, params: &[(Name, SizedTy)]) -> Result<IndexMap<Name, SizedTy>, NoMemory>
-    requires { repeats [] (map (λ p. p.0) params.now) ≡ false }
+    requires { stands_twice (map (λ p. p.0) params.now) ≡ false }
     ensures { IfOk result (λ scope. scope.entries ≡ params.now) }
 {
     let mut scope = IndexMap::new(alloc);
@@ -166,7 +166,7 @@ fn with_params(
 ) -> Result<Checked, Fault<Break>>
     requires small { tree_size e.now ≤ 2 ^ 21 }
     requires fits { Fits e.now }
-    requires once { repeats [] (map (λ p. p.0) params.now) ≡ false }
+    requires once { stands_twice (map (λ p. p.0) params.now) ≡ false }
     ensures found { Checks ctx.now params.now e.now result }
     ensures text { IfOk result (λ c. expression_of c.code ≡ e.now) }
 {
@@ -192,7 +192,7 @@ pub(crate) fn function_body(
     requires small { tree_size e.now ≤ 2 ^ 21 }
     requires fits { Fits e.now }
     requires nested { tree_depth e.now < nesting }
-    requires once { repeats [] (map (λ p. p.0) params.now) ≡ false }
+    requires once { stands_twice (map (λ p. p.0) params.now) ≡ false }
     ensures found { FindsBody ctx.now (FunctionForm access params.now e.now) span result }
     ensures text { IfOk result (λ b. expression_of b.checked.code ≡ e.now) }
 {

@@ -12,7 +12,8 @@ use Rattle.cl_code.specs.declared.op.Target.{Target}
 use Rattle.cl_code.specs.declared.op.Target.TheVariants.{Standing as StandingAt, Local as LocalAt}
 use Rattle.cl_code.specs.declared.op.Op.{Op}
 use Rattle.cl_code.specs.declared.op.Op.TheVariants.{Int, Uint, Buff, Ascii as AsciiOp, Utf8, Standing as StandingOp, Local as LocalOp, Keyword, Bound, Constant, OnValues as OnValuesOp, OnParts, OnName, Iterate, AsMaxLen, Tuple, TupleOf, Let, MatchOptional, MatchResponse, Call, ContractCall}
-use Rattle.cl_code.specs.OpNames.{keyword_name, parts_head, name_head, iteration_head}
+use Rattle.cl_forms.specs.Keywords.{keyword_name}
+use Rattle.cl_code.specs.OpNames.{parts_head, name_head, iteration_head}
 
 abbrev pub word : Word → Tree
 word w = LeafAt (Named w.name) w.span

@@ -3,7 +3,9 @@ use Rattle.std.specs.Prelude.{ℕ, suc, ◌==◌, ◌&&◌, not, nat_le, nat_lt,
 use Rattle.std.specs.List.{list_any}
 use Rattle.std.specs.Str.{bytes_eq}
 use Rattle.cl_forms.specs.declared.head.Head.TheVariants.{OnValues}
-use Rattle.cl_forms.specs.Heads.{native, is_one_of, keywords, takes, row_of}
+use Rattle.cl_forms.specs.Names.{is_one_of}
+use Rattle.cl_forms.specs.Keywords.{keywords}
+use Rattle.cl_forms.specs.Heads.{native, takes, row_of}
 use Rattle.cl_code.specs.declared.op.Applied.{Applied}
 use Rattle.cl_code.specs.declared.op.Applied.TheVariants.{Function, OnValues as OnValuesBy}
 use Rattle.cl_code.specs.declared.op.Binding.{Binding}

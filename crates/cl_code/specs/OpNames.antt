@@ -1,24 +1,13 @@
 -- What stands first in the text of a node.
-use Rattle.std.specs.Prelude.{ℕ, List, codes}
 use Rattle.cl_forms.specs.declared.head.Head.{Head}
 use Rattle.cl_forms.specs.declared.head.Head.TheVariants as heads
 use Rattle.cl_forms.specs.declared.head.TokenNative.TheVariants as tokens
-use Rattle.cl_code.specs.declared.op.Keyword.{Keyword}
-use Rattle.cl_code.specs.declared.op.Keyword.TheVariants.{True, False, None, TxSender, ContractCaller, BlockHeight}
 use Rattle.cl_code.specs.declared.op.PartsNative.{PartsNative}
 use Rattle.cl_code.specs.declared.op.PartsNative.TheVariants.{If, Begin, And, Or, Asserts, Unwrap, UnwrapErr, Try, AsContract, Print, StxBalance, SendStx, BurnStx}
 use Rattle.cl_code.specs.declared.op.NameNative.{NameNative}
 use Rattle.cl_code.specs.declared.op.NameNative.TheVariants.{Get, VarGet, VarSet, MapGet, MapSet, MapInsert, MapDelete, FtBalance, FtSupply, NftOwner, MintFt, BurnFt, SendFt, MintNft, BurnNft, SendNft}
 use Rattle.cl_code.specs.declared.op.Iteration.{Iteration}
 use Rattle.cl_code.specs.declared.op.Iteration.TheVariants.{Map, Filter, Fold}
-
-abbrev pub keyword_name : Keyword → List ℕ
-keyword_name True = codes "true"
-keyword_name False = codes "false"
-keyword_name None = codes "none"
-keyword_name TxSender = codes "tx-sender"
-keyword_name ContractCaller = codes "contract-caller"
-keyword_name BlockHeight = codes "block-height"
 
 -- the native of the language that it is
 abbrev pub parts_head : PartsNative → Head

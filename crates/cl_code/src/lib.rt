@@ -11,7 +11,5 @@ pub use code::Code;
 pub use definition::{
     Constant, Definition, Function, Fungible, MapOf, NonFungible, TopLevel, Variable,
 };
-pub use op::{
-    Applied, Binding, Callee, Iteration, Keyword, NameNative, Op, PartsNative, Target, Word,
-};
+pub use op::{Applied, Binding, Callee, Iteration, NameNative, Op, PartsNative, Target, Word};
 pub use watch::{Silent, Watch};

@@ -1,5 +1,6 @@
 //! What a node does.
 use cl_c32::{ContractName, Principal};
+use cl_forms::Keyword;
 use cl_sexpr::Span;
 use cl_types::{Access, Name, SizedTy};
 use cl_values::Native;
@@ -17,23 +18,6 @@ pub struct Word {
 pub struct Binding {
     pub word: Word,
     pub span: Span,
-}
-
-/// A name that stands for a value in every contract.
-#[derive(Clone, Copy, Debug, PartialEq, Eq)]
-pub enum Keyword {
-    /// `true`
-    True,
-    /// `false`
-    False,
-    /// `none`
-    None,
-    /// `tx-sender`
-    TxSender,
-    /// `contract-caller`
-    ContractCaller,
-    /// `block-height`
-    BlockHeight,
 }
 
 /// A native all of whose arguments are parts, and that isn't on values alone.

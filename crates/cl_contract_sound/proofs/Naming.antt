@@ -16,7 +16,8 @@ use Rattle.cl_forms.specs.Order.{is_in, IsGoodOrder}
 use Rattle.cl_forms.specs.WrittenTypes.{written_type}
 use Rattle.cl_forms.specs.Names.{same}
 use Rattle.cl_forms.specs.Items.{Draft, ConstantDraft, VariableDraft, MapDraft, FungibleDraft, NonFungibleDraft, FunctionDraft, map_form, typed, Item, Expression, Misshapen, Definition, item_of, kind_of, form_by, form_of as form_at}
-use Rattle.cl_forms.specs.FormBreaks.{params_of, defines, is_defined, repeats, when, rules_of, broken_at, left_out_in, IsAmong as IsAmongBreaks, Breaks, AreForms}
+use Rattle.cl_forms.specs.Names.{stands_twice}
+use Rattle.cl_forms.specs.FormBreaks.{params_of, defines, is_defined, when, rules_of, broken_at, left_out_in, IsAmong as IsAmongBreaks, Breaks, AreForms}
 use Rattle.cl_meaning.specs.Deployed.{Contract, has_name, form_of}
 use Rattle.cl_meaning.specs.Deploying.{forms_at}
 use Rattle.cl_meaning.specs.Kept.{IsDefinition, IsAmong}
@@ -45,7 +46,7 @@ not_before : (items : List Tree) (n : ℕ) (e : Tree) (name : List ℕ) (draft :
 not_before items n e name draft is there unbroken =
     let rules : rules_of (map item_of items) n (item_of e) ≡ [] = no_rules (span_of e) (map (λ at. broken_at at _) (left_out_in e)) (rules_of (map item_of items) n (item_of e)) (λ r h. unbroken r (record { item = e; there = there; broken = h })) in
     let used = not_used _ _ _ (ap (rules_of (map item_of items) n) (sym is) ∙ rules) in
-    or_left (is_defined (take n (map item_of items)) name) (repeats [] (params_of draft)) (or_left (is_defined (take n (map item_of items)) name || repeats [] (params_of draft)) (list_any (is_defined (map item_of items)) (params_of draft)) used)
+    or_left (is_defined (take n (map item_of items)) name) (stands_twice (params_of draft)) (or_left (is_defined (take n (map item_of items)) name || stands_twice (params_of draft)) (list_any (is_defined (map item_of items)) (params_of draft)) used)
 
 -- ---- items and their forms
 

@@ -3,9 +3,9 @@ use Rattle.std.proofs.Common.{◌≡◌, ◌⊎◌, inl, inr, ℕ, zero, suc, �
 use Rattle.std.specs.Prelude.{nat_eq, if◌then◌else◌, option_map, option_and_then, option_copied}
 use Rattle.std.specs.Map.{lookup}
 use Rattle.std.specs.Cmp.Lexicographic.{pointwise}
-use Rattle.std.specs.Cmp.{both_ways}
 use Rattle.std.proofs.lemmas.Cmp.{nat_list_eq_equiv}
-use Rattle.cl_types.proofs.Lattice.{key_back, keys_equal}
+use Rattle.cl_types.proofs.Lattice.{keys_equal}
+use Rattle.cl_forms.proofs.SameNames.{same_turned}
 use Rattle.cl_values.specs.Tree.{Tree as Val}
 use Rattle.cl_forms.specs.Forms.{Form}
 use Rattle.cl_forms.specs.Names.{name_at}
@@ -17,9 +17,6 @@ use Rattle.cl_meaning.specs.Deployed.{has_name, form_of, value_of, function_in, 
 use Rattle.cl_rules.specs.Context.{named_in}
 use Rattle.cl_contracts.specs.declared.checked.Checked.{Checked}
 use Rattle.cl_contracts.specs.Seen.{forms_of, kind_at, definition_under, as_function, function_under, function_seen, IsIndexed}
-
-pub same_turned : (x y : List ℕ) → pointwise nat_eq x y ≡ pointwise nat_eq y x
-same_turned x y = both_ways (pointwise nat_eq x y) (pointwise nat_eq y x) (key_back x y) (key_back y x)
 
 -- a table's look-up is that of the definitions
 pub under_name : {A : Type 0} (x : List ℕ) (es : List (List ℕ × A)) → lookup (pointwise nat_eq x) es ≡ named_in x es

@@ -1,15 +1,14 @@
 -- Literals, names, variables and maps: what each is, as equations.
-use Rattle.std.proofs.Common.{◌≡◌, ◌≢◌, ℕ, ◌+◌, Bool, true, false, List, [], ◌∷◌, ◌++◌, length, Option, Some, None, Result, Ok, Err, refl, sym, ap, ◌∙◌, subst, codes, ◌≤◌, arith}
+use Rattle.std.proofs.Common.{◌≡◌, ◌≢◌, ℕ, ◌+◌, Bool, true, false, List, [], ◌∷◌, ◌++◌, length, Option, Some, None, Result, Ok, Err, refl, sym, ap, ◌∙◌, subst, ◌≤◌, arith}
 use Rattle.std.proofs.lemmas.Bool.Decides.{nat_tests}
 use Rattle.std.specs.Prelude.{if◌then◌else◌, not, is_some, nat_le, option_map}
 use Rattle.std.specs.Str.{bytes_eq}
-use Rattle.std.proofs.lemmas.Slice.Eq.{bytes_eq-Decides}
 use Rattle.std.specs.Option.{option_or}
 use Rattle.cl_shapes.specs.Limits.{Purse}
 use Rattle.cl_shapes.specs.declared.name.CostName.{CostName}
-use Rattle.cl_shapes.specs.declared.name.CostName.TheVariants.{Literal, Lookup, Context as ContextCost, ReadVar, ReadMap}
+use Rattle.cl_shapes.specs.declared.name.CostName.TheVariants.{Lookup, ReadVar, ReadMap}
 use Rattle.cl_values.specs.declared.refusal.ValueRefusal.{ValueRefusal}
-use Rattle.cl_values.specs.Tree.{Tree as Val, BoolV, UintV, NoneV, SomeV, PrincipalV}
+use Rattle.cl_values.specs.Tree.{Tree as Val, BoolV, NoneV, SomeV}
 use Rattle.cl_values.specs.Wire.{size_of}
 use Rattle.cl_values.specs.Computed.{Gives, Undefined}
 use Rattle.cl_values.specs.Sequences.{optional, entries_of, on_entries, within_length}
@@ -25,17 +24,17 @@ use Rattle.cl_state.specs.Stack.{Stack, with_top}
 use Rattle.cl_eval.specs.declared.stop.Stop.{Stop}
 use Rattle.cl_eval.specs.Runs.{Computes}
 use Rattle.cl_eval.proofs.Steps.{gives}
-use Rattle.cl_forms.specs.Heads.{keywords, is_one_of}
-use Rattle.cl_code.specs.declared.op.Keyword.{Keyword}
+use Rattle.cl_forms.specs.Names.{is_one_of}
+use Rattle.cl_forms.specs.declared.keyword.Keyword.{Keyword}
+use Rattle.cl_forms.specs.Keywords.{keyword_name, keywords}
+use Rattle.cl_forms.proofs.Keywords.{keyword_there, keyless}
 use Rattle.cl_code.specs.declared.op.NameNative.{NameNative}
 use Rattle.cl_code.specs.declared.op.NameNative.TheVariants as on_name
-use Rattle.cl_code.specs.declared.op.Keyword.TheVariants as keyword
-use Rattle.cl_code.specs.OpNames.{keyword_name}
 use Rattle.cl_events.specs.State.{State, spot, with_variables, with_entries, with_event}
 use Rattle.cl_meaning.specs.Answers.{Answer, Wrong, stop, give, wrong, charged, with_known, outcome_of}
 use Rattle.cl_meaning.specs.Deployed.{Contract, value_of, constant_of, has_map}
 use Rattle.cl_meaning.specs.Scope.{Scope, home}
-use Rattle.cl_meaning.specs.Names.{standing, literal, name_form}
+use Rattle.cl_meaning.specs.Names.{standing, literal, keyword_form, known_form, keyword_or, name_form}
 use Rattle.cl_meaning.specs.Data.{here, variable_set, only_if, with_map, found_at, entry_at, key_and_value, insert_entry, set_entry, delete_entry}
 use Rattle.cl_eval.specs.Tails.{variable_read, entry_read, with_nothing, with_one, with_all}
 
@@ -48,47 +47,13 @@ standing_at name v s = refl
 abbrev pub literal_of : Result Val ValueRefusal → State → Answer Val
 literal_of o s = literal o s
 
--- what a keyword stands for
-abbrev pub keyword_form : Scope → Keyword → State → Answer Val
-keyword_form S keyword.True s = standing Literal (BoolV true) s
-keyword_form S keyword.False s = standing Literal (BoolV false) s
-keyword_form S keyword.None s = standing Literal NoneV s
-keyword_form S keyword.TxSender s = standing ContextCost (PrincipalV S.frame.sender) s
-keyword_form S keyword.ContractCaller s = standing ContextCost (PrincipalV S.frame.caller) s
-keyword_form S keyword.BlockHeight s = standing ContextCost (UintV S.frame.height) s
-
-keyword_is : (S : Scope) (k : Keyword) (s : State) → name_form S (keyword_name k) s ≡ keyword_form S k s
-unfolding name_form
-keyword_is S keyword.True s = refl
-keyword_is S keyword.False s = refl
-keyword_is S keyword.None s = refl
-keyword_is S keyword.TxSender s = refl
-keyword_is S keyword.ContractCaller s = refl
-keyword_is S keyword.BlockHeight s = refl
-
 pub keyword_at : (S : Scope) (k l : Keyword) (s : State) → k ≡ l → name_form S (keyword_name k) s ≡ keyword_form S l s
-keyword_at S k l s h = keyword_is S k s ∙ ap (λ m. keyword_form S m s) h
-
-apart : (b : Bool) → (b ≡ true → true ≡ false) → b ≡ false
-apart true h = h refl
-apart false h = refl
-
-differs : (x k : List ℕ) → is_one_of keywords x ≡ false → is_one_of keywords k ≡ true → bytes_eq x k ≡ false
-differs x k h m = apart (bytes_eq x k) (λ e. sym m ∙ ap (is_one_of keywords) (sym ((bytes_eq-Decides x k).0 e)) ∙ h)
-
-if_no : {A : Type 0} (b : Bool) (x y : A) → b ≡ false → (if b then x else y) ≡ y
-if_no true x y h = absurd cc
-if_no false x y h = refl
-
-name_at : (S : Scope) (x : List ℕ) (s : State) → is_one_of keywords x ≡ false → name_form S x s ≡ with_known (option_or (value_of x S.bound) (constant_of x (home S))) (standing Lookup) s
 unfolding name_form
-name_at S x s k =
-    if_no _ _ _ (differs x (codes "true") k refl)
-    ∙ if_no _ _ _ (differs x (codes "false") k refl)
-    ∙ if_no _ _ _ (differs x (codes "none") k refl)
-    ∙ if_no _ _ _ (differs x (codes "tx-sender") k refl)
-    ∙ if_no _ _ _ (differs x (codes "contract-caller") k refl)
-    ∙ if_no _ _ _ (differs x (codes "block-height") k refl)
+keyword_at S k l s h = ap (λ o. keyword_or S o (known_form S (keyword_name k)) s) (keyword_there k) ∙ ap (λ m. keyword_form S m s) h
+
+name_at : (S : Scope) (x : List ℕ) (s : State) → is_one_of keywords x ≡ false → name_form S x s ≡ known_form S x s
+unfolding name_form
+name_at S x s h = ap (λ o. keyword_or S o (known_form S x) s) (keyless x h)
 
 pub name_is : (S : Scope) (x : List ℕ) (o c : Option Val) (H : Contract) (s : State) → is_one_of keywords x ≡ false → o ≡ value_of x S.bound → home S ≡ Some H → c ≡ value_of x H.constants → name_form S x s ≡ with_known (option_or o c) (standing Lookup) s
 name_is S x o c H s k h i j =

@@ -1,20 +1,19 @@
 -- No evaluation makes a token: states in which a form ends.
 use Rattle.std.proofs.Common.{◌≡◌, ℕ, zero, suc, Bool, true, false, cond, List, [], ◌∷◌, ◌++◌, length, map, Option, Some, None, Result, Ok, Err, refl, sym, ap, ◌∙◌}
-use Rattle.std.specs.Prelude.{if◌then◌else◌, option_and_then, is_some, codes}
+use Rattle.std.specs.Prelude.{if◌then◌else◌, option_and_then, is_some}
 use Rattle.std.specs.Ordering.{eq_by_cmp}
-use Rattle.std.specs.Str.{bytes_eq}
 use Rattle.std.specs.Option.{option_or}
 use Rattle.cl_types.specs.Types.{PlainType}
 use Rattle.cl_types.specs.declared.sized.Access.{Access}
 use Rattle.cl_types.specs.declared.sized.Access.TheVariants.{Public, ReadOnly, Private}
 use Rattle.cl_c32.specs.declared.principal.Principal.{Principal}
 use Rattle.cl_shapes.specs.declared.name.CostName.{CostName}
-use Rattle.cl_shapes.specs.declared.name.CostName.TheVariants.{Literal, Lookup, Context, Control, Iterate}
+use Rattle.cl_shapes.specs.declared.name.CostName.TheVariants.{Literal, Lookup, Control, Iterate}
 use Rattle.cl_sexpr.specs.declared.sexpr.Span.{Span}
 use Rattle.cl_sexpr.specs.Tree.{Tree, Leaf, LeafAt, ListAt, TupleAt, Named, Signed, Unsigned, Bytes, Ascii, Unicode, Standing, Local, Then, span_of}
 use Rattle.cl_values.specs.declared.native.Native.{Native}
 use Rattle.cl_values.specs.declared.refusal.ValueRefusal.{ValueRefusal}
-use Rattle.cl_values.specs.Tree.{Tree as Val, IntV, UintV, BoolV, PrincipalV, NoneV, SomeV, ResponseV}
+use Rattle.cl_values.specs.Tree.{Tree as Val, IntV, BoolV, PrincipalV, SomeV, ResponseV}
 use Rattle.cl_values.specs.Sequences.{optional, entries_of}
 use Rattle.cl_values.specs.Wire.{wire}
 use Rattle.cl_maps.specs.Maps.{Map, get, put, key_cmp}
@@ -27,10 +26,12 @@ use Rattle.cl_events.specs.declared.event.EventKind.{EventKind}
 use Rattle.cl_events.specs.declared.event.EventKind.TheVariants.{Print, FtMint, FtTransfer, FtBurn, NftMint, NftTransfer, NftBurn, StxTransfer, StxBurn}
 use Rattle.cl_events.specs.State.{State, holder, place, with_fungibles, with_nonfungibles, with_stx, with_variables, with_entries, with_event}
 use Rattle.cl_events.specs.Acts.{Acted, replaced, on_ledger, on_owners, on_stx, burnt_stx, changed, moved, told, acted, sender_refusal, acted_by}
+use Rattle.cl_forms.specs.declared.keyword.Keyword.{Keyword}
+use Rattle.cl_forms.specs.Keywords.{keyword_of, keyword_cost}
 use Rattle.cl_meaning.specs.Answers.{Outcome, Given, Thrown, Aborted, Wrong, Deeper, BySupply, Answer, Note, stop, give, wrong, charged, then_on, and_then, ending, returning, with_known}
 use Rattle.cl_meaning.specs.Deployed.{value_of, constant_of}
 use Rattle.cl_meaning.specs.Scope.{Scope, home}
-use Rattle.cl_meaning.specs.Names.{standing, literal, name_form, leaf_form}
+use Rattle.cl_meaning.specs.Names.{standing, literal, keyword_value, keyword_or, known_form, name_form, leaf_form}
 use Rattle.cl_meaning.specs.Control.{choice, last_of}
 use Rattle.cl_meaning.specs.Data.{only_if, key_and_value}
 use Rattle.cl_meaning.specs.Tokens.{balance_in, answered, acts}
@@ -93,10 +94,6 @@ pub keeps_known : {A B : Type 0} (o : Option A) (go_on : A → State → Answer 
 keeps_known None go_on s k = keeps_stop Wrong s
 keeps_known (Some a) go_on s k = k a
 
-pub keeps_if : (b : Bool) (x y : Answer Val) (s : State) → Keeps s x → Keeps s y → Keeps s (if b then x else y)
-keeps_if true x y s h k = h
-keeps_if false x y s h k = k
-
 pub keeps_choice : (v : Val) (holds fails : State → Answer Val) (s : State) → Keeps s (holds s) → Keeps s (fails s) → Keeps s (choice v holds fails s)
 keeps_choice (BoolV true) holds fails s h k = h
 keeps_choice (BoolV false) holds fails s h k = k
@@ -117,22 +114,13 @@ keeps_literal : (r : Result Val ValueRefusal) (s : State) → Keeps s (literal r
 keeps_literal (Ok v) s = keeps_standing Literal v s
 keeps_literal (Err refusal) s = keeps_stop Wrong s
 
+keeps_keyword : (S : Scope) (o : Option Keyword) (other : State → Answer Val) (s : State) → Keeps s (other s) → Keeps s (keyword_or S o other s)
+keeps_keyword S (Some k) other s h = keeps_standing (keyword_cost k) (keyword_value S k) s
+keeps_keyword S None other s h = h
+
 keeps_name : (S : Scope) (x : List ℕ) (s : State) → Keeps s (name_form S x s)
 unfolding name_form
-keeps_name S x s =
-    let known = with_known (option_or (value_of x S.bound) (constant_of x (home S))) (standing Lookup) s in
-    let height = if bytes_eq x (codes "block-height") then standing Context (UintV S.frame.height) s else known in
-    let caller = if bytes_eq x (codes "contract-caller") then standing Context (PrincipalV S.frame.caller) s else height in
-    let sender = if bytes_eq x (codes "tx-sender") then standing Context (PrincipalV S.frame.sender) s else caller in
-    let none = if bytes_eq x (codes "none") then standing Literal NoneV s else sender in
-    let no = if bytes_eq x (codes "false") then standing Literal (BoolV false) s else none in
-    keeps_if (bytes_eq x (codes "true")) (standing Literal (BoolV true) s) no s (keeps_standing Literal (BoolV true) s)
-    (keeps_if (bytes_eq x (codes "false")) (standing Literal (BoolV false) s) none s (keeps_standing Literal (BoolV false) s)
-    (keeps_if (bytes_eq x (codes "none")) (standing Literal NoneV s) sender s (keeps_standing Literal NoneV s)
-    (keeps_if (bytes_eq x (codes "tx-sender")) (standing Context (PrincipalV S.frame.sender) s) caller s (keeps_standing Context (PrincipalV S.frame.sender) s)
-    (keeps_if (bytes_eq x (codes "contract-caller")) (standing Context (PrincipalV S.frame.caller) s) height s (keeps_standing Context (PrincipalV S.frame.caller) s)
-    (keeps_if (bytes_eq x (codes "block-height")) (standing Context (UintV S.frame.height) s) known s (keeps_standing Context (UintV S.frame.height) s)
-    (keeps_known (option_or (value_of x S.bound) (constant_of x (home S))) (standing Lookup) s (λ v. keeps_standing Lookup v s)))))))
+keeps_name S x s = keeps_keyword S (keyword_of x) (known_form S x) s (keeps_known (option_or (value_of x S.bound) (constant_of x (home S))) (standing Lookup) s (λ v. keeps_standing Lookup v s))
 
 pub keeps_leaf : (S : Scope) (leaf : Leaf) (s : State) → Keeps s (leaf_form S leaf s)
 unfolding leaf_form

@@ -8,13 +8,15 @@ use Rattle.cl_sexpr.specs.Tree.{Tree, LeafAt, ListAt, Unsigned, forest, Named, S
 use Rattle.cl_values.specs.Tree.{Tree as Val, IntV, UintV, BuffV, AsciiV, Utf8V, PrincipalV}
 use Rattle.cl_values.specs.Valid.{made}
 use Rattle.cl_forms.specs.declared.head.Head.TheVariants as heads
-use Rattle.cl_forms.specs.Heads.{Row, row_of, native, is_one_of, keywords}
+use Rattle.cl_forms.specs.Names.{is_one_of}
+use Rattle.cl_forms.specs.Keywords.{keyword_name, keywords}
+use Rattle.cl_forms.specs.Heads.{Row, row_of, native}
 use Rattle.cl_forms.specs.Shapes.{pairs_of, bindings_of, beside}
 use Rattle.cl_forms.proofs.Bindings.{trees_forest}
 use Rattle.cl_events.specs.State.{State}
 use Rattle.cl_code.specs.declared.op.Op.{Op}
 use Rattle.cl_code.specs.declared.op.Op.TheVariants.{Int, Uint, Buff, Ascii as AsciiOp, Utf8, Standing as StandingOp, Local as LocalOp, Keyword, Bound, Constant, OnValues, OnParts, OnName, Iterate, AsMaxLen, Tuple, TupleOf, Let, MatchOptional, MatchResponse, Call, ContractCall}
-use Rattle.cl_code.specs.OpNames.{keyword_name, parts_head, name_head, iteration_head}
+use Rattle.cl_code.specs.OpNames.{parts_head, name_head, iteration_head}
 use Rattle.cl_code.specs.declared.op.Binding.{Binding}
 use Rattle.cl_code.specs.Nodes.{has_own_name, has_parts, are_once, bound_names}
 use Rattle.cl_code.specs.Typed.{Typed, TypedAs, typeds, expression_of}

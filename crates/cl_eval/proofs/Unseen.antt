@@ -1,7 +1,6 @@
 -- What is done once the parts of a node have their values: no node ends in it but a native by name.
 use Rattle.std.proofs.Common.{◌≡◌, ℕ, zero, suc, List, [], ◌∷◌, Bool, true, false, Option, Some, None, refl, sym, ap, ◌∙◌}
-use Rattle.std.specs.Prelude.{Result, Ok, Err, codes, if◌then◌else◌}
-use Rattle.std.specs.Str.{bytes_eq}
+use Rattle.std.specs.Prelude.{Result, Ok, Err}
 use Rattle.std.specs.Option.{option_or}
 use Rattle.cl_shapes.specs.Limits.{Purse, spend}
 use Rattle.cl_shapes.specs.declared.name.CostName.{CostName}
@@ -25,12 +24,14 @@ use Rattle.cl_forms.specs.declared.head.TokenNative.TheVariants as tokens
 use Rattle.cl_forms.specs.Heads.{Row, row_of}
 use Rattle.cl_code.specs.declared.op.NameNative.{NameNative}
 use Rattle.cl_code.specs.declared.op.NameNative.TheVariants.{Get, VarGet, VarSet, MapGet, MapSet, MapInsert, MapDelete, FtBalance, FtSupply, NftOwner, MintFt, BurnFt, SendFt, MintNft, BurnNft, SendNft}
+use Rattle.cl_forms.specs.declared.keyword.Keyword.{Keyword}
+use Rattle.cl_forms.specs.Keywords.{keyword_of, keyword_cost}
 use Rattle.cl_meaning.specs.Answers.{Outcome, Given, Thrown, Wrong, Deeper, Answer, Note, stop, give, charged, with_known, ending, outcome_of}
 use Rattle.cl_meaning.specs.Limits.{Costs, cost_of, Paid, Within, Past, paid_by, limited}
 use Rattle.cl_meaning.specs.Trace.{claims, trace_of}
 use Rattle.cl_meaning.specs.Scope.{Scope, Frame, ByName, home}
 use Rattle.cl_meaning.specs.Deployed.{has_map, value_of, constant_of}
-use Rattle.cl_meaning.specs.Names.{standing, literal, name_form}
+use Rattle.cl_meaning.specs.Names.{standing, literal, keyword_value, keyword_or, known_form, name_form}
 use Rattle.cl_meaning.specs.Values.{number_of, on_values}
 use Rattle.cl_meaning.specs.Control.{last_of, tried}
 use Rattle.cl_meaning.specs.Data.{here, only_if, variable_set, key_and_value, entry_at, found_at, set_entry, insert_entry, delete_entry}
@@ -68,10 +69,6 @@ pub known : {A B : Type 0} (o : Option A) (go_on : A → State → Answer B) (s 
 known None go_on s h = stopped Wrong s
 known (Some v) go_on s h = h v
 
-chosen : {A : Type 0} (b : Bool) (x y : Answer A) → IsUnseen x → IsUnseen y → IsUnseen (if b then x else y)
-chosen true x y h k = h
-chosen false x y h k = k
-
 -- ---- literals and names
 
 pub standing_unseen : (name : CostName) (v : Val) (s : State) → IsUnseen (standing name v s)
@@ -82,16 +79,13 @@ pub literal_unseen : (r : Result Val ValueRefusal) (s : State) → IsUnseen (lit
 literal_unseen (Ok v) s = standing_unseen Literal v s
 literal_unseen (Err refusal) s = stopped Wrong s
 
+keyword_unseen : (S : Scope) (o : Option Keyword) (other : State → Answer Val) (s : State) → IsUnseen (other s) → IsUnseen (keyword_or S o other s)
+keyword_unseen S (Some k) other s h = standing_unseen (keyword_cost k) (keyword_value S k) s
+keyword_unseen S None other s h = h
+
 pub name_unseen : (S : Scope) (x : List ℕ) (s : State) → IsUnseen (name_form S x s)
 unfolding name_form
-name_unseen S x s =
-    chosen (bytes_eq x (codes "true")) _ _ (standing_unseen _ _ s)
-    (chosen (bytes_eq x (codes "false")) _ _ (standing_unseen _ _ s)
-    (chosen (bytes_eq x (codes "none")) _ _ (standing_unseen _ _ s)
-    (chosen (bytes_eq x (codes "tx-sender")) _ _ (standing_unseen _ _ s)
-    (chosen (bytes_eq x (codes "contract-caller")) _ _ (standing_unseen _ _ s)
-    (chosen (bytes_eq x (codes "block-height")) _ _ (standing_unseen _ _ s)
-    (known (option_or (value_of x S.bound) (constant_of x (home S))) (standing Lookup) s (λ v. standing_unseen Lookup v s)))))))
+name_unseen S x s = keyword_unseen S (keyword_of x) (known_form S x) s (known (option_or (value_of x S.bound) (constant_of x (home S))) (standing Lookup) s (λ v. standing_unseen Lookup v s))
 
 -- ---- natives on values, tuples and sequences
 

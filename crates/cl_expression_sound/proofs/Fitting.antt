@@ -3,14 +3,15 @@ use Rattle.std.proofs.Common.{◌≡◌, ℕ, Bool, List, [], ◌∷◌, map, ta
 use Rattle.std.specs.Prelude.{filter_map}
 use Rattle.std.specs.List.{cons_option}
 use Rattle.cl_types.specs.Types.{PlainType, OptionalType, ResponseType}
-use Rattle.cl_shapes.specs.declared.name.CostName.{CostName}
 use Rattle.cl_sexpr.specs.Tree.{Tree, LeafAt, ListAt, TupleAt, Leaf, Named, Empty, Then, Pairs, NoPair, Pair}
 use Rattle.cl_forms.specs.declared.head.Head.{Head}
 use Rattle.cl_forms.specs.declared.head.Head.TheVariants.{OnToken, TupleOf, AsMaxLen, Get, VarGet, VarSet, MapGet, MapSet, MapInsert, MapDelete, FtBalance, FtSupply, NftOwner, Let, Match, Map, Filter, Fold, ContractCall}
 use Rattle.cl_forms.specs.declared.head.TokenNative.TheVariants.{MintFt, BurnFt, SendFt, MintNft, BurnNft, SendNft, SendStx, BurnStx}
+use Rattle.cl_forms.specs.declared.keyword.Keyword.{Keyword}
+use Rattle.cl_forms.specs.Keywords.{keyword_of}
 use Rattle.cl_forms.specs.Heads.{Row, native}
 use Rattle.cl_forms.specs.Shapes.{trees_of, pairs_of, binding_of}
-use Rattle.cl_rules.specs.Context.{Context, Names, Signature, signature_in, bind, keyword, named_in, is_no_value}
+use Rattle.cl_rules.specs.Context.{Context, Names, Signature, signature_in, bind, named_in, is_no_value}
 use Rattle.cl_rules.specs.Verdicts.{Found}
 use Rattle.cl_rules.specs.Shapes.{Plan, Ends, Part, Gives, Shape, parts}
 use Rattle.cl_rules.specs.ControlShapes.{keyword_or, value_or, no_value_shape, leaf_shape, let_plan, let_shape, optional_plan, response_plan, match_plan}
@@ -132,12 +133,12 @@ value_fits (Some t) p known = tt
 value_fits None (Some t) known = tt
 value_fits None None known = tt
 
-keyword_fits : (o : Option (CostName × PlainType)) (other : Shape) → PlanFits other.plan → PlanFits (keyword_or o other).plan
+keyword_fits : (o : Option Keyword) (other : Shape) → PlanFits other.plan → PlanFits (keyword_or o other).plan
 keyword_fits (Some k) other h = tt
 keyword_fits None other h = h
 
 leaf_fits : (G : Context) (B : Names) (leaf : Leaf) → PlanFits (leaf_shape G B leaf).plan
-leaf_fits G B (Named x) = keyword_fits (keyword x) _ (value_fits (named_in x B) (named_in x G.constants) (is_no_value G x))
+leaf_fits G B (Named x) = keyword_fits (keyword_of x) _ (value_fits (named_in x B) (named_in x G.constants) (is_no_value G x))
 leaf_fits G B leaf = tt
 
 shape_fits : (G : Context) (B : Names) (e : Tree) → Fits e → PlanFits (shape G B e).plan

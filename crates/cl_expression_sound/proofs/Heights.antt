@@ -1,14 +1,15 @@
 -- The height of each expression is above 0.
 use Rattle.std.proofs.Common.{ℕ, ◌<◌, Bool, true, false, List, [], ◌∷◌, Option, Some, None, subst, arith}
 use Rattle.cl_types.specs.Types.{PlainType, UintType, PrincipalType, OptionalType, ResponseType}
-use Rattle.cl_shapes.specs.declared.name.CostName.{CostName}
 use Rattle.cl_sexpr.specs.Tree.{Tree, LeafAt, ListAt, TupleAt, Leaf, Named, Then}
 use Rattle.cl_forms.specs.declared.head.Head.{Head}
 use Rattle.cl_forms.specs.declared.head.Head.TheVariants.{OnToken, AsMaxLen, Get, VarGet, VarSet, MapGet, MapSet, MapInsert, MapDelete, FtBalance, FtSupply, NftOwner, If, Let, Match, Map, Filter, Fold, ContractCall}
 use Rattle.cl_forms.specs.declared.head.TokenNative.TheVariants.{MintFt, BurnFt, SendFt, MintNft, BurnNft, SendNft, SendStx, BurnStx}
+use Rattle.cl_forms.specs.declared.keyword.Keyword.{Keyword}
+use Rattle.cl_forms.specs.Keywords.{keyword_of}
 use Rattle.cl_forms.specs.Heads.{Row, native}
 use Rattle.cl_forms.specs.Shapes.{trees_of}
-use Rattle.cl_rules.specs.Context.{Context, Names, Bound, both, same, Signature, signature_in, charge, keyword, named_in, is_no_value}
+use Rattle.cl_rules.specs.Context.{Context, Names, Bound, both, same, Signature, signature_in, charge, named_in, is_no_value}
 use Rattle.cl_rules.specs.Verdicts.{Found, Verdict}
 use Rattle.cl_rules.specs.Shapes.{Shape, First, There, Absent, NoName, NoSuch, at_first, first_named, evaluated, stated, AUint, APrincipal, Admitted}
 use Rattle.cl_rules.specs.ControlShapes.{keyword_or, value_or, no_value_shape, leaf_shape, if_verdict, let_shape, match_verdict, optional_verdict, response_verdict}
@@ -37,12 +38,12 @@ high_value (Some t) p known fs = omega arith
 high_value None (Some t) known fs = omega arith
 high_value None None known fs = omega arith
 
-high_keyword : (o : Option (CostName × PlainType)) (other : Shape) → AreHigh other → AreHigh (keyword_or o other)
+high_keyword : (o : Option Keyword) (other : Shape) → AreHigh other → AreHigh (keyword_or o other)
 high_keyword (Some k) other h fs = omega arith
 high_keyword None other h fs = h fs
 
 high_leaf : (G : Context) (B : Names) (leaf : Leaf) → AreHigh (leaf_shape G B leaf)
-high_leaf G B (Named x) = high_keyword (keyword x) _ (high_value (named_in x B) (named_in x G.constants) (is_no_value G x))
+high_leaf G B (Named x) = high_keyword (keyword_of x) _ (high_value (named_in x B) (named_in x G.constants) (is_no_value G x))
 high_leaf G B leaf = λ fs. omega arith
 
 high_if : (own : Bound) (fs : List Found) → IsHigh (if_verdict own fs)

@@ -1,6 +1,6 @@
 -- Literals, keywords, bound names and constants.
-use Rattle.std.proofs.Common.{◌≡◌, ℕ, ◌<◌, ◌≤◌, ◌^◌, Bool, true, false, List, [], ◌∷◌, length, Option, Some, None, Ok, Err, refl, sym, subst, ◌∙◌, arith, codes}
-use Rattle.std.specs.Prelude.{◌||◌, not, nat_le, nat_lt, if◌then◌else◌}
+use Rattle.std.proofs.Common.{◌≡◌, ℕ, ◌<◌, ◌≤◌, ◌^◌, Bool, true, false, List, [], ◌∷◌, length, Option, Some, None, Ok, Err, refl, sym, subst, ◌∙◌, arith}
+use Rattle.std.specs.Prelude.{not, nat_le, nat_lt, if◌then◌else◌}
 use Rattle.std.specs.Str.{bytes_eq}
 use Rattle.std.proofs.lemmas.Bool.{leb-true}
 use Rattle.std.proofs.lemmas.Bool.Decides.{nat_tests}
@@ -19,10 +19,13 @@ use Rattle.cl_values.specs.Wire.{size_of}
 use Rattle.cl_values.specs.Valid.{IsPrincipal, IsVal, has_rising_keys, has_good_texts, made as value_made}
 use Rattle.cl_values.proofs.Admitted.{bounded}
 use Rattle.cl_events.specs.State.{State}
+use Rattle.cl_forms.specs.declared.keyword.Keyword.{Keyword}
+use Rattle.cl_forms.specs.declared.keyword.Keyword.TheVariants as keys
+use Rattle.cl_forms.specs.Keywords.{keyword_of}
 use Rattle.cl_meaning.specs.Answers.{Answer, Given, give, with_known}
 use Rattle.cl_meaning.specs.Deployed.{value_of, constant_of, contract_at}
 use Rattle.cl_meaning.specs.Scope.{Bound}
-use Rattle.cl_meaning.specs.Names.{standing, literal, name_form, leaf_form}
+use Rattle.cl_meaning.specs.Names.{standing, literal, keyword_or as keyword_form_or, name_form, leaf_form}
 use Rattle.cl_rules.specs.Faults.{type_rules}
 use Rattle.cl_rules.specs.NativeTypes.{Ruled, fine, made, is_small}
 use Rattle.cl_rules.specs.Context.{Names, charge, both, same, named_in, is_no_value}
@@ -160,17 +163,14 @@ module _ (K : World) (N : Stands K) where
   known_sound None None v c true h free k = record { each = λ fs shape follows types low s n. absurd cc }
   known_sound None None v c false h free k = record { each = λ fs shape follows types low s n. absurd cc }
 
-  keyword_sound : (a b c d e f : Bool) (other : Shape) (go_on : State → Answer Val) → IsSoundShape K N other go_on →
-      IsSoundShape K N
-      (keyword_or (if a || b then Some (Literal, BoolType) else (if c then Some (Literal, OptionalType NoType) else (if d || e then Some (ContextCost, PrincipalType) else (if f then Some (ContextCost, UintType) else None)))) other)
-      (λ s. if a then standing Literal (BoolV true) s else if b then standing Literal (BoolV false) s else if c then standing Literal NoneV s else if d then standing ContextCost (PrincipalV N.frame.sender) s else if e then standing ContextCost (PrincipalV N.frame.caller) s else if f then standing ContextCost (UintV N.frame.height) s else go_on s)
-  keyword_sound true b c d e f other go_on h = value_sound Literal (fine BoolType) (BoolV true) (λ g. true_typed true)
-  keyword_sound false true c d e f other go_on h = value_sound Literal (fine BoolType) (BoolV false) (λ g. true_typed false)
-  keyword_sound false false true d e f other go_on h = value_sound Literal (fine (OptionalType NoType)) NoneV (λ g. none_typed NoType)
-  keyword_sound false false false true e f other go_on h = value_sound ContextCost (fine PrincipalType) (PrincipalV N.frame.sender) (λ g. principal_typed N.frame.sender N.framed.sender)
-  keyword_sound false false false false true f other go_on h = value_sound ContextCost (fine PrincipalType) (PrincipalV N.frame.caller) (λ g. principal_typed N.frame.caller N.framed.caller)
-  keyword_sound false false false false false true other go_on h = value_sound ContextCost (fine UintType) (UintV N.frame.height) (λ g. uint_typed N.frame.height N.framed.height)
-  keyword_sound false false false false false false other go_on h = h
+  keyword_sound : (o : Option Keyword) (other : Shape) (go_on : State → Answer Val) → IsSoundShape K N other go_on → IsSoundShape K N (keyword_or o other) (keyword_form_or (here K N) o go_on)
+  keyword_sound (Some keys.True) other go_on h = value_sound Literal (fine BoolType) (BoolV true) (λ g. true_typed true)
+  keyword_sound (Some keys.False) other go_on h = value_sound Literal (fine BoolType) (BoolV false) (λ g. true_typed false)
+  keyword_sound (Some keys.None) other go_on h = value_sound Literal (fine (OptionalType NoType)) NoneV (λ g. none_typed NoType)
+  keyword_sound (Some keys.TxSender) other go_on h = value_sound ContextCost (fine PrincipalType) (PrincipalV N.frame.sender) (λ g. principal_typed N.frame.sender N.framed.sender)
+  keyword_sound (Some keys.ContractCaller) other go_on h = value_sound ContextCost (fine PrincipalType) (PrincipalV N.frame.caller) (λ g. principal_typed N.frame.caller N.framed.caller)
+  keyword_sound (Some keys.BlockHeight) other go_on h = value_sound ContextCost (fine UintType) (UintV N.frame.height) (λ g. uint_typed N.frame.height N.framed.height)
+  keyword_sound None other go_on h = h
 
   constant_there : (x : List ℕ) (t : PlainType) → named_in x N.context.constants ≡ Some t → IsThere (constant_of x (contract_at N.frame.contract K.deployed)) t
   constant_there x t h = subst (λ p. IsThere (constant_of x (contract_at p K.deployed)) t) (sym N.framed.home) (N.world.constants N.context N.good x t h)
@@ -178,7 +178,7 @@ module _ (K : World) (N : Stands K) where
   name_sound : (x : List ℕ) → IsSoundShape K N (name_shape N.context N.names x) (name_form (here K N) x)
   unfolding name_form
   name_sound x =
-      keyword_sound (bytes_eq x (codes "true")) (bytes_eq x (codes "false")) (bytes_eq x (codes "none")) (bytes_eq x (codes "tx-sender")) (bytes_eq x (codes "contract-caller")) (bytes_eq x (codes "block-height")) _ _
+      keyword_sound (keyword_of x) _ _
       (known_sound (named_in x N.names) (named_in x N.context.constants) (value_of x N.bound) (constant_of x (contract_at N.frame.contract K.deployed)) (is_no_value N.context x) (λ t. bound_there N.names N.bound x t N.are) (bound_free N.names N.bound x N.are) (constant_there x))
 
   pub leaf_sound : (leaf : Leaf) → LeafFits leaf → IsSoundShape K N (leaf_shape N.context N.names leaf) (leaf_form (here K N) leaf)

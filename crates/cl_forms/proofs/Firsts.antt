@@ -13,8 +13,9 @@ use Rattle.cl_sexpr.specs.Tree.{Tree, span_of}
 use Rattle.cl_forms.specs.declared.entry.Entry.{Entry}
 use Rattle.cl_forms.specs.ItemView.{plain_item}
 use Rattle.cl_forms.specs.Forms.{Form}
+use Rattle.cl_forms.specs.Names.{stands_twice}
 use Rattle.cl_forms.specs.Items.{Item, Expression, Misshapen, Definition, item_of, kind_of, form_of}
-use Rattle.cl_forms.specs.FormBreaks.{left_out_in, params_of, defines, is_defined, uses_name, when, rules_of, broken_at, breaks_of, repeats, IsAmong, Breaks, GoesBefore, IsFirstBreak, AreForms}
+use Rattle.cl_forms.specs.FormBreaks.{left_out_in, params_of, defines, is_defined, uses_name, when, rules_of, broken_at, breaks_of, IsAmong, Breaks, GoesBefore, IsFirstBreak, AreForms}
 use Rattle.cl_forms.specs.Looks.{earliest, look_at, plain_entry, Table, first_from, is_before, is_used, has_reserved, rules_by, comes_last, first_of, first_at, break_of, first_broken, form_at}
 
 -- ---- the table of names says which names are used
@@ -38,7 +39,7 @@ before_first j k (suc n) (item ∷ items) x e =
     [ true ↦ grind (arith, nat_tests) | false ↦ before_first j (k + 1) n items x (omega arith) ]
 
 used_same : (items : List Item) (n : ℕ) (name : List ℕ) (params : List (List ℕ)) → is_used (first_from 0 items) n name params ≡ uses_name items n name params
-used_same items n name params i = before_first n 0 n items name (omega arith) i || repeats [] params || list_any (λ p. is_some_first 0 items p i) params
+used_same items n name params i = before_first n 0 n items name (omega arith) i || stands_twice params || list_any (λ p. is_some_first 0 items p i) params
 
 pub rules_same : (items : List Item) (n : ℕ) (item : Item) → rules_by (first_from 0 items) n item ≡ rules_of items n item
 rules_same items n (Expression e) = refl

@@ -11,3 +11,7 @@ pub mod Weighing
 pub mod ExpressionsFit
 pub mod Nesting
 pub mod Rows
+pub mod Keywords
+pub mod SameNames
+pub mod FreeNames
+pub mod Twice

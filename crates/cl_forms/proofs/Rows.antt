@@ -1,11 +1,12 @@
 -- Words in rows by their lengths: a name is compared with those of its own length, since it equals no other.
 use Rattle.std.proofs.Common.{◌≡◌, refl, sym, ap, ◌∙◌, ℕ, zero, suc, Bool, true, false, ◌&&◌, ◌||◌, List, [], ◌∷◌, ◌++◌, length, if◌then◌else◌, nat_eq, true≢false}
 use Rattle.std.specs.Prelude.{map}
-use Rattle.std.specs.Str.{bytes_eq}
 use Rattle.std.specs.List.{list_all}
 use Rattle.std.proofs.lemmas.Bool.{and_parts, false≢true}
 use Rattle.std.proofs.lemmas.List.Folds.{list_any-append}
-use Rattle.cl_forms.specs.Heads.{is_one_of, table, keywords, define_words}
+use Rattle.cl_forms.specs.Names.{same, is_one_of}
+use Rattle.cl_forms.specs.Keywords.{keywords}
+use Rattle.cl_forms.specs.Heads.{table, define_words}
 use Rattle.cl_forms.specs.Rows.{row_at}
 
 abbrev pub has_length : List ℕ → ℕ → Bool
@@ -33,14 +34,14 @@ and_false : (b : Bool) → (b && false) ≡ false
 and_false true = refl
 and_false false = refl
 
-differs : (word name : List ℕ) → has_length word (length name) ≡ false → bytes_eq word name ≡ false
+differs : (word name : List ℕ) → has_length word (length name) ≡ false → same name word ≡ false
 differs [] [] h = absurd (true≢false h)
 differs [] (y ∷ ys) h = refl
 differs (x ∷ xs) [] h = refl
-differs (x ∷ xs) (y ∷ ys) h = ap (λ b. nat_eq x y && b) (differs xs ys h) ∙ and_false (nat_eq x y)
+differs (x ∷ xs) (y ∷ ys) h = ap (λ b. nat_eq y x && b) (differs xs ys h) ∙ and_false (nat_eq y x)
 
-chosen : (b : Bool) (word : List ℕ) (words few : List (List ℕ)) (name : List ℕ) → (b ≡ false → bytes_eq word name ≡ false) → is_one_of few name ≡ is_one_of words name → is_one_of (if b then word ∷ few else few) name ≡ is_one_of (word ∷ words) name
-chosen true word words few name off rest = ap (λ c. bytes_eq word name || c) rest
+chosen : (b : Bool) (word : List ℕ) (words few : List (List ℕ)) (name : List ℕ) → (b ≡ false → same name word ≡ false) → is_one_of few name ≡ is_one_of words name → is_one_of (if b then word ∷ few else few) name ≡ is_one_of (word ∷ words) name
+chosen true word words few name off rest = ap (λ c. same name word || c) rest
 chosen false word words few name off rest = rest ∙ ap (λ c. c || is_one_of words name) (sym (off refl))
 
 of_its_length : (words : List (List ℕ)) (name : List ℕ) → is_one_of (with_length (length name) words) name ≡ is_one_of words name
@@ -130,5 +131,5 @@ all_words = (map (λ row. row.name) table ++ keywords) ++ define_words
 
 pub words_are : (name : List ℕ) → is_one_of all_words name ≡ (is_one_of (map (λ row. row.name) table) name || is_one_of keywords name || is_one_of define_words name)
 words_are name =
-    list_any-append (λ word. bytes_eq word name) (map (λ row. row.name) table ++ keywords) define_words
-    ∙ ap (λ b. b || is_one_of define_words name) (list_any-append (λ word. bytes_eq word name) (map (λ row. row.name) table) keywords)
+    list_any-append (same name) (map (λ row. row.name) table ++ keywords) define_words
+    ∙ ap (λ b. b || is_one_of define_words name) (list_any-append (same name) (map (λ row. row.name) table) keywords)

@@ -1,5 +1,5 @@
 -- The rules of forms, and the first that is broken.
-use Rattle.std.specs.Prelude.{◌≡◌, ◌⊎◌, ℕ, ◌<◌, ◌≤◌, ◌||◌, Bool, true, false, List, [], ◌∷◌, ◌++◌, if◌then◌else◌, map, take, is_none, slice_get, Some}
+use Rattle.std.specs.Prelude.{◌≡◌, ◌⊎◌, ℕ, ◌<◌, ◌≤◌, ◌||◌, Bool, false, List, [], ◌∷◌, ◌++◌, if◌then◌else◌, map, take, is_none, slice_get, Some}
 use Rattle.std.specs.List.{list_any}
 use Rattle.cl_sexpr.specs.declared.sexpr.Span.{Span}
 use Rattle.cl_sexpr.specs.declared.rule.Rule.{Rule}
@@ -8,8 +8,8 @@ use Rattle.cl_sexpr.specs.declared.rule.Break.{Break}
 use Rattle.cl_sexpr.specs.Rules.{number_of}
 use Rattle.cl_sexpr.specs.Tree.{Tree, LeafAt, ListAt, TupleAt, Leaf, Named, Signed, Unsigned, Bytes, Ascii, Unicode, Standing, Local, Forest, Empty, Then, Pairs, NoPair, Pair, span_of}
 use Rattle.cl_forms.specs.Forms.{Form}
-use Rattle.cl_forms.specs.Names.{same}
-use Rattle.cl_forms.specs.Heads.{is_one_of, is_reserved, left_out}
+use Rattle.cl_forms.specs.Names.{same, is_one_of, stands_twice}
+use Rattle.cl_forms.specs.Heads.{is_reserved, left_out}
 use Rattle.cl_forms.specs.Items.{Draft, ConstantDraft, VariableDraft, MapDraft, FungibleDraft, NonFungibleDraft, FunctionDraft, Item, Expression, Misshapen, Definition, item_of, kind_of, form_of}
 
 -- ---- names that are left out
@@ -58,14 +58,9 @@ defines x (Definition name draft) = same x name
 abbrev pub is_defined : List Item → List ℕ → Bool
 is_defined items x = list_any (defines x) items
 
--- whether a name equals one before it, or one of the names that are seen already
-abbrev pub repeats : List (List ℕ) → List (List ℕ) → Bool
-repeats seen [] = false
-repeats seen (x ∷ xs) = if list_any (same x) seen then true else repeats (seen ++ x ∷ []) xs
-
 -- the name of an earlier item; or a parameter with the name of an earlier one, or of an item wherever it stands
 abbrev pub uses_name : List Item → ℕ → List ℕ → List (List ℕ) → Bool
-uses_name items n name params = is_defined (take n items) name || repeats [] params || list_any (is_defined items) params
+uses_name items n name params = is_defined (take n items) name || stands_twice params || list_any (is_defined items) params
 
 -- ---- breaks
 

@@ -1,9 +1,10 @@
--- The natives as one table, the keywords, the words that define, and the names that are left out.
+-- The natives as one table, the words that define, and the names that are left out.
 use Rattle.std.specs.Prelude.{ℕ, ◌==◌, ◌||◌, Bool, true, false, List, [], ◌∷◌, codes, map, nat_le, if◌then◌else◌, Option, Some, None, option_map}
 use Rattle.std.specs.Str.{bytes_eq}
-use Rattle.std.specs.List.{list_any}
 use Rattle.cl_shapes.specs.declared.name.CostName.{CostName}
 use Rattle.cl_shapes.specs.declared.name.CostName.TheVariants.{Control, Arith, Compare, Hash, Wrap, Make, Take as TakeCost, Scan, Iterate, ReadVar, WriteVar, ReadMap, WriteMap, ReadToken, WriteToken, Event as EventCost, ContractCall as ContractCallCost}
+use Rattle.cl_forms.specs.Names.{is_one_of}
+use Rattle.cl_forms.specs.Keywords.{keywords}
 pub use Rattle.cl_values.specs.declared.native.Native.{Native}
 pub use Rattle.cl_values.specs.declared.native.Native.TheVariants.{Add, Subtract, Multiply, Divide, Modulo, Power, Xor, SquareRoot, Log2, ToInt, ToUint, Not, Less, AtMost, Greater, AtLeast, Same, Sha256, Sha512Of256, Sha512, MakeSome, MakeOk, MakeErr, IsSome, IsNone, IsOk, IsErr, DefaultTo, UnwrapPanic, UnwrapErrPanic, MakeList, Merge, Append, Concat, Len, ElementAt, IndexOf}
 pub use Rattle.cl_forms.specs.declared.head.TokenNative.{TokenNative}
@@ -157,10 +158,6 @@ row_in (row ∷ rows) name = if bytes_eq row.name name then Some row else row_in
 unfoldable pub native : List ℕ → Option Row
 native name = row_in table name
 
-abbrev pub keywords : List (List ℕ)
-keywords =
-    codes "true" ∷ codes "false" ∷ codes "none" ∷ codes "tx-sender" ∷ codes "contract-caller" ∷ codes "block-height" ∷ []
-
 abbrev pub define_words : List (List ℕ)
 define_words =
     codes "define-constant" ∷ codes "define-data-var" ∷ codes "define-map" ∷ codes "define-fungible-token"
@@ -172,9 +169,6 @@ left_out =
     codes "define-trait" ∷ codes "use-trait" ∷ codes "impl-trait" ∷ codes "contract-of" ∷ codes "at-block"
     ∷ codes "get-block-info?" ∷ codes "keccak256" ∷ codes "hash160" ∷ codes "secp256k1-recover?" ∷ codes "secp256k1-verify"
     ∷ codes "principal-of?" ∷ codes "stx-liquid-supply" ∷ codes "is-in-regtest" ∷ []
-
-abbrev pub is_one_of : List (List ℕ) → List ℕ → Bool
-is_one_of words name = list_any (λ word. bytes_eq word name) words
 
 -- natives, keywords, define words and names that are left out
 unfoldable pub is_reserved : List ℕ → Bool

@@ -2,6 +2,7 @@ pub mod Forms
 pub mod Names
 pub mod Order
 pub mod Writes
+pub mod Keywords
 pub mod Heads
 pub mod HeadNames
 pub mod Shapes

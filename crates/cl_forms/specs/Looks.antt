@@ -8,9 +8,10 @@ use Rattle.cl_sexpr.specs.declared.rule.Rule.TheVariants.{BadDefinition, BadType
 use Rattle.cl_sexpr.specs.declared.rule.Break.{Break}
 use Rattle.cl_sexpr.specs.Tree.{Tree, span_of}
 use Rattle.cl_forms.specs.Forms.{Form}
+use Rattle.cl_forms.specs.Names.{stands_twice}
 use Rattle.cl_forms.specs.Heads.{is_reserved}
 use Rattle.cl_forms.specs.Items.{Item, Expression, Misshapen, Definition, item_of, kind_of, form_by}
-use Rattle.cl_forms.specs.FormBreaks.{left_out_in, params_of, defines, repeats, when, broken_at}
+use Rattle.cl_forms.specs.FormBreaks.{left_out_in, params_of, defines, when, broken_at}
 use Rattle.cl_forms.specs.declared.entry.Entry.{Entry}
 use Rattle.cl_forms.specs.ItemView.{plain_item}
 
@@ -47,7 +48,7 @@ is_before n None = false
 is_before n (Some m) = nat_lt m n
 
 abbrev pub is_used : Table → ℕ → List ℕ → List (List ℕ) → Bool
-is_used table n name params = is_before n (table name) || repeats [] params || list_any (λ p. is_some (table p)) params
+is_used table n name params = is_before n (table name) || stands_twice params || list_any (λ p. is_some (table p)) params
 
 -- whether the name or a parameter is reserved
 abbrev pub has_reserved : List ℕ → List (List ℕ) → Bool

@@ -1,5 +1,5 @@
 -- What a form names.
-use Rattle.std.specs.Prelude.{◌≡◌, ℕ, ◌+◌, Bool, true, false, List, [], ◌∷◌, ◌++◌, codes, if◌then◌else◌, nat_eq, slice_get, Option, Some, None, option_and_then}
+use Rattle.std.specs.Prelude.{◌≡◌, ℕ, ◌+◌, ◌||◌, Bool, true, false, List, [], ◌∷◌, ◌++◌, codes, if◌then◌else◌, nat_eq, slice_get, Option, Some, None, option_and_then}
 use Rattle.std.specs.List.{list_any}
 use Rattle.std.specs.Cmp.Lexicographic.{pointwise}
 use Rattle.cl_sexpr.specs.Tree.{Tree, LeafAt, ListAt, TupleAt, Leaf, Named, Signed, Unsigned, Bytes, Ascii, Unicode, Standing, Local, Forest, Empty, Then, Pairs, NoPair, Pair}
@@ -8,6 +8,15 @@ use Rattle.cl_forms.specs.Forms.{Form, expression_of}
 -- two names are one
 abbrev pub same : List ℕ → List ℕ → Bool
 same = pointwise nat_eq
+
+-- a name is one of these
+abbrev pub is_one_of : List (List ℕ) → List ℕ → Bool
+is_one_of names x = list_any (same x) names
+
+-- a name stands twice among these
+abbrev pub stands_twice : List (List ℕ) → Bool
+stands_twice [] = false
+stands_twice (x ∷ xs) = is_one_of xs x || stands_twice xs
 
 -- what stands first under a name
 abbrev pub named_in : {A : Type 0} → List ℕ → List (List ℕ × A) → Option A
@@ -100,7 +109,7 @@ atoms_of_form f = atoms_of_expression (expression_of f.kind)
 -- whether a name is among names
 abbrev pub is_among : List (List ℕ) → Option (List ℕ) → Bool
 is_among xs None = false
-is_among xs (Some x) = list_any (same x) xs
+is_among xs (Some x) = is_one_of xs x
 
 -- whether a form names another: an atom of its expression equals the other's name
 abbrev pub names : Form → Form → Bool

@@ -1,11 +1,10 @@
 -- Which functions of a contract write.
 use Rattle.std.specs.Prelude.{◌≡◌, ℕ, Bool, true, false, List, [], ◌∷◌, ◌++◌, codes, Contains, Some}
-use Rattle.std.specs.List.{list_any}
 use Rattle.cl_types.specs.Types.{PlainType}
 use Rattle.cl_types.specs.declared.sized.Access.{Access}
 use Rattle.cl_sexpr.specs.Tree.{Tree, LeafAt, ListAt, TupleAt, Leaf, Named, Forest, Empty, Then, Pairs, NoPair, Pair}
 use Rattle.cl_forms.specs.Forms.{Form, FunctionForm}
-use Rattle.cl_forms.specs.Names.{same}
+use Rattle.cl_forms.specs.Names.{same, is_one_of}
 
 -- the natives that write
 abbrev pub writing_natives : List (List ℕ)
@@ -18,9 +17,6 @@ writing_natives =
 -- the natives that apply a function given by name
 abbrev pub applying_natives : List (List ℕ)
 applying_natives = codes "map" ∷ codes "filter" ∷ codes "fold" ∷ []
-
-abbrev pub is_one_of : List (List ℕ) → List ℕ → Bool
-is_one_of names x = list_any (same x) names
 
 -- what is called, and the parts behind it
 pub record Call : Type 0 where

@@ -5,10 +5,10 @@ ghost use Rattle.std.specs.Option.{option_or};
 ghost use Rattle.indexmap.specs.IndexMap.{get as lookup};
 ghost use Rattle.cl_types.specs.Fault.{IfRefused};
 ghost use Rattle.cl_sexpr.specs.Tree.{Tree};
-ghost use Rattle.cl_forms.specs.Names.{same};
+ghost use Rattle.cl_forms.specs.Names.{same, stands_twice};
 ghost use Rattle.cl_forms.specs.Heads.{is_reserved};
 ghost use Rattle.cl_forms.specs.ItemView.{plain_draft, plain_item};
-ghost use Rattle.cl_forms.specs.FormBreaks.{broken_at, params_of, defines, repeats, when, IsFirstBreak, AreForms};
+ghost use Rattle.cl_forms.specs.FormBreaks.{broken_at, params_of, defines, when, IsFirstBreak, AreForms};
 ghost use Rattle.cl_forms.specs.Looks.{plain_entry, first_from, is_used, has_reserved, is_before, comes_last, first_of, first_at, rules_by, break_of, first_broken, form_at};
 ghost use Rattle.cl_forms.specs.Items.{Definition, form_by};
 
@@ -76,7 +76,7 @@ fn has_reserved(name: &Name, params: &[(Name, Sexpr)]) -> bool
 }
 
 fn repeats(alloc: Global, params: &[(Name, Sexpr)]) -> Result<bool, AllocError>
-    ensures { IfOk result (λ b. b ≡ repeats [] (map (λ p. p.0) params.now)) }
+    ensures { IfOk result (λ b. b ≡ stands_twice (map (λ p. p.0) params.now)) }
 {
     let mut seen = IndexSet::new(alloc);
     for param in params {

@@ -6,6 +6,7 @@ mod entry;
 mod form;
 mod head;
 mod item;
+mod keyword;
 mod kind;
 mod laws;
 mod names;
@@ -19,6 +20,7 @@ mod word;
 pub use definitions::forms;
 pub use form::{Form, FormKind};
 pub use head::{Head, TokenNative};
+pub use keyword::Keyword;
 pub use laws::{natives_have_one_name, rows_are_of_heads};
 pub use placed::{
     expressions_are_placed, expressions_are_within_limits, expressions_nest_as_items,

@@ -1,7 +1,6 @@
 //! Names compared with words.
 ghost use Rattle.std.specs.Prelude.{◌≡◌, map, length};
-ghost use Rattle.cl_forms.specs.Names.{same};
-ghost use Rattle.cl_forms.specs.Heads.{is_one_of};
+ghost use Rattle.cl_forms.specs.Names.{same, is_one_of};
 ghost use Rattle.cl_forms.specs.Rows.{row_at};
 
 use cl_types::Name;
@@ -18,7 +17,7 @@ fn is_one_of(words: &[&str], name: &Name) -> bool
     ensures { result ≡ is_one_of (map (λ word. word.now) words.now) name.now }
 {
     for word in words {
-        if word.as_bytes() == name.bytes() {
+        if is(name, word) {
             return true;
         }
     }

@@ -1,6 +1,8 @@
 //! The names that no definition and no parameter may have.
 ghost use Rattle.std.specs.Prelude.{◌≡◌, ◌||◌, map};
-ghost use Rattle.cl_forms.specs.Heads.{is_one_of, is_reserved, keywords, define_words, left_out, table};
+ghost use Rattle.cl_forms.specs.Names.{is_one_of};
+ghost use Rattle.cl_forms.specs.Keywords.{keywords};
+ghost use Rattle.cl_forms.specs.Heads.{is_reserved, define_words, left_out, table};
 
 use crate::names::is_one_by_length;
 use cl_types::Name;

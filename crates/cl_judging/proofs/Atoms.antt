@@ -13,18 +13,18 @@ use Rattle.cl_sexpr.specs.declared.sexpr.Node.{Node}
 use Rattle.cl_sexpr.specs.View.{tree_of}
 use Rattle.cl_sexpr.specs.Tree.{Tree, LeafAt, Leaf, Named, span_of, tree_depth}
 use Rattle.cl_rules.specs.NativeTypes.{Ruled, fine}
-use Rattle.cl_rules.specs.Context.{Names, Context, keyword, named_in, is_no_value, charge, both}
+use Rattle.cl_rules.specs.Context.{Names, Context, keyword_type, named_in, is_no_value, charge, both}
 use Rattle.cl_rules.specs.Verdicts.{sum_of}
 use Rattle.cl_rules.specs.Shapes.{Shape, value_shape}
 use Rattle.cl_rules.specs.ControlShapes.{leaf_shape, keyword_or, value_or, no_value_shape}
 use Rattle.cl_rules.specs.Table.{shape}
 use Rattle.cl_rules.specs.Judging.{judged}
 use Rattle.cl_types.specs.Types.{size_of}
-use Rattle.cl_code.specs.declared.op.Keyword.{Keyword}
+use Rattle.cl_forms.specs.declared.keyword.Keyword.{Keyword}
+use Rattle.cl_forms.specs.Keywords.{keyword_of, keyword_cost}
 use Rattle.cl_judging.specs.declared.context.Context.{Context as CodeContext}
 use Rattle.cl_typing.specs.declared.concluding.Checked.{Checked}
 use Rattle.cl_typing.specs.declared.concluding.Concluded.{Concluded}
-use Rattle.cl_judging.specs.Keywords.{keyword_facts, keyword_cost, keyword_type}
 use Rattle.cl_judging.specs.Seen.{Shows, no_value_in}
 use Rattle.cl_typing.specs.Verdicts.{ConcludesAs}
 use Rattle.cl_judging.specs.Walking.{Finds, judged_as, Checks, ChecksAs, Finishes, FineAs, RuledAs, ValueAs}
@@ -75,35 +75,35 @@ leaf_ruled c B leaf at name R result is h = checks_by c B (LeafAt leaf at) (λ G
 -- ---- names
 
 module _ (c : CodeContext) (B : Names) (x : List ℕ) (at : Span) where
-  keyword_shape : (k : Keyword) (G : Context) → Some (keyword_facts k) ≡ keyword x → leaf_shape G B (Named x) ≡ value_shape (keyword_cost k) (fine (keyword_type k))
-  keyword_shape k G is = ap (λ (o : Option (CostName × PlainType)). keyword_or o (value_or (named_in x B) (value_or (named_in x G.constants) (no_value_shape (is_no_value G x))))) (sym is)
+  keyword_shape : (k : Keyword) (G : Context) → Some k ≡ keyword_of x → leaf_shape G B (Named x) ≡ value_shape (keyword_cost k) (fine (keyword_type k))
+  keyword_shape k G is = ap (λ (o : Option Keyword). keyword_or o (value_or (named_in x B) (value_or (named_in x G.constants) (no_value_shape (is_no_value G x))))) (sym is)
 
-  pub keyword_found : (k : Keyword) (t : PlainType) (result : Result Checked (Fault Break)) → Some (keyword_facts k) ≡ keyword x → t ≡ keyword_type k → FineAs t at result → Checks c B (LeafAt (Named x) at) result
+  pub keyword_found : (k : Keyword) (t : PlainType) (result : Result Checked (Fault Break)) → Some k ≡ keyword_of x → t ≡ keyword_type k → FineAs t at result → Checks c B (LeafAt (Named x) at) result
   keyword_found k t result is same h = leaf_found c B (Named x) at (keyword_cost k) t result (λ G shows. keyword_shape k G is ∙ ap (λ (u : PlainType). value_shape (keyword_cost k) (fine u)) (sym same)) h
 
-  bound_shape : (t : PlainType) (G : Context) → None ≡ keyword x → Some t ≡ named_in x B → leaf_shape G B (Named x) ≡ value_shape Lookup (fine t)
+  bound_shape : (t : PlainType) (G : Context) → None ≡ keyword_of x → Some t ≡ named_in x B → leaf_shape G B (Named x) ≡ value_shape Lookup (fine t)
   bound_shape t G keyless is = λ i. keyword_or (sym keyless i) (value_or (sym is i) (value_or (named_in x G.constants) (no_value_shape (is_no_value G x))))
 
-  pub bound_found : (t : PlainType) (result : Result Checked (Fault Break)) → None ≡ keyword x → Some t ≡ named_in x B → FineAs t at result → Checks c B (LeafAt (Named x) at) result
+  pub bound_found : (t : PlainType) (result : Result Checked (Fault Break)) → None ≡ keyword_of x → Some t ≡ named_in x B → FineAs t at result → Checks c B (LeafAt (Named x) at) result
   bound_found t result keyless is h = leaf_found c B (Named x) at Lookup t result (λ G shows. bound_shape t G keyless is) h
 
-  constant_shape : (t : PlainType) (G : Context) → Shows c G → None ≡ keyword x → None ≡ named_in x B → Some t ≡ named_in x c.constants.entries → leaf_shape G B (Named x) ≡ value_shape Lookup (fine t)
+  constant_shape : (t : PlainType) (G : Context) → Shows c G → None ≡ keyword_of x → None ≡ named_in x B → Some t ≡ named_in x c.constants.entries → leaf_shape G B (Named x) ≡ value_shape Lookup (fine t)
   constant_shape t G shows keyless none is =
       let there : named_in x G.constants ≡ Some t = ap (λ (es : List (List ℕ × PlainType)). named_in x es) shows.constants ∙ sym is in
       λ i. keyword_or (sym keyless i) (value_or (sym none i) (value_or (there i) (no_value_shape (is_no_value G x))))
 
-  pub constant_found : (t : PlainType) (result : Result Checked (Fault Break)) → None ≡ keyword x → None ≡ named_in x B → Some t ≡ named_in x c.constants.entries → FineAs t at result → Checks c B (LeafAt (Named x) at) result
+  pub constant_found : (t : PlainType) (result : Result Checked (Fault Break)) → None ≡ keyword_of x → None ≡ named_in x B → Some t ≡ named_in x c.constants.entries → FineAs t at result → Checks c B (LeafAt (Named x) at) result
   constant_found t result keyless none is h = leaf_found c B (Named x) at Lookup t result (λ G shows. constant_shape t G shows keyless none is) h
 
-  no_shape : (b : Bool) (G : Context) → Shows c G → None ≡ keyword x → None ≡ named_in x B → None ≡ named_in x c.constants.entries → b ≡ no_value_in c x → leaf_shape G B (Named x) ≡ no_value_shape b
+  no_shape : (b : Bool) (G : Context) → Shows c G → None ≡ keyword_of x → None ≡ named_in x B → None ≡ named_in x c.constants.entries → b ≡ no_value_in c x → leaf_shape G B (Named x) ≡ no_value_shape b
   no_shape b G shows keyless none nor is =
       let there : named_in x G.constants ≡ None = ap (λ (es : List (List ℕ × PlainType)). named_in x es) shows.constants ∙ sym nor in
       λ i. keyword_or (sym keyless i) (value_or (sym none i) (value_or (there i) (no_value_shape ((no_value_is c G x shows ∙ sym is) i))))
 
-  pub no_value : (f : Fault Break) → None ≡ keyword x → None ≡ named_in x B → None ≡ named_in x c.constants.entries → true ≡ no_value_in c x → f ≡ Refused (record { rule = NotAValue; span = at }) → Checks c B (LeafAt (Named x) at) (Err f)
+  pub no_value : (f : Fault Break) → None ≡ keyword_of x → None ≡ named_in x B → None ≡ named_in x c.constants.entries → true ≡ no_value_in c x → f ≡ Refused (record { rule = NotAValue; span = at }) → Checks c B (LeafAt (Named x) at) (Err f)
   no_value f keyless none nor is fails = subst (λ (g : Fault Break). Checks c B (LeafAt (Named x) at) (Err g)) (sym fails) (checks_by c B (LeafAt (Named x) at) (λ G. no_value_shape true) 0 (Err (Refused (record { rule = NotAValue; span = at }))) (omega arith) (λ G shows. leaf_is G B (Named x) at ∙ no_shape true G shows keyless none nor is) (λ G d shows enough. refl))
 
-  pub unknown : (f : Fault Break) → None ≡ keyword x → None ≡ named_in x B → None ≡ named_in x c.constants.entries → false ≡ no_value_in c x → f ≡ Refused (record { rule = UnknownName; span = at }) → Checks c B (LeafAt (Named x) at) (Err f)
+  pub unknown : (f : Fault Break) → None ≡ keyword_of x → None ≡ named_in x B → None ≡ named_in x c.constants.entries → false ≡ no_value_in c x → f ≡ Refused (record { rule = UnknownName; span = at }) → Checks c B (LeafAt (Named x) at) (Err f)
   unknown f keyless none nor is fails = subst (λ (g : Fault Break). Checks c B (LeafAt (Named x) at) (Err g)) (sym fails) (checks_by c B (LeafAt (Named x) at) (λ G. no_value_shape false) 0 (Err (Refused (record { rule = UnknownName; span = at }))) (omega arith) (λ G shows. leaf_is G B (Named x) at ∙ no_shape false G shows keyless none nor is) (λ G d shows enough. refl))
 
 -- ---- an item of the text

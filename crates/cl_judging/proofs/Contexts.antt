@@ -2,7 +2,8 @@
 use Rattle.std.proofs.Common.{◌≡◌, ℕ, Bool, true, false, List, [], ◌∷◌, map, Option, Some, None, refl, ap, ◌∙◌}
 use Rattle.std.specs.Prelude.{◌||◌, if◌then◌else◌, option_map, is_some}
 use Rattle.std.specs.List.{list_any}
-use Rattle.cl_forms.specs.Heads.{native, is_reserved, is_one_of, define_words}
+use Rattle.cl_forms.specs.Names.{is_one_of}
+use Rattle.cl_forms.specs.Heads.{native, is_reserved, define_words}
 use Rattle.cl_rules.specs.Context.{Signature, Context, Names, same, named_in, signature_in, is_named, is_taken, is_no_value}
 use Rattle.cl_judging.specs.declared.context.Signature.{Signature as CodeSignature}
 use Rattle.cl_judging.specs.declared.context.Context.{Context as CodeContext}

@@ -13,13 +13,11 @@ pub mod FunctionCalls
 pub mod Breaks
 pub mod ControlRows
 pub mod NamedShapes
-pub mod KeywordNames
 pub mod WordLengths
 pub mod OwnNames
 pub mod Counts
 pub mod TargetLaws
 pub mod TupleShapes
-pub mod Twice
 pub mod MaxLens
 pub mod Fitting
 pub mod References

@@ -19,6 +19,7 @@ use Rattle.cl_forms.specs.Items.{atom_of}
 use Rattle.cl_rules.specs.Faults.{shape_rules, sound_shape, when}
 use Rattle.cl_rules.specs.Context.{Context, Names, Signature, Known, both, charge, same_principal, known_at, signature_in, if_callable}
 use Rattle.cl_rules.specs.Verdicts.{sum_of}
+use Rattle.cl_forms.specs.Shapes.{open_to_others}
 use Rattle.cl_rules.specs.Shapes.{Shape, parts, First, Absent, NoName, NoSuch, There, there_or_not, first_named, is_no_name, is_no_such, is_miscounted, at_first}
 use Rattle.cl_rules.specs.CallShapes.{target_or_not, target_of, function_of, is_unlike_function, length_at, call_verdict, contract_call_shape}
 use Rattle.cl_rules.specs.Table.{head_shape}
@@ -62,13 +63,7 @@ some_target false None p c h is = absurd cc
 some_target false (Some d) None c h is = absurd h
 some_target false (Some d) (Some k) c h is = let same : c ≡ d = cc in (k, refl, subst (λ (x : Contract). IsKnownAs x k) (sym same) h)
 
-abbrev opened : Access → Signature → Option Signature
-opened a g = elim a [ Public ↦ Some g | ReadOnly ↦ Some g | Private ↦ None ]
-
-abbrev opened_function : Access → Function → Option Function
-opened_function a f = elim a [ Public ↦ Some f | ReadOnly ↦ Some f | Private ↦ None ]
-
-open_by : (a b : Access) (g : Signature) (f : Function) → a ≡ b → seen g ≡ shown f → option_map seen (opened a g) ≡ option_map shown (opened_function b f)
+open_by : (a b : Access) (g : Signature) (f : Function) → a ≡ b → seen g ≡ shown f → option_map seen (open_to_others a g) ≡ option_map shown (open_to_others b f)
 open_by Public Public g f h same = ap (λ (s : Shown). Some s) same
 open_by ReadOnly ReadOnly g f h same = ap (λ (s : Shown). Some s) same
 open_by Private Private g f h same = refl

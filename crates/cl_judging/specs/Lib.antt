@@ -1,7 +1,6 @@
 pub mod Seen
 pub mod Walking
 pub mod Natives
-pub mod Keywords
 pub mod LetWalk
 pub mod Calls
 pub mod Controls

@@ -1,7 +1,8 @@
 -- The context of the definitions that the code's context stands for, but for the bounds of functions.
 use Rattle.std.specs.Prelude.{◌≡◌, ℕ, ◌||◌, Bool, false, List, [], ◌∷◌, map, is_some}
 use Rattle.std.specs.List.{list_any}
-use Rattle.cl_forms.specs.Heads.{native, is_reserved, is_one_of, define_words}
+use Rattle.cl_forms.specs.Names.{is_one_of}
+use Rattle.cl_forms.specs.Heads.{native, is_reserved, define_words}
 use Rattle.cl_types.specs.Types.{NoType}
 use Rattle.cl_rules.specs.Context.{Signature, Context, Names, same, is_named, bind}
 pub use Rattle.cl_contracts.specs.Known.{Shown, seen}

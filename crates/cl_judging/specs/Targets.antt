@@ -1,8 +1,8 @@
 -- Functions of other contracts.
-use Rattle.std.specs.Prelude.{ℕ, List, Option, Some, None, if◌then◌else◌, option_and_then}
-use Rattle.cl_types.specs.declared.sized.Access.TheVariants.{Public, ReadOnly, Private}
+use Rattle.std.specs.Prelude.{ℕ, List, Option, None, if◌then◌else◌, option_and_then}
 use Rattle.cl_c32.specs.declared.principal.Principal.{Principal}
 use Rattle.cl_sexpr.specs.Tree.{Tree, LeafAt}
+use Rattle.cl_forms.specs.Shapes.{open_to_others}
 use Rattle.cl_rules.specs.Context.{same_principal}
 use Rattle.cl_rules.specs.CallShapes.{contract_literal}
 use Rattle.cl_code.specs.declared.definition.Function.{Function}
@@ -20,7 +20,7 @@ another_under own entries p = if same_principal p own then None else contract_un
 
 -- a function that other contracts may call
 abbrev pub if_open : Function → Option Function
-if_open f = elim f.access [ Public ↦ Some f | ReadOnly ↦ Some f | Private ↦ None ]
+if_open f = open_to_others f.access f
 
 abbrev pub open_function : List ℕ → Contract → Option Function
 open_function x c = option_and_then if_open (function_under x c.checked)

@@ -1,16 +1,14 @@
 //! What names stand for.
 ghost use Rattle.std.specs.Prelude.{◌≡◌, map, is_some, IfOk, IfSome};
-ghost use Rattle.std.specs.Option.{option_map};
-ghost use Rattle.cl_forms.specs.Heads.{native, is_one_of, define_words};
-ghost use Rattle.cl_rules.specs.Context.{same, keyword, is_named};
-ghost use Rattle.cl_code.specs.OpNames.{keyword_name};
+ghost use Rattle.cl_forms.specs.Names.{is_one_of};
+ghost use Rattle.cl_forms.specs.Keywords.{keyword_name, keyword_of};
+ghost use Rattle.cl_forms.specs.Heads.{native, define_words};
+ghost use Rattle.cl_rules.specs.Context.{same, keyword_type, is_named};
 ghost use Rattle.cl_judging.specs.Seen.{no_value_in, top_level_in, taken_in};
-ghost use Rattle.cl_judging.specs.Keywords.{keyword_facts, keyword_type};
 
 use crate::context::{Context, Signature, function_under, is_in, map_under, type_under};
 use crate::natives::native;
-use cl_code::Keyword;
-use cl_forms::is_reserved;
+use cl_forms::{Keyword, is_reserved};
 use cl_types::{Name, NoMemory, SizedTy, TyKind};
 use cl_typing::{none_type, of};
 use indexmap::IndexMap;
@@ -31,7 +29,7 @@ pub(crate) fn is(name: &Name, word: &str) -> bool
 /// The keyword of a name.
 #[tactic(auto, using(cl_types::proofs::Lattice::keys_equal))]
 pub(crate) fn keyword_of(name: &Name) -> Option<Keyword>
-    ensures facts { option_map keyword_facts result ≡ keyword name.now }
+    ensures facts { result ≡ keyword_of name.now }
     ensures name { IfSome result (λ k. keyword_name k ≡ name.now) }
 {
     if is(name, "true") {
@@ -68,7 +66,7 @@ fn is_one_of(words: &[&str], name: &Name) -> bool
     ensures { result ≡ is_one_of (map (λ word. word.now) words.now) name.now }
 {
     for word in words {
-        if word.as_bytes() == name.bytes() {
+        if name.bytes() == word.as_bytes() {
             return true;
         }
     }

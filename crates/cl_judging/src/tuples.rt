@@ -1,7 +1,6 @@
 //! Tuples.
-ghost use Rattle.std.specs.Prelude.{◌≡◌, ◌<◌, [], false, filter_map, is_some, length, map, not, true, IfOk};
+ghost use Rattle.std.specs.Prelude.{◌≡◌, ◌<◌, false, filter_map, is_some, length, map, not, true, IfOk};
 ghost use Rattle.cl_code.specs.Nodes.{are_once};
-ghost use Rattle.cl_forms.specs.FormBreaks.{repeats};
 ghost use Rattle.cl_forms.specs.Shapes.{binding_of, bindings_of};
 ghost use Rattle.cl_judging.specs.LetWalk.{exprs_of};
 ghost use Rattle.cl_rules.specs.DataShapes.{keys_of, stands_twice, tuple_row};
@@ -74,7 +73,7 @@ pub(crate) fn bound_exprs<'a>(
 }
 
 fn repeats(alloc: Global, keys: &[Name]) -> Result<bool, AllocError>
-    ensures { IfOk result (λ b. b ≡ repeats [] keys.now) }
+    ensures { IfOk result (λ b. b ≡ stands_twice keys.now) }
 {
     let mut seen = IndexSet::new(alloc);
     for key in keys {
@@ -87,7 +86,6 @@ fn repeats(alloc: Global, keys: &[Name]) -> Result<bool, AllocError>
 }
 
 /// Whether a key stands twice.
-#[tactic(auto, using(crate::proofs::Twice::twice_is))]
 pub(crate) fn stand_twice(alloc: Global, keys: &[Name]) -> Result<bool, AllocError>
     ensures twice { IfOk result (λ b. b ≡ stands_twice keys.now) }
     ensures once { IfOk result (λ b. are_once keys.now ≡ not b) }

@@ -1,14 +1,16 @@
 -- Literals, keywords, bound names and constants.
-use Rattle.std.specs.Prelude.{ℕ, true, false, List, codes, if◌then◌else◌, Result, Ok, Err}
+use Rattle.std.specs.Prelude.{ℕ, true, false, List, Option, Some, None, Result, Ok, Err}
 use Rattle.std.specs.Option.{option_or}
-use Rattle.std.specs.Str.{bytes_eq}
 use Rattle.cl_shapes.specs.declared.name.CostName.{CostName}
-use Rattle.cl_shapes.specs.declared.name.CostName.TheVariants.{Literal, Lookup, Context}
+use Rattle.cl_shapes.specs.declared.name.CostName.TheVariants.{Literal, Lookup}
 use Rattle.cl_sexpr.specs.Tree.{Leaf, Named, Signed, Unsigned, Bytes, Ascii, Unicode, Standing, Local}
 use Rattle.cl_values.specs.Tree.{Tree as Val, IntV, UintV, BoolV, BuffV, AsciiV, Utf8V, PrincipalV, NoneV}
 use Rattle.cl_values.specs.declared.refusal.ValueRefusal.{ValueRefusal}
 use Rattle.cl_values.specs.Wire.{size_of}
 use Rattle.cl_values.specs.Valid.{made}
+use Rattle.cl_forms.specs.declared.keyword.Keyword.{Keyword}
+use Rattle.cl_forms.specs.declared.keyword.Keyword.TheVariants as keys
+use Rattle.cl_forms.specs.Keywords.{keyword_of, keyword_cost}
 use Rattle.cl_forms.specs.Shapes.{beside}
 use Rattle.cl_events.specs.State.{State}
 use Rattle.cl_meaning.specs.Answers.{Answer, give, wrong, charged, with_known}
@@ -24,16 +26,29 @@ abbrev pub literal : Result Val ValueRefusal → State → Answer Val
 literal (Ok v) s = standing Literal v s
 literal (Err refusal) s = wrong s
 
--- a keyword; or else a bound name; or else a constant of the contract
+-- what a keyword stands for
+abbrev pub keyword_value : Scope → Keyword → Val
+keyword_value S keys.True = BoolV true
+keyword_value S keys.False = BoolV false
+keyword_value S keys.None = NoneV
+keyword_value S keys.TxSender = PrincipalV S.frame.sender
+keyword_value S keys.ContractCaller = PrincipalV S.frame.caller
+keyword_value S keys.BlockHeight = UintV S.frame.height
+
+abbrev pub keyword_form : Scope → Keyword → State → Answer Val
+keyword_form S k s = standing (keyword_cost k) (keyword_value S k) s
+
+-- a bound name; or else a constant of the contract
+abbrev pub known_form : Scope → List ℕ → State → Answer Val
+known_form S x s = with_known (option_or (value_of x S.bound) (constant_of x (home S))) (standing Lookup) s
+
+abbrev pub keyword_or : Scope → Option Keyword → (State → Answer Val) → State → Answer Val
+keyword_or S (Some k) other s = keyword_form S k s
+keyword_or S None other s = other s
+
+-- a keyword; or else a bound name or a constant
 unfoldable pub name_form : Scope → List ℕ → State → Answer Val
-name_form S x s =
-    if bytes_eq x (codes "true") then standing Literal (BoolV true) s
-    else if bytes_eq x (codes "false") then standing Literal (BoolV false) s
-    else if bytes_eq x (codes "none") then standing Literal NoneV s
-    else if bytes_eq x (codes "tx-sender") then standing Context (PrincipalV S.frame.sender) s
-    else if bytes_eq x (codes "contract-caller") then standing Context (PrincipalV S.frame.caller) s
-    else if bytes_eq x (codes "block-height") then standing Context (UintV S.frame.height) s
-    else with_known (option_or (value_of x S.bound) (constant_of x (home S))) (standing Lookup) s
+name_form S x s = keyword_or S (keyword_of x) (known_form S x) s
 
 -- an expression of one token; a contract's name alone means the contract beside this one
 unfoldable pub leaf_form : Scope → Leaf → State → Answer Val

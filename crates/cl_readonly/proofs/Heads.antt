@@ -1,18 +1,16 @@
 -- Natives that write, that apply what is given by name, and that call other contracts.
-use Rattle.std.proofs.Common.{◌≡◌, ℕ, Bool, true, false, List, [], ◌∷◌, Option, Some, None, refl, sym, ap, ◌∙◌}
-use Rattle.std.specs.Prelude.{codes, is_some, ◌||◌, ◌&&◌, map, if◌then◌else◌}
-use Rattle.std.specs.Str.{bytes_eq}
-use Rattle.std.proofs.lemmas.Bool.{or_parts}
+use Rattle.std.proofs.Common.{◌≡◌, ℕ, Bool, true, false, List, [], ◌∷◌, Some, None, refl, sym, ap, ◌∙◌}
+use Rattle.std.specs.Prelude.{codes, is_some, ◌||◌, ◌&&◌}
 use Rattle.std.specs.List.{list_any, list_all}
 use Rattle.cl_types.proofs.Lattice.{keys_equal}
 use Rattle.cl_values.specs.declared.native.Native.TheVariants.{Add}
 use Rattle.cl_forms.specs.declared.head.TokenNative.TheVariants.{MintFt}
 use Rattle.cl_forms.specs.declared.head.Head.{Head}
 use Rattle.cl_forms.specs.declared.head.Head.TheVariants.{OnValues, OnToken, TupleOf, VarSet, MapSet, MapInsert, MapDelete, Map, Filter, Fold, ContractCall}
-use Rattle.cl_forms.specs.Heads.{Row, row_in, table, native, keywords, define_words, left_out, is_reserved, is_one_of as any_of}
+use Rattle.cl_forms.specs.Heads.{native}
 use Rattle.cl_forms.specs.HeadNames.{name_of, head_of_row}
-use Rattle.cl_forms.specs.Names.{same}
-use Rattle.cl_forms.specs.Writes.{writing_natives, applying_natives, is_one_of}
+use Rattle.cl_forms.specs.Names.{same, is_one_of}
+use Rattle.cl_forms.specs.Writes.{writing_natives, applying_natives}
 use Rattle.cl_forms.proofs.Found.{found_by_name}
 
 abbrev pub writes_head : Head → Bool
@@ -109,19 +107,3 @@ no_tuple x h = or_false (same x (codes "tuple")) (all_natives x (codes "tuple" �
     or_false : (b : Bool) → (b || false) ≡ false → b ≡ false
     or_false true h = h
     or_false false h = refl
-
-row_step : (b : Bool) (row : Row) (rest : Option Row) (c : Bool) → (b || c) ≡ false → (c ≡ false → rest ≡ None) → (if b then Some row else rest) ≡ None
-row_step true row rest c h k = absurd cc
-row_step false row rest c h k = k h
-
-no_row : (rows : List Row) (x : List ℕ) → any_of (map (λ row. row.name) rows) x ≡ false → row_in rows x ≡ None
-no_row [] x h = refl
-no_row (row ∷ rows) x h = row_step (bytes_eq row.name x) row (row_in rows x) (any_of (map (λ r. r.name) rows) x) h (no_row rows x)
-
-pub no_native : (x : List ℕ) → is_reserved x ≡ false → native x ≡ None
-unfolding is_reserved native
-no_native x h =
-    let three = or_parts (any_of (map (λ row. row.name) table) x || any_of keywords x || any_of define_words x) (any_of left_out x) h in
-    let two = or_parts (any_of (map (λ row. row.name) table) x || any_of keywords x) (any_of define_words x) three.0 in
-    let one = or_parts (any_of (map (λ row. row.name) table) x) (any_of keywords x) two.0 in
-    no_row table x one.0

@@ -9,9 +9,9 @@ use Rattle.cl_types.specs.Types.{PlainType}
 use Rattle.cl_types.specs.declared.sized.Access.{Access}
 use Rattle.cl_sexpr.specs.Tree.{Tree, Leaf}
 use Rattle.cl_forms.specs.Forms.{Form, FunctionForm}
-use Rattle.cl_forms.specs.Names.{same, name_at, Names as NamesAt}
+use Rattle.cl_forms.specs.Names.{same, name_at, Names as NamesAt, is_one_of}
 use Rattle.cl_forms.specs.Order.{is_in}
-use Rattle.cl_forms.specs.Writes.{is_one_of, Writes, has_writing_body}
+use Rattle.cl_forms.specs.Writes.{Writes, has_writing_body}
 use Rattle.cl_code.specs.Typed.{Typed, typeds, expression_of}
 use Rattle.cl_code.specs.Definitions.{form_defined, function_form}
 use Rattle.cl_code.specs.declared.definition.Function.{Function}

@@ -6,8 +6,8 @@ use Rattle.std.proofs.lemmas.List.Elements.{Contains-push, Contains-append_left,
 use Rattle.cl_types.proofs.Lattice.{keys_equal}
 use Rattle.cl_sexpr.specs.Tree.{Tree, LeafAt, Leaf, Named, Forest, Then}
 use Rattle.cl_forms.specs.Forms.{Form}
-use Rattle.cl_forms.specs.Names.{same}
-use Rattle.cl_forms.specs.Writes.{writing_natives, applying_natives, is_one_of, Call, calls_in, Writes, WritesIn, by_native, by_function, by_name, by_contract}
+use Rattle.cl_forms.specs.Names.{same, is_one_of}
+use Rattle.cl_forms.specs.Writes.{writing_natives, applying_natives, Call, calls_in, Writes, WritesIn, by_native, by_function, by_name, by_contract}
 use Rattle.cl_readonly.specs.Writing.{gives_one, crosses, call_writes}
 use Rattle.cl_readonly.proofs.Tests.{either_is, both_are}
 

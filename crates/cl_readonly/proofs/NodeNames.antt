@@ -12,9 +12,9 @@ use Rattle.cl_forms.specs.declared.head.Head.{Head}
 use Rattle.cl_forms.specs.declared.head.Head.TheVariants as heads
 use Rattle.cl_forms.specs.Heads.{Row, native, is_reserved}
 use Rattle.cl_forms.specs.HeadNames.{name_of}
-use Rattle.cl_forms.specs.Names.{same, Place, Plain, AtPairs, place_behind, next_place, is_one, first_at, atoms_in, atoms_of, atoms_of_pairs}
+use Rattle.cl_forms.specs.Names.{same, Place, Plain, AtPairs, place_behind, next_place, is_one, first_at, atoms_in, atoms_of, atoms_of_pairs, is_one_of}
 use Rattle.cl_forms.specs.Shapes.{trees_of}
-use Rattle.cl_forms.specs.Writes.{applying_natives, is_one_of, Call, calls_in, calls_behind, calls_of_pairs}
+use Rattle.cl_forms.specs.Writes.{applying_natives, Call, calls_in, calls_behind, calls_of_pairs}
 use Rattle.cl_rules.specs.Faults.{shape_rules}
 use Rattle.cl_rules.specs.Context.{Context, Names, Signature, bind, is_taken, is_top_level, is_named, signature_in}
 use Rattle.cl_rules.specs.ControlShapes.{is_shadowed, bound_name}
@@ -34,7 +34,8 @@ use Rattle.cl_code.specs.Nodes.{has_own_name}
 use Rattle.cl_code.specs.Typed.{Typed, expression_of}
 use Rattle.cl_readonly.specs.Naming.{gives_it, calls_it, IsNamed, AllNameUnknown}
 use Rattle.cl_readonly.proofs.Tests.{either_is, both_are, differ}
-use Rattle.cl_readonly.proofs.Heads.{applies_head, is_tuple, applies_name, tuple_name, is_native, no_applying, no_tuple, no_native}
+use Rattle.cl_forms.proofs.FreeNames.{no_native}
+use Rattle.cl_readonly.proofs.Heads.{applies_head, is_tuple, applies_name, tuple_name, is_native, no_applying, no_tuple}
 use Rattle.cl_readonly.proofs.WritesOfParts.{not_true, is_none, let_free, parts_plain, name_plain, iteration_plain}
 
 either : (a b c d : Bool) → (a || b) ≡ true → (a ≡ true → c ≡ true) → (b ≡ true → d ≡ true) → (c || d) ≡ true

@@ -11,10 +11,10 @@ use Rattle.cl_types.proofs.Lattice.{keys_equal, key_same}
 use Rattle.cl_sexpr.specs.Tree.{Tree, LeafAt, Leaf, Named, Then}
 use Rattle.cl_forms.specs.Forms.{Form, FormKind, FunctionForm}
 use Rattle.cl_forms.specs.Heads.{native}
-use Rattle.cl_forms.specs.Names.{same, Plain, atoms_in, atoms_of_form, atoms_of_expression, is_among, name_at, Names}
+use Rattle.cl_forms.specs.Names.{same, Plain, atoms_in, atoms_of_form, atoms_of_expression, is_among, name_at, Names, is_one_of}
 use Rattle.cl_forms.specs.Forms.{expression_of}
 use Rattle.cl_forms.specs.Order.{is_in}
-use Rattle.cl_forms.specs.Writes.{writing_natives, applying_natives, is_one_of, Call, calls_in, Writes, WritesIn, has_writing_body, by_native, by_function, by_name, by_contract}
+use Rattle.cl_forms.specs.Writes.{writing_natives, applying_natives, Call, calls_in, Writes, WritesIn, has_writing_body, by_native, by_function, by_name, by_contract}
 use Rattle.cl_rules.specs.Context.{Context, Signature, signature_in}
 use Rattle.cl_readonly.specs.Writing.{gives_one, call_writes, has_write}
 use Rattle.cl_readonly.specs.Naming.{calls_it, NamesUnknown}

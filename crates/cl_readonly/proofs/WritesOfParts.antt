@@ -14,7 +14,8 @@ use Rattle.cl_forms.specs.declared.head.Head.TheVariants as heads
 use Rattle.cl_forms.specs.Heads.{native, is_reserved}
 use Rattle.cl_forms.specs.HeadNames.{name_of}
 use Rattle.cl_forms.specs.Shapes.{trees_of}
-use Rattle.cl_forms.specs.Writes.{writing_natives, is_one_of, Call, calls_in, calls_of_list, calls_behind, calls_of_pairs}
+use Rattle.cl_forms.specs.Names.{is_one_of}
+use Rattle.cl_forms.specs.Writes.{writing_natives, Call, calls_in, calls_of_list, calls_behind, calls_of_pairs}
 use Rattle.cl_rules.specs.Faults.{when, ShapeFaults, shape_rules}
 use Rattle.cl_rules.specs.Context.{Context, Names, bind, is_taken, is_top_level, is_named, signature_in}
 use Rattle.cl_rules.specs.ControlShapes.{is_shadowed, bound_name}
@@ -36,7 +37,8 @@ use Rattle.cl_code.specs.OpNames.{parts_head, name_head, iteration_head}
 use Rattle.cl_code.specs.Expression.{expression, headed, word, target, applied_name, bound_items, keyed, behind_first}
 use Rattle.cl_code.specs.Nodes.{has_own_name, has_parts}
 use Rattle.cl_readonly.specs.Writing.{gives_one, crosses, call_writes, has_write, applied_writes, target_leaf, node_writes, AreFunctions}
-use Rattle.cl_readonly.proofs.Heads.{writes_head, applies_head, crosses_head, is_tuple, writes_name, applies_name, crosses_name, tuple_name, is_native, no_writing, no_applying, no_crossing, no_tuple, no_native}
+use Rattle.cl_forms.proofs.FreeNames.{no_native}
+use Rattle.cl_readonly.proofs.Heads.{writes_head, applies_head, crosses_head, is_tuple, writes_name, applies_name, crosses_name, tuple_name, is_native, no_writing, no_applying, no_crossing, no_tuple}
 
 -- ---- truth values
 

@@ -11,7 +11,7 @@ use Rattle.cl_c32.specs.declared.principal.Principal.{Principal}
 use Rattle.cl_sexpr.specs.declared.sexpr.Span.{Span}
 use Rattle.cl_forms.specs.Forms.{Form, FunctionForm}
 use Rattle.cl_forms.specs.Order.{is_in}
-use Rattle.cl_forms.specs.Writes.{is_one_of}
+use Rattle.cl_forms.specs.Names.{is_one_of}
 use Rattle.cl_code.specs.Typed.{expression_of}
 use Rattle.cl_code.specs.Definitions.{form_defined}
 use Rattle.cl_code.specs.declared.definition.Definition.{Definition}

@@ -6,8 +6,8 @@ use Rattle.cl_sexpr.specs.declared.sexpr.Span.{Span}
 use Rattle.cl_sexpr.specs.Tree.{Leaf}
 use Rattle.cl_forms.specs.Forms.{Form, FormKind, FunctionForm}
 use Rattle.cl_forms.specs.Heads.{native}
-use Rattle.cl_forms.specs.Names.{same, name_at}
-use Rattle.cl_forms.specs.Writes.{is_one_of, Writes}
+use Rattle.cl_forms.specs.Names.{same, name_at, is_one_of}
+use Rattle.cl_forms.specs.Writes.{Writes}
 use Rattle.cl_rules.specs.Context.{Context}
 use Rattle.cl_readonly.specs.Naming.{NamesUnknown}
 use Rattle.cl_readonly.specs.Writing.{has_write}

@@ -3,8 +3,8 @@ use Rattle.std.specs.Prelude.{◌≡◌, ℕ, Bool, true, false, ◌||◌, ◌&&
 use Rattle.std.specs.List.{list_any}
 use Rattle.cl_sexpr.specs.Tree.{Tree, LeafAt, Named, Forest, Then}
 use Rattle.cl_forms.specs.Heads.{native}
-use Rattle.cl_forms.specs.Names.{same, Place, atoms_in}
-use Rattle.cl_forms.specs.Writes.{applying_natives, is_one_of, Call, calls_in}
+use Rattle.cl_forms.specs.Names.{same, Place, atoms_in, is_one_of}
+use Rattle.cl_forms.specs.Writes.{applying_natives, Call, calls_in}
 use Rattle.cl_rules.specs.Context.{Context, signature_in}
 use Rattle.cl_code.specs.Typed.{Typed, expression_of}
 

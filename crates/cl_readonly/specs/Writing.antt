@@ -4,8 +4,8 @@ use Rattle.std.specs.List.{list_any}
 use Rattle.cl_sexpr.specs.Tree.{Tree, LeafAt, Leaf, Named, Standing, Local, Forest, Then}
 use Rattle.cl_forms.specs.Heads.{native}
 use Rattle.cl_forms.specs.HeadNames.{name_of}
-use Rattle.cl_forms.specs.Names.{same}
-use Rattle.cl_forms.specs.Writes.{writing_natives, applying_natives, is_one_of, Call, calls_in}
+use Rattle.cl_forms.specs.Names.{same, is_one_of}
+use Rattle.cl_forms.specs.Writes.{writing_natives, applying_natives, Call, calls_in}
 use Rattle.cl_rules.specs.Context.{Context, signature_in}
 use Rattle.cl_code.specs.declared.op.Applied.{Applied}
 use Rattle.cl_code.specs.declared.op.Applied.TheVariants.{Function}

@@ -1,7 +1,8 @@
 //! What a node calls by itself.
 ghost use Rattle.std.specs.Prelude.{◌≡◌, List};
 ghost use Rattle.cl_forms.specs.HeadNames.{name_of};
-ghost use Rattle.cl_forms.specs.Writes.{is_one_of, writing_natives};
+ghost use Rattle.cl_forms.specs.Names.{is_one_of};
+ghost use Rattle.cl_forms.specs.Writes.{writing_natives};
 ghost use Rattle.cl_code.specs.OpNames.{name_head, parts_head};
 ghost use Rattle.cl_rules.specs.Acceptance.{calls_public, is_public_in};
 ghost use Rattle.cl_rules.specs.CallShapes.{contract_literal};

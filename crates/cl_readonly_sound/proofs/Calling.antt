@@ -11,9 +11,9 @@ use Rattle.cl_forms.specs.declared.head.Head.{Head}
 use Rattle.cl_forms.specs.declared.head.Head.TheVariants.{OnValues, OnToken, TupleOf, ContractCall}
 use Rattle.cl_forms.specs.Heads.{row_of, native, is_reserved}
 use Rattle.cl_forms.specs.HeadNames.{name_of}
-use Rattle.cl_forms.specs.Names.{same}
+use Rattle.cl_forms.specs.Names.{same, is_one_of}
 use Rattle.cl_forms.specs.Shapes.{trees_of, binding_of, bindings_of, and_binding}
-use Rattle.cl_forms.specs.Writes.{writing_natives, applying_natives, is_one_of, Call, calls_in, calls_of_list, calls_behind}
+use Rattle.cl_forms.specs.Writes.{writing_natives, applying_natives, Call, calls_in, calls_of_list, calls_behind}
 use Rattle.cl_meaning.specs.Deployed.{Deployed, Function, contract_at, function_of}
 use Rattle.cl_rules.specs.Faults.{shape_rules}
 use Rattle.cl_rules.specs.Context.{Context, Names, bind, is_taken, is_top_level, is_named}

@@ -11,7 +11,8 @@ use Rattle.cl_forms.specs.declared.head.Head.TheVariants.{ContractCall}
 use Rattle.cl_forms.specs.Heads.{row_of}
 use Rattle.cl_forms.specs.Forms.{Form, FunctionForm}
 use Rattle.cl_forms.specs.Shapes.{trees_of, beside}
-use Rattle.cl_forms.specs.Writes.{writing_natives, applying_natives, is_one_of, Call, calls_in, Writes, WritesIn, has_writing_body, by_native, by_function, by_name, by_contract}
+use Rattle.cl_forms.specs.Names.{is_one_of}
+use Rattle.cl_forms.specs.Writes.{writing_natives, applying_natives, Call, calls_in, Writes, WritesIn, has_writing_body, by_native, by_function, by_name, by_contract}
 use Rattle.cl_events.specs.State.{is_principal}
 use Rattle.cl_meaning.specs.Deployed.{Contract, Deployed, Function, contract_at, function_in, function_of}
 use Rattle.cl_meaning.specs.Scope.{Frame, Bound}

@@ -1,7 +1,6 @@
 -- An expression that is quiet leaves the state untouched, at each depth.
 use Rattle.std.proofs.Common.{◌≡◌, ℕ, zero, suc, List, [], ◌∷◌, ◌++◌, true, false, map, Option, Some, None, refl, sym, subst}
-use Rattle.std.specs.Prelude.{option_and_then, if◌then◌else◌, codes, Bool, Result, Ok, Err}
-use Rattle.std.specs.Str.{bytes_eq}
+use Rattle.std.specs.Prelude.{option_and_then, if◌then◌else◌, Bool, Result, Ok, Err}
 use Rattle.std.specs.Option.{option_or}
 use Rattle.cl_types.specs.Types.{PlainType}
 use Rattle.cl_types.specs.declared.sized.Access.{Access}
@@ -22,10 +21,12 @@ use Rattle.cl_forms.specs.Shapes.{trees_of, binding_of, bindings_of, and_binding
 use Rattle.cl_tokens.specs.Ledger.{Ledger}
 use Rattle.cl_maps.specs.Maps.{get}
 use Rattle.cl_events.specs.State.{State}
+use Rattle.cl_forms.specs.declared.keyword.Keyword.{Keyword}
+use Rattle.cl_forms.specs.Keywords.{keyword_of}
 use Rattle.cl_meaning.specs.Answers.{Outcome, Given, Thrown, Aborted, Wrong, Deeper, Answer, Note, stop, and_then, then_on}
 use Rattle.cl_meaning.specs.Deployed.{Deployed, Function, contract_at, function_in, function_of, value_of, constant_of}
-use Rattle.cl_meaning.specs.Scope.{Frame, Bound, Callee, OwnFunction, ByName, Take, Enter, parts, taken_with, called, as_contract}
-use Rattle.cl_meaning.specs.Names.{standing, literal, name_form, leaf_form}
+use Rattle.cl_meaning.specs.Scope.{Scope, Frame, Bound, Callee, OwnFunction, ByName, Take, Enter, parts, taken_with, called, as_contract}
+use Rattle.cl_meaning.specs.Names.{standing, literal, keyword_or, known_form, name_form, leaf_form}
 use Rattle.cl_meaning.specs.Control.{if_form, begin_form, last_of, let_in, let_form, and_on, or_on, and_form, or_form, throwing, asserts_form, wanted_part, err_part, tried, unwrap_form, unwrap_err_form, try_form, match_optional, match_response, match_form, as_contract_form}
 use Rattle.cl_meaning.specs.Values.{on_values, strict_form, tuple_form, get_form, as_max_len_form}
 use Rattle.cl_meaning.specs.Data.{here, var_get_form, map_get_form, only_if}
@@ -375,17 +376,13 @@ module _ (W : Deployed) (Q : Principal → Function → Type 0) where
 
     -- ---- nodes
 
+    leaves_keyword : (S : Scope) (o : Option Keyword) (other : State → Answer Val) (s : State) → Leaves s (other s) → Leaves s (keyword_or S o other s)
+    leaves_keyword S (Some k) other s h = leaves_standing _ _ s
+    leaves_keyword S None other s h = h
+
     leaves_name : (F : Frame) (E : Bound) (x : List ℕ) (s : State) → Leaves s (name_form (scope W F E) x s)
     unfolding name_form
-    leaves_name F E x s =
-        leaves_if_else (bytes_eq x (codes "true")) (leaves_standing _ _ s) (leaves_if_else (bytes_eq x (codes "false")) (leaves_standing _ _ s)
-        (leaves_if_else (bytes_eq x (codes "none")) (leaves_standing _ _ s) (leaves_if_else (bytes_eq x (codes "tx-sender")) (leaves_standing _ _ s)
-        (leaves_if_else (bytes_eq x (codes "contract-caller")) (leaves_standing _ _ s) (leaves_if_else (bytes_eq x (codes "block-height")) (leaves_standing _ _ s)
-        (leaves_known (option_or (value_of x E) (constant_of x (contract_at F.contract W))) (λ v u is. leaves_standing Lookup v u) s))))))
-      where
-        leaves_if_else : (b : Bool) {a c : Answer Val} → Leaves s a → Leaves s c → Leaves s (if b then a else c)
-        leaves_if_else true h k = h
-        leaves_if_else false h k = k
+    leaves_name F E x s = leaves_keyword (scope W F E) (keyword_of x) (known_form (scope W F E) x) s (leaves_known (option_or (value_of x E) (constant_of x (contract_at F.contract W))) (λ v u is. leaves_standing Lookup v u) s)
 
     leaves_leaf : (F : Frame) (E : Bound) (leaf : Leaf) (s : State) → Leaves s (leaf_form (scope W F E) leaf s)
     unfolding leaf_form

@@ -8,7 +8,8 @@ use Rattle.cl_sexpr.specs.declared.rule.Break.{Break}
 use Rattle.cl_sexpr.specs.Rules.{number_of}
 use Rattle.cl_sexpr.specs.Tree.{Tree, LeafAt, ListAt, TupleAt, Leaf, Named, Signed, Unsigned, Bytes, Ascii, Unicode, Standing, Local, Forest, Empty, Then, Pairs, NoPair, Pair, span_of}
 use Rattle.cl_sexpr.specs.Placed.{IsPlaced, ArePlaced, ArePairsPlaced}
-use Rattle.cl_forms.specs.Heads.{is_one_of, is_reserved, left_out}
+use Rattle.cl_forms.specs.Names.{is_one_of}
+use Rattle.cl_forms.specs.Heads.{is_reserved, left_out}
 use Rattle.cl_forms.specs.Items.{Item, Expression, Misshapen, Definition, item_of, kind_of}
 use Rattle.cl_forms.specs.FormBreaks.{params_of, uses_name, left_out_leaf, left_out_in, left_out_of, left_out_of_pairs, when, rules_of, broken_at, breaks_of, IsAmong, GoesBefore, IsFirstBreak}
 use Rattle.cl_rules.proofs.Placing.{tree_room, forest_room, pairs_room}

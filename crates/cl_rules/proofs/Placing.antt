@@ -1,16 +1,17 @@
 -- The parts of a plan stand in the expression, one after another.
 use Rattle.std.proofs.Common.{ℕ, zero, suc, ◌≤◌, ◌<◌, List, [], ◌∷◌, map, drop, take, Option, Some, None, arith}
 use Rattle.std.specs.List.{cons_option, filter_map}
-use Rattle.cl_shapes.specs.declared.name.CostName.{CostName}
 use Rattle.cl_types.specs.Types.{PlainType, OptionalType, ResponseType}
 use Rattle.cl_sexpr.specs.Tree.{Tree, LeafAt, ListAt, TupleAt, Forest, Empty, Then, Pairs, NoPair, Pair, Leaf, Named, Signed, Unsigned, Bytes, Ascii, Unicode, Standing, Local, span_of}
+use Rattle.cl_forms.specs.declared.keyword.Keyword.{Keyword}
+use Rattle.cl_forms.specs.Keywords.{keyword_of}
 use Rattle.cl_forms.specs.Heads.{Row, native}
 use Rattle.cl_forms.specs.declared.head.Head.{Head}
 use Rattle.cl_forms.specs.declared.head.Head.TheVariants.{OnValues, OnToken, TupleOf, AsMaxLen, Get, VarGet, VarSet, MapGet, MapSet, MapInsert, MapDelete, FtBalance, FtSupply, StxBalance, NftOwner, Print, If, Let, Begin, And, Or, Asserts, Unwrap, UnwrapErr, Try, Match, AsContract, Map, Filter, Fold, ContractCall}
 use Rattle.cl_forms.specs.declared.head.TokenNative.{TokenNative}
 use Rattle.cl_forms.specs.declared.head.TokenNative.TheVariants.{MintFt, BurnFt, SendFt, MintNft, BurnNft, SendNft, SendStx, BurnStx}
 use Rattle.cl_forms.specs.Shapes.{trees_of, pairs_of, binding_of}
-use Rattle.cl_rules.specs.Context.{Context, Names, Signature, bind, keyword, named_in, is_no_value, signature_in}
+use Rattle.cl_rules.specs.Context.{Context, Names, Signature, bind, named_in, is_no_value, signature_in}
 use Rattle.cl_rules.specs.Verdicts.{Found}
 use Rattle.cl_rules.specs.Shapes.{Plan, Ends, Part, Gives, Shape, parts}
 use Rattle.cl_rules.specs.ControlShapes.{keyword_or, value_or, no_value_shape, leaf_shape, let_plan, let_shape, optional_plan, response_plan, match_plan}
@@ -196,12 +197,12 @@ value_placed : (o : Option PlainType) (s : Shape) (low high : ℕ) → PlanPlace
 value_placed (Some t) s low high p = tt
 value_placed None s low high p = p
 
-keyword_placed : (o : Option (CostName × PlainType)) (s : Shape) (low high : ℕ) → PlanPlaced low high s.plan → PlanPlaced low high (keyword_or o s).plan
+keyword_placed : (o : Option Keyword) (s : Shape) (low high : ℕ) → PlanPlaced low high s.plan → PlanPlaced low high (keyword_or o s).plan
 keyword_placed (Some k) s low high p = tt
 keyword_placed None s low high p = p
 
 leaf_placed : (G : Context) (B : Names) (l : Leaf) (low high : ℕ) → PlanPlaced low high (leaf_shape G B l).plan
-leaf_placed G B (Named x) low high = keyword_placed (keyword x) _ low high (value_placed (named_in x B) _ low high (value_placed (named_in x G.constants) (no_value_shape (is_no_value G x)) low high tt))
+leaf_placed G B (Named x) low high = keyword_placed (keyword_of x) _ low high (value_placed (named_in x B) _ low high (value_placed (named_in x G.constants) (no_value_shape (is_no_value G x)) low high tt))
 leaf_placed G B (Signed z) low high = tt
 leaf_placed G B (Unsigned n) low high = tt
 leaf_placed G B (Bytes bs) low high = tt

@@ -1,6 +1,6 @@
 -- What stands around an expression: the forms before it in the order of evaluation, the deployed contracts, and the names
 -- that are bound.
-use Rattle.std.specs.Prelude.{ℕ, ◌||◌, Bool, true, false, List, [], ◌∷◌, ◌++◌, codes, if◌then◌else◌, Option, Some, None, is_some}
+use Rattle.std.specs.Prelude.{ℕ, ◌||◌, Bool, List, [], ◌∷◌, ◌++◌, if◌then◌else◌, Option, Some, None, is_some}
 use Rattle.std.specs.List.{list_any}
 use Rattle.cl_types.specs.Types.{PlainType, NoType, BoolType, UintType, PrincipalType, OptionalType}
 use Rattle.cl_types.specs.declared.sized.Access.{Access}
@@ -11,10 +11,12 @@ use Rattle.cl_shapes.specs.Costs.{plus, zero_cost}
 pub use Rattle.cl_shapes.specs.Names.{CostTable}
 use Rattle.cl_shapes.specs.Functions.{cost_at}
 use Rattle.cl_shapes.specs.declared.name.CostName.{CostName}
-use Rattle.cl_shapes.specs.declared.name.CostName.TheVariants.{Literal, Context as ContextCost}
+use Rattle.cl_forms.specs.declared.keyword.Keyword.{Keyword}
+use Rattle.cl_forms.specs.declared.keyword.Keyword.TheVariants as keys
+use Rattle.cl_forms.specs.Names.{is_one_of}
 pub use Rattle.cl_forms.specs.Names.{same, named_in}
 use Rattle.cl_forms.specs.Shapes.{open_to_others}
-use Rattle.cl_forms.specs.Heads.{native, is_reserved, is_one_of, define_words}
+use Rattle.cl_forms.specs.Heads.{native, is_reserved, define_words}
 
 -- ---- costs
 
@@ -101,14 +103,13 @@ bind x t B = B ++ (x, t) ∷ []
 
 -- ---- keywords
 
--- the type of a keyword, and what it is charged as
-abbrev pub keyword : List ℕ → Option (CostName × PlainType)
-keyword x =
-    if same x (codes "true") || same x (codes "false") then Some (Literal, BoolType)
-    else (if same x (codes "none") then Some (Literal, OptionalType NoType)
-    else (if same x (codes "tx-sender") || same x (codes "contract-caller") then Some (ContextCost, PrincipalType)
-    else (if same x (codes "block-height") then Some (ContextCost, UintType)
-    else None)))
+abbrev pub keyword_type : Keyword → PlainType
+keyword_type keys.True = BoolType
+keyword_type keys.False = BoolType
+keyword_type keys.None = OptionalType NoType
+keyword_type keys.TxSender = PrincipalType
+keyword_type keys.ContractCaller = PrincipalType
+keyword_type keys.BlockHeight = UintType
 
 -- ---- functions of other contracts
 

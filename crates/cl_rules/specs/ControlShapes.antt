@@ -3,23 +3,24 @@ use Rattle.std.specs.Prelude.{ℕ, suc, ◌||◌, not, nat_eq, Bool, true, false
 use Rattle.std.specs.List.{list_all}
 use Rattle.cl_types.specs.Types.{PlainType, NoType, IntType, UintType, BoolType, PrincipalType, BuffType, AsciiType, Utf8Type, OptionalType, ResponseType, size_of}
 use Rattle.cl_shapes.specs.Costs.{greater, zero_cost, plus}
-use Rattle.cl_shapes.specs.declared.name.CostName.{CostName}
 use Rattle.cl_shapes.specs.declared.name.CostName.TheVariants.{Literal, Lookup, Bind}
 use Rattle.cl_sexpr.specs.Tree.{Tree, LeafAt, ListAt, Leaf, Named, Signed, Unsigned, Bytes, Ascii, Unicode, Standing, Local}
+use Rattle.cl_forms.specs.declared.keyword.Keyword.{Keyword}
+use Rattle.cl_forms.specs.Keywords.{keyword_of, keyword_cost}
 use Rattle.cl_forms.specs.Heads.{Row}
 pub use Rattle.cl_forms.specs.Items.{atom_of}
 use Rattle.cl_forms.specs.Shapes.{trees_of, binding_of, bindings_of}
 use Rattle.cl_rules.specs.Faults.{sound_shape, sound_types}
 use Rattle.cl_types.specs.TypeKinds.{is_bool, is_response, is_undetermined}
 use Rattle.cl_rules.specs.NativeTypes.{Ruled, fine, of_kind, if_kind, wrong_kind, made, lubbed, part_row, err_row}
-use Rattle.cl_rules.specs.Context.{Context, Names, Bound, charge, both, named_in, is_taken, is_no_value, bind, keyword}
+use Rattle.cl_rules.specs.Context.{Context, Names, Bound, charge, both, named_in, is_taken, is_no_value, bind, keyword_type}
 use Rattle.cl_rules.specs.Verdicts.{Found, Verdict, types_of, concluded, summed}
 use Rattle.cl_rules.specs.Shapes.{Plan, Ends, Part, Gives, Shape, parts, no_verdict, unlooked, value_shape, is_miscounted}
 
 -- ---- literals and names
 
-abbrev pub keyword_or : Option (CostName × PlainType) → Shape → Shape
-keyword_or (Some k) other = value_shape k.0 (fine k.1)
+abbrev pub keyword_or : Option Keyword → Shape → Shape
+keyword_or (Some k) other = value_shape (keyword_cost k) (fine (keyword_type k))
 keyword_or None other = other
 
 abbrev pub value_or : Option PlainType → Shape → Shape
@@ -32,7 +33,7 @@ no_value_shape known = unlooked (record sound_shape { unknown_name = not known; 
 
 -- a keyword, a name that is bound, or a constant
 abbrev pub name_shape : Context → Names → List ℕ → Shape
-name_shape G B x = keyword_or (keyword x) (value_or (named_in x B) (value_or (named_in x G.constants) (no_value_shape (is_no_value G x))))
+name_shape G B x = keyword_or (keyword_of x) (value_or (named_in x B) (value_or (named_in x G.constants) (no_value_shape (is_no_value G x))))
 
 -- a literal has its value's least type
 abbrev pub leaf_shape : Context → Names → Leaf → Shape
@@ -163,7 +164,7 @@ abbrev pub bound_branch : PlainType → Found → Bound
 bound_branch t f = both (charge Bind (size_of t)) f.bound
 
 abbrev pub if_determined : Bool → Ruled → Ruled
-if_determined holds ruled = record ruled { faults = record (ruled.faults) { undetermined = not holds } }
+if_determined holds ruled = record ruled { faults = record (ruled.faults) { undetermined = ruled.faults.undetermined || not holds } }
 
 -- the branches' least supertype; what is bound has to be determined; the greater branch counts
 abbrev pub matched : Bool → Bound → Found → Found → Found → Bound → Bound → Verdict

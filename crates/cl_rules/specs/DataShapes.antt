@@ -1,10 +1,11 @@
 -- Shapes of tuples, of lengths that are literals, of variables, maps and tokens.
-use Rattle.std.specs.Prelude.{ℕ, ◌+◌, ◌||◌, not, Bool, true, false, List, [], ◌∷◌, map, take, length, filter_map, Option, Some, None, is_some}
+use Rattle.std.specs.Prelude.{ℕ, ◌+◌, not, Bool, true, false, List, [], ◌∷◌, map, take, length, filter_map, Option, Some, None, is_some}
 use Rattle.std.specs.List.{list_any}
 use Rattle.cl_types.specs.Types.{PlainType, UintType, BoolType, TupleType, OptionalType, ResponseType, Fields, NoField, size_of}
 use Rattle.cl_types.specs.Sized.{placed}
 use Rattle.cl_shapes.specs.declared.name.CostName.TheVariants.{Make}
 use Rattle.cl_sexpr.specs.Tree.{Tree, LeafAt, Unsigned}
+pub use Rattle.cl_forms.specs.Names.{stands_twice}
 use Rattle.cl_forms.specs.Heads.{Row}
 use Rattle.cl_forms.specs.declared.head.TokenNative.{TokenNative}
 use Rattle.cl_forms.specs.declared.head.TokenNative.TheVariants.{MintFt, BurnFt, SendFt, MintNft, BurnNft, SendNft, SendStx, BurnStx}
@@ -19,10 +20,6 @@ use Rattle.cl_rules.specs.Shapes.{Shape, parts, no_verdict, is_miscounted, evalu
 
 abbrev pub keys_of : List (List ℕ × Tree) → List (List ℕ)
 keys_of = map (λ (p : List ℕ × Tree). p.0)
-
-abbrev pub stands_twice : List (List ℕ) → Bool
-stands_twice [] = false
-stands_twice (k ∷ ks) = list_any (same k) ks || stands_twice ks
 
 -- these keys with these types, in rising order
 abbrev pub fields_by : List (List ℕ) → List PlainType → Fields

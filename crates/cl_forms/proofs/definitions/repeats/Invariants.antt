@@ -1,5 +1,5 @@
 use Rattle.std.proofs.Common.{◌≡◌, [], map, drop}
-use Rattle.cl_forms.specs.FormBreaks.{repeats}
+use Rattle.cl_forms.proofs.Twice.{repeats}
 use Rattle.cl_forms.proofs.definitions.repeats.Given as goal
 
 abbrev pub invariant-loop-param : goal.invariant-loop-param

@@ -1,5 +1,5 @@
 use Rattle.std.proofs.Common.{◌≡◌, map, drop}
-use Rattle.cl_forms.specs.Heads.{is_one_of}
+use Rattle.cl_forms.specs.Names.{is_one_of}
 use Rattle.cl_forms.proofs.names.is_one_of.Given as goal
 
 abbrev pub invariant-loop-word : goal.invariant-loop-word

@@ -1,5 +1,5 @@
 use Rattle.std.proofs.Common.{◌≡◌, [], drop}
-use Rattle.cl_forms.specs.FormBreaks.{repeats}
+use Rattle.cl_forms.proofs.Twice.{repeats}
 use Rattle.cl_judging.proofs.tuples.repeats.Given as goal
 
 abbrev pub invariant-loop-key : goal.invariant-loop-key

@@ -1,17 +1,21 @@
 -- A name that isn't reserved is no native's.
 use Rattle.std.proofs.Common.{◌≡◌, ℕ, Bool, true, false, List, [], ◌∷◌, Option, Some, None, refl}
 use Rattle.std.specs.Prelude.{◌||◌, map, if◌then◌else◌}
-use Rattle.std.specs.Str.{bytes_eq}
 use Rattle.std.proofs.lemmas.Bool.{or_parts}
-use Rattle.cl_forms.specs.Heads.{Row, row_in, table, native, keywords, define_words, left_out, is_one_of, is_reserved}
+use Rattle.cl_forms.specs.Names.{same, is_one_of}
+use Rattle.cl_forms.specs.Keywords.{keywords}
+use Rattle.cl_forms.specs.Heads.{Row, row_in, table, native, define_words, left_out, is_reserved}
+use Rattle.cl_forms.proofs.SameNames.{same_turned}
 
-row_step : (b : Bool) (row : Row) (rest : Option Row) (c : Bool) → (b || c) ≡ false → (c ≡ false → rest ≡ None) → (if b then Some row else rest) ≡ None
-row_step true row rest c h k = absurd cc
-row_step false row rest c h k = k h
+row_step : (b d : Bool) (row : Row) (rest : Option Row) (c : Bool) → b ≡ d → (d || c) ≡ false → (c ≡ false → rest ≡ None) → (if b then Some row else rest) ≡ None
+row_step true true row rest c is h k = absurd cc
+row_step true false row rest c is h k = absurd cc
+row_step false true row rest c is h k = absurd cc
+row_step false false row rest c is h k = k h
 
 no_row : (rows : List Row) (x : List ℕ) → is_one_of (map (λ row. row.name) rows) x ≡ false → row_in rows x ≡ None
 no_row [] x h = refl
-no_row (row ∷ rows) x h = row_step (bytes_eq row.name x) row (row_in rows x) (is_one_of (map (λ r. r.name) rows) x) h (no_row rows x)
+no_row (row ∷ rows) x h = row_step (same row.name x) (same x row.name) row (row_in rows x) (is_one_of (map (λ r. r.name) rows) x) (same_turned row.name x) h (no_row rows x)
 
 pub no_native : (x : List ℕ) → is_reserved x ≡ false → native x ≡ None
 unfolding is_reserved native

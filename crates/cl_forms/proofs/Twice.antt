@@ -1,11 +1,14 @@
--- Keys that stand twice.
+-- Names that stand twice, where the names seen before are kept.
 use Rattle.std.proofs.Common.{◌≡◌, ℕ, Bool, true, false, List, [], ◌∷◌, ◌++◌, refl, ap, sym, ◌∙◌}
 use Rattle.std.specs.Prelude.{◌||◌, if◌then◌else◌}
 use Rattle.std.specs.List.{list_any}
-use Rattle.cl_forms.specs.Names.{same}
-use Rattle.cl_forms.specs.FormBreaks.{repeats}
-use Rattle.cl_rules.specs.DataShapes.{stands_twice}
-use Rattle.cl_judging.proofs.Lookups.{same_turned}
+use Rattle.cl_forms.specs.Names.{same, stands_twice}
+use Rattle.cl_forms.proofs.SameNames.{same_turned}
+
+-- whether a name equals one before it, or one of the names that are seen already
+abbrev pub repeats : List (List ℕ) → List (List ℕ) → Bool
+repeats seen [] = false
+repeats seen (x ∷ xs) = if list_any (same x) seen then true else repeats (seen ++ x ∷ []) xs
 
 or_assoc : (a b c : Bool) → ((a || b) || c) ≡ (a || (b || c))
 or_assoc true b c = refl

@@ -1,0 +1,18 @@
+//! The keywords (SIP-002).
+
+/// A name that stands for a value in every contract.
+#[derive(Clone, Copy, Debug, PartialEq, Eq)]
+pub enum Keyword {
+    /// `true`
+    True,
+    /// `false`
+    False,
+    /// `none`
+    None,
+    /// `tx-sender`
+    TxSender,
+    /// `contract-caller`
+    ContractCaller,
+    /// `block-height`
+    BlockHeight,
+}
