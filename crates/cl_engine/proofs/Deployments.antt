@@ -27,8 +27,8 @@ use Rattle.cl_contracts.specs.Seen.{AreConstants, IsIndexed, contract_seen, form
 use Rattle.cl_contracts.specs.Standings.{AllStand, AreStanding, StandsAfter, definitions_in_order}
 use Rattle.cl_contracts.specs.Known.{ConstantsAsKept, DefinedAsKept}
 use Rattle.cl_contracts.proofs.Constants.{is_constant}
-use Rattle.cl_eval.specs.Deploys.{contract_with}
-use Rattle.cl_eval.specs.Sound.{IsAcceptedAfter}
+use Rattle.cl_frames.specs.Deploys.{contract_with}
+use Rattle.cl_frames.specs.Sound.{IsAcceptedAfter}
 use Rattle.cl_node_sound.specs.Laws.{DeployedHaveConstants}
 use Rattle.cl_node_sound.specs.Sound.{HasParts}
 use Rattle.cl_file.specs.declared.entry.Common.{Common}

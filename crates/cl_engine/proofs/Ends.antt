@@ -14,9 +14,9 @@ use Rattle.cl_meaning.specs.Deployed.{Deployed, Function, contract_at, function_
 use Rattle.cl_meaning.specs.Limits.{Costs, Limited, Gave, Threw, AbortedBy, Passed, Lost, limited}
 use Rattle.cl_meaning.specs.Scope.{Frame}
 use Rattle.cl_meaning.specs.Top.{call_from}
-use Rattle.cl_eval.specs.declared.abort.Abort.{Abort}
-use Rattle.cl_eval.specs.declared.abort.Abort.TheVariants.{Overflow, Underflow, DivideByZero, NegativeArgument, Panic, SupplyOverflow, EarlyTop, CostLimit}
-use Rattle.cl_eval.specs.Aborts.{AbortsBy, Answers, IsEarly}
+use Rattle.cl_frames.specs.declared.abort.Abort.{Abort}
+use Rattle.cl_frames.specs.declared.abort.Abort.TheVariants.{Overflow, Underflow, DivideByZero, NegativeArgument, Panic, SupplyOverflow, EarlyTop, CostLimit}
+use Rattle.cl_frames.specs.Aborts.{AbortsBy, Answers, IsEarly}
 use Rattle.cl_tx.specs.declared.outcome.Outcome.TheVariants.{Aborted}
 use Rattle.cl_tx.specs.declared.outcome.TxResult.{TxResult}
 use Rattle.cl_file.specs.declared.entry.Common.{Common}

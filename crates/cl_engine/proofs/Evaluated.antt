@@ -11,10 +11,10 @@ use Rattle.cl_meaning.specs.Answers.{Answer}
 use Rattle.cl_meaning.specs.Deployed.{Contract}
 use Rattle.cl_meaning.specs.Limits.{Costs, Limited, Gave, Threw, AbortedBy, Passed, Lost, limited}
 use Rattle.cl_contracts.specs.declared.checked.Checked.{Checked}
-use Rattle.cl_eval.specs.declared.abort.Abort.{Abort}
-use Rattle.cl_eval.specs.declared.abort.Abort.TheVariants as abort
-use Rattle.cl_eval.specs.Aborts.{AbortsBy, IsEarly}
-use Rattle.cl_eval.specs.Deploys.{Deploys, contract_with}
+use Rattle.cl_frames.specs.declared.abort.Abort.{Abort}
+use Rattle.cl_frames.specs.declared.abort.Abort.TheVariants as abort
+use Rattle.cl_frames.specs.Aborts.{AbortsBy, IsEarly}
+use Rattle.cl_frames.specs.Deploys.{Deploys, contract_with}
 use Rattle.cl_rules.specs.Context.{Known}
 use Rattle.cl_tx.specs.declared.outcome.Stop.TheVariants as stops
 use Rattle.cl_tx.specs.declared.outcome.Outcome.TheVariants as outcomes

@@ -9,8 +9,8 @@ use Rattle.cl_values.specs.Tree.{Tree, ResponseV}
 use Rattle.cl_meaning.specs.Deployed.{Function}
 use Rattle.cl_meaning.specs.Limits.{Limited}
 use Rattle.cl_file.specs.declared.entry.Common.{Common}
-use Rattle.cl_eval.specs.declared.abort.Abort.{Abort}
-use Rattle.cl_eval.specs.declared.abort.Abort.TheVariants.{Overflow, Underflow, DivideByZero, NegativeArgument, Panic, SupplyOverflow, EarlyTop, CostLimit}
+use Rattle.cl_frames.specs.declared.abort.Abort.{Abort}
+use Rattle.cl_frames.specs.declared.abort.Abort.TheVariants.{Overflow, Underflow, DivideByZero, NegativeArgument, Panic, SupplyOverflow, EarlyTop, CostLimit}
 use Rattle.cl_tx.specs.declared.outcome.Stop.{Stop}
 use Rattle.cl_tx.specs.declared.outcome.Stop.TheVariants as stop
 use Rattle.cl_tx.specs.Nodes.{NodeSeen, Stepped, call_ended}

@@ -23,8 +23,8 @@ use Rattle.cl_rules.specs.Acceptance.{Bounded, NoneWrites, TypedAs}
 use Rattle.cl_contracts.specs.declared.checked.Checked.{Checked}
 use Rattle.cl_contracts.specs.Seen.{IsIndexed, contract_under, forms_of}
 use Rattle.cl_contracts.specs.Standings.{AreStanding, StandsAfter}
-use Rattle.cl_eval.specs.declared.abort.Abort.{Abort}
-use Rattle.cl_eval.specs.Deploys.{contract_with}
+use Rattle.cl_frames.specs.declared.abort.Abort.{Abort}
+use Rattle.cl_frames.specs.Deploys.{contract_with}
 use Rattle.cl_post.specs.Post.{holds}
 use Rattle.cl_file.specs.declared.entry.Common.{Common}
 use Rattle.cl_file.specs.declared.entry.Entry.{Entry}

@@ -4,13 +4,13 @@ ghost use Rattle.cl_shapes.specs.Limits.{Purse};
 ghost use Rattle.cl_values.specs.Tree.{Tree, ResponseV};
 ghost use Rattle.cl_events.specs.State.{State, at_rest};
 ghost use Rattle.cl_meaning.specs.Limits.{Limited};
-ghost use Rattle.cl_eval.specs.Aborts.{Answers};
+ghost use Rattle.cl_frames.specs.Aborts.{Answers};
 ghost use Rattle.cl_tx.specs.Nodes.{NodeSeen, nothing_told, result_of, settled, answered, call_ended};
 ghost use Rattle.cl_engine.specs.Calling.{MayAnswer, IsResponse, stop_by, cost_by};
 
 use crate::layer;
 use crate::result::{cost_of, result_with, stop_of};
-use cl_eval::Abort;
+use cl_frames::Abort;
 use cl_shapes::Cost5;
 use cl_state::World;
 use cl_tx::{Common, Outcome, Stop, TxResult};

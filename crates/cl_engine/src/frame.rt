@@ -1,10 +1,10 @@
 //! Who sends a transaction, and where it is evaluated.
 ghost use Rattle.std.specs.Prelude.{◌≡◌};
-ghost use Rattle.cl_eval.specs.Homes.{frame_seen};
+ghost use Rattle.cl_frames.specs.Homes.{frame_seen};
 ghost use Rattle.cl_tx.specs.Nodes.{contract_of, person};
 
 use cl_c32::{ContractName, Principal};
-use cl_eval::Frame;
+use cl_frames::Frame;
 use cl_tx::Common;
 
 /// The sender, who is no contract.

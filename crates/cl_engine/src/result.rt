@@ -3,8 +3,8 @@ ghost use Rattle.std.specs.Prelude.{◌≡◌, [], Option, Some, None};
 ghost use Rattle.cl_tx.specs.Nodes.{nothing_told, purse_of, result_of};
 ghost use Rattle.cl_engine.specs.Calling.{stop_by, cost_by};
 
-use cl_eval::Abort;
 use cl_events::Event;
+use cl_frames::Abort;
 use cl_shapes::{Cost5, Meter};
 use cl_tx::{Common, EntryRefusal, Outcome, Row, Stop, TxResult};
 use std::alloc::Global;

@@ -7,25 +7,22 @@ ghost use Rattle.cl_meaning.specs.Answers.{with_known};
 ghost use Rattle.cl_meaning.specs.Deployed.{contract_at, function_of};
 ghost use Rattle.cl_meaning.specs.Limits.{limited};
 ghost use Rattle.cl_meaning.specs.Top.{call_from};
-ghost use Rattle.cl_eval.specs.Aborts.{Answers};
-ghost use Rattle.cl_eval.specs.Homes.{frame_seen};
-ghost use Rattle.cl_eval.specs.Sound.{IsFittingCall, IsKeptWorld, IsReturnOf, SpendsWithin};
-ghost use Rattle.cl_eval.specs.Watching.{Ends, Tells, amount, trace, watched};
+ghost use Rattle.cl_frames.specs.Aborts.{Answers};
+ghost use Rattle.cl_frames.specs.Homes.{frame_seen};
+ghost use Rattle.cl_frames.specs.Sound.{IsFittingCall, IsKeptWorld, IsReturnOf, SpendsWithin};
+ghost use Rattle.cl_frames.specs.Watching.{Ends, Tells, amount, trace, watched};
 
-use crate::abort::{Abort, fault};
 use crate::calls::enter;
-use crate::context::Context;
-use crate::frame::{Frame, is_valid};
-use crate::home::Home;
-use crate::stop::Stop;
 use cl_code::{Silent, Watch};
 use cl_contract_sound::{
     charges_stay_within_bounds, functions_are_sound, limits_leave_sound_answers,
 };
 use cl_contracts::{Contract, Deployed};
 use cl_costs::CostTable;
+use cl_frames::{Abort, Context, Frame, Home, Stop, fault};
 use cl_shapes::Meter;
 use cl_state::World;
+use cl_steps::is_valid;
 use cl_types::{Fault, Name};
 use cl_values::Val;
 use std::alloc::Global;

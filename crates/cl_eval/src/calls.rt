@@ -5,19 +5,15 @@ ghost use Rattle.cl_meaning.specs.Scope.{Bound, OwnFunction};
 ghost use Rattle.cl_meaning.specs.Calls.{call_form, body_in};
 ghost use Rattle.cl_code.specs.Typed.{expression_of};
 ghost use Rattle.cl_meaning.specs.Meaning.{means, applied};
-ghost use Rattle.cl_eval.specs.Seen.{scope, scope_of, Fits};
-ghost use Rattle.cl_eval.specs.Watching.{Walks, amount};
+ghost use Rattle.cl_frames.specs.Seen.{scope, scope_of, Fits};
+ghost use Rattle.cl_frames.specs.Watching.{Walks, amount};
 
-use crate::application::{bind, close, is_public, returned};
-use crate::context::Context;
 use crate::evaluate::{evaluate, evaluate_parts};
-use crate::finding::own_function;
-use crate::names::Names;
-use crate::payment::pay;
-use crate::stop::Stop;
 use cl_code::{Code, Function, Watch};
+use cl_frames::{Context, Names, Stop, pay};
 use cl_shapes::{CostName, Meter};
 use cl_state::World;
+use cl_steps::{bind, close, is_public, own_function, returned};
 use cl_types::Name;
 use cl_values::Val;
 

@@ -4,22 +4,16 @@ ghost use Rattle.cl_meaning.specs.Control.{if_form, begin_form, and_form, or_for
 ghost use Rattle.cl_meaning.specs.Tokens.{print_form};
 ghost use Rattle.cl_code.specs.Typed.{expression_of};
 ghost use Rattle.cl_meaning.specs.Meaning.{means};
-ghost use Rattle.cl_eval.specs.Seen.{scope, Fits};
-ghost use Rattle.cl_eval.specs.Watching.{Walks, amount};
+ghost use Rattle.cl_frames.specs.Seen.{scope, Fits};
+ghost use Rattle.cl_frames.specs.Watching.{Walks, amount};
 
-use crate::application::last;
-use crate::context::Context;
-use crate::data::print;
 use crate::evaluate::{evaluate, evaluate_parts, evaluate_thrown, evaluate_truth};
-use crate::frame::as_contract;
-use crate::names::Names;
-use crate::payment::pay;
-use crate::stop::Stop;
-use crate::way::{Way, err_way_of, into_content, tried, way_of};
 use cl_code::{Code, Watch};
+use cl_frames::{Context, Names, Stop, Way, err_way_of, into_content, pay, tried, way_of};
 use cl_seq::bool_value;
 use cl_shapes::{CostName, Meter};
 use cl_state::World;
+use cl_steps::{as_contract, last, print};
 use cl_values::Val;
 
 #[cycle(evaluate)]

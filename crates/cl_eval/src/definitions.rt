@@ -7,25 +7,20 @@ ghost use Rattle.cl_events.specs.State.{place};
 ghost use Rattle.cl_code.specs.Typed.{expression_of};
 ghost use Rattle.cl_code.specs.declared.definition.Definition.TheVariants.{Fungible as FungibleOfCode};
 ghost use Rattle.cl_code.specs.Definitions.{form_defined};
-ghost use Rattle.cl_forms.specs.Forms.{ConstantForm, VariableForm, FungibleForm, NonFungibleForm, ExpressionForm};
+ghost use Rattle.cl_forms.specs.Forms.{ConstantForm, VariableForm, FungibleForm, ExpressionForm};
 ghost use Rattle.cl_meaning.specs.Deployed.{value_of};
-ghost use Rattle.cl_meaning.specs.Deploying.{with_cap};
-ghost use Rattle.cl_eval.specs.Watching.{Ends, amount, watched};
-ghost use Rattle.cl_eval.specs.Deploys.{IsDeploying, IsNew, Makes, Builds, costs_of, contract_so_far, top_of, defined_by, cap_of};
+ghost use Rattle.cl_frames.specs.Watching.{Ends, amount, watched};
+ghost use Rattle.cl_frames.specs.Deploys.{IsDeploying, IsNew, Builds, costs_of, top_of, defined_by};
 
 use crate::call::MOST_DEPTH;
-use crate::context::Context;
-use crate::deploying::Deploying;
 use crate::evaluate::evaluate;
-use crate::home::Home;
-use crate::names::Names;
-use crate::payment::{pay, pay_for};
-use crate::stop::Stop;
 use cl_code::{Code, Definition, Fungible, Watch};
+use cl_frames::{Context, Deploying, Home, Names, Stop, pay, pay_for};
 use cl_shapes::{CostName, Meter};
-use cl_state::{Place, World};
+use cl_state::World;
+use cl_steps::{define_nonfungible, define_uncapped, place_of, put_capped};
 use cl_types::Name;
-use cl_values::{Kind, Val};
+use cl_values::Val;
 use indexmap::IndexMap;
 
 /// Evaluates an expression at the top.
@@ -63,17 +58,6 @@ fn evaluate_top<W: Watch>(
         meter,
         watch,
     )
-}
-
-/// The place of what the contract has under a name.
-fn place_of(deploying: &Deploying, name: &Name) -> Place
-    ensures contract { result.contract ≡ deploying.now.checked.now.principal }
-    ensures name { result.name ≡ name.now }
-{
-    Place {
-        contract: deploying.checked.principal,
-        name: *name,
-    }
 }
 
 fn define_constant<W: Watch>(
@@ -117,39 +101,6 @@ fn define_variable<W: Watch>(
     Ok(())
 }
 
-/// The supply cap that a value is.
-fn cap_of(value: &Val) -> Option<u128>
-    ensures { result ≡ cap_of value.now }
-{
-    match &value.value().kind {
-        Kind::Uint(cap) => Some(*cap),
-        _ => None,
-    }
-}
-
-/// Charges the supply cap of a token, and puts the token in the world.
-fn put_capped(
-    deploying: &Deploying,
-    constants: &IndexMap<Name, Val>,
-    name: &Name,
-    cap: &Val,
-    world: &mut World,
-    meter: &mut Meter,
-) -> Result<(), Stop>
-    requires new { get (place deploying.now.checked.now.principal name.now) world.old.stack.top.fungibles ≡ None }
-    ensures meant { Makes deploying.now meter.old (with_cap (contract_so_far deploying.now constants.now.entries) name.now cap.now world.old.stack.top) constants.now.entries result meter.new world.new.stack.top }
-    ensures below { world.new.stack.below ≡ world.old.stack.below }
-{
-    match cap_of(cap) {
-        Some(most) => {
-            pay_for(deploying.costs, meter, CostName::Define, cap)?;
-            world.define_ft(&place_of(deploying, name), Some(most))?;
-            Ok(())
-        }
-        None => Err(Stop::Stuck),
-    }
-}
-
 fn define_capped<W: Watch>(
     deploying: &Deploying,
     constants: &IndexMap<Name, Val>,
@@ -167,22 +118,6 @@ fn define_capped<W: Watch>(
 {
     let cap = evaluate_top(deploying, constants, cap, world, meter, watch)?;
     put_capped(deploying, constants, name, &cap, world, meter)
-}
-
-fn define_uncapped(
-    deploying: &Deploying,
-    constants: &IndexMap<Name, Val>,
-    name: &Name,
-    world: &mut World,
-    meter: &mut Meter,
-) -> Result<(), Stop>
-    requires new { get (place deploying.now.checked.now.principal name.now) world.old.stack.top.fungibles ≡ None }
-    ensures meant { (at : Span) → Makes deploying.now meter.old (defined_by deploying.now (record { name = Some name.now; kind = FungibleForm None; span = at }) constants.now.entries world.old.stack.top) constants.now.entries result meter.new world.new.stack.top }
-    ensures below { world.new.stack.below ≡ world.old.stack.below }
-{
-    pay(deploying.costs, meter, CostName::Define, 0)?;
-    world.define_ft(&place_of(deploying, name), None)?;
-    Ok(())
 }
 
 fn define_fungible<W: Watch>(
@@ -203,22 +138,6 @@ fn define_fungible<W: Watch>(
         Some(cap) => define_capped(deploying, constants, &token.name, cap, world, meter, watch),
         None => define_uncapped(deploying, constants, &token.name, world, meter),
     }
-}
-
-fn define_nonfungible(
-    deploying: &Deploying,
-    constants: &IndexMap<Name, Val>,
-    name: &Name,
-    world: &mut World,
-    meter: &mut Meter,
-) -> Result<(), Stop>
-    requires new { get (place deploying.now.checked.now.principal name.now) world.old.stack.top.nonfungibles ≡ None }
-    ensures meant { (type : PlainType) (at : Span) → Makes deploying.now meter.old (defined_by deploying.now (record { name = Some name.now; kind = NonFungibleForm type; span = at }) constants.now.entries world.old.stack.top) constants.now.entries result meter.new world.new.stack.top }
-    ensures below { world.new.stack.below ≡ world.old.stack.below }
-{
-    pay(deploying.costs, meter, CostName::Define, 0)?;
-    world.define_nft(&place_of(deploying, name))?;
-    Ok(())
 }
 
 /// An expression whose value is dropped.

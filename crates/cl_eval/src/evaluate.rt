@@ -7,29 +7,26 @@ ghost use Rattle.cl_meaning.specs.Values.{strict_form};
 ghost use Rattle.cl_meaning.specs.Control.{throwing};
 ghost use Rattle.cl_code.specs.Typed.{expression_of};
 ghost use Rattle.cl_meaning.specs.Meaning.{node, means, applied};
-ghost use Rattle.cl_eval.specs.Seen.{costs_of, scope, Fits};
-ghost use Rattle.cl_eval.specs.Runs.{items_in};
-ghost use Rattle.cl_eval.specs.Watching.{Ends, Walks, amount, truthful, watched};
+ghost use Rattle.cl_frames.specs.Seen.{costs_of, scope, Fits};
+ghost use Rattle.cl_frames.specs.Runs.{items_in};
+ghost use Rattle.cl_frames.specs.Watching.{Ends, Walks, amount, truthful, watched};
 
 use crate::across::evaluate_contract_call;
 use crate::calls::evaluate_call;
-use crate::context::Context;
 use crate::iterate::evaluate_iteration;
-use crate::literals::{
-    ascii_literal, beside, buff_literal, keyword, named, principal_literal, stands, utf8_literal,
-};
-use crate::names::Names;
-use crate::natives::native_on;
 use crate::on_names::evaluate_on_name;
 use crate::on_parts::evaluate_on_parts;
 use crate::scopes::{evaluate_let, evaluate_match_optional, evaluate_match_response};
-use crate::stop::Stop;
 use crate::tuples::{evaluate_as_max_len, evaluate_tuple, evaluate_tuple_of};
-use crate::way::truth;
 use cl_code::{Code, Op, Watch};
+use cl_frames::{Context, Names, Stop, truth};
 use cl_seq::{int_value, uint_value};
 use cl_shapes::{CostName, Meter};
 use cl_state::World;
+use cl_steps::{
+    ascii_literal, beside, buff_literal, keyword, named, native_on, principal_literal, stands,
+    utf8_literal,
+};
 use cl_values::{Native, Val};
 
 /// Evaluates a tree to a depth, where names are bound to values.

@@ -9,25 +9,21 @@ ghost use Rattle.cl_meaning.specs.Answers.{with_known};
 ghost use Rattle.cl_meaning.specs.Scope.{Bound};
 ghost use Rattle.cl_meaning.specs.Sequences.{map_form, mapped, filter_form, filtered, fold_form, fold_of, each, rows_of, all_entries};
 ghost use Rattle.cl_meaning.specs.Meaning.{head_form, means, applied};
-ghost use Rattle.cl_eval.specs.Applying.{callee_seen};
-ghost use Rattle.cl_eval.specs.Seen.{scope, scope_of, Fits};
-ghost use Rattle.cl_eval.specs.Runs.{items_in};
-ghost use Rattle.cl_eval.specs.Watching.{Walks, amount};
+ghost use Rattle.cl_frames.specs.Applying.{callee_seen};
+ghost use Rattle.cl_frames.specs.Seen.{scope, scope_of, Fits};
+ghost use Rattle.cl_frames.specs.Runs.{items_in};
+ghost use Rattle.cl_frames.specs.Watching.{Walks, amount};
 
-use crate::applied::{Called, apply_watched, callee_named};
 use crate::calls::enter;
-use crate::context::Context;
-use crate::entries::{alone, entry_at, pair, row_at, width};
 use crate::evaluate::{evaluate, evaluate_parts};
-use crate::names::Names;
-use crate::natives::computed;
-use crate::payment::{pay, pay_for, pay_for_all};
-use crate::sieve::sieve;
-use crate::stop::Stop;
 use cl_code::{Applied, Code, Iteration, Watch};
+use cl_frames::{Called, Context, Names, Stop, pay, pay_for, pay_for_all};
 use cl_seq::{list_of, try_len};
 use cl_shapes::{CostName, Meter};
 use cl_state::World;
+use cl_steps::{
+    alone, apply_watched, callee_named, computed, entry_at, pair, row_at, sieve, width,
+};
 use cl_values::Val;
 
 /// A native that applies what is given by name to the entries of sequences.

@@ -5,18 +5,15 @@ ghost use Rattle.cl_code.specs.OpNames.{name_head};
 ghost use Rattle.cl_code.specs.Expression.{word};
 ghost use Rattle.cl_code.specs.Typed.{expression_of};
 ghost use Rattle.cl_meaning.specs.Meaning.{head_form, means, applied};
-ghost use Rattle.cl_eval.specs.Seen.{scope, Fits};
-ghost use Rattle.cl_eval.specs.Watching.{Walks, amount};
+ghost use Rattle.cl_frames.specs.Seen.{scope, Fits};
+ghost use Rattle.cl_frames.specs.Watching.{Walks, amount};
 
-use crate::context::Context;
-use crate::data::{with_all, with_nothing, with_one};
 use crate::evaluate::{evaluate, evaluate_parts};
-use crate::names::Names;
-use crate::stop::Stop;
-use crate::taking::{Taking, taking_of};
 use cl_code::{Code, NameNative, Watch, Word};
+use cl_frames::{Context, Names, Stop, Taking, taking_of};
 use cl_shapes::Meter;
 use cl_state::World;
+use cl_steps::{with_all, with_nothing, with_one};
 use cl_values::Val;
 
 /// A native whose first argument is a name.

@@ -4,18 +4,16 @@ ghost use Rattle.cl_forms.specs.Heads.{row_of, takes};
 ghost use Rattle.cl_code.specs.OpNames.{parts_head};
 ghost use Rattle.cl_code.specs.Typed.{expression_of};
 ghost use Rattle.cl_meaning.specs.Meaning.{head_form, means, applied};
-ghost use Rattle.cl_eval.specs.Seen.{scope, Fits};
-ghost use Rattle.cl_eval.specs.Watching.{Walks, amount};
+ghost use Rattle.cl_frames.specs.Seen.{scope, Fits};
+ghost use Rattle.cl_frames.specs.Watching.{Walks, amount};
 
-use crate::context::Context;
 use crate::control::{
     evaluate_and, evaluate_as_contract, evaluate_asserts, evaluate_begin, evaluate_if, evaluate_or,
     evaluate_print, evaluate_try, evaluate_unwrap, evaluate_unwrap_err,
 };
-use crate::names::Names;
-use crate::stop::Stop;
 use crate::stx::{evaluate_burn_stx, evaluate_send_stx, evaluate_stx};
 use cl_code::{Code, PartsNative, Watch};
+use cl_frames::{Context, Names, Stop};
 use cl_shapes::Meter;
 use cl_state::World;
 use cl_values::Val;

@@ -5,22 +5,20 @@ ghost use Rattle.cl_sexpr.specs.Tree.{Tree, ListAt, forest};
 ghost use Rattle.cl_code.specs.Expression.{bound_items};
 ghost use Rattle.cl_meaning.specs.Scope.{taken_with};
 ghost use Rattle.cl_meaning.specs.Control.{match_form, let_form, let_in};
-ghost use Rattle.cl_eval.specs.Branches.{optional_branches, response_branches};
+ghost use Rattle.cl_frames.specs.Branches.{optional_branches, response_branches};
 ghost use Rattle.cl_code.specs.Typed.{expression_of};
 ghost use Rattle.cl_meaning.specs.Meaning.{means};
-ghost use Rattle.cl_eval.specs.Seen.{costs_of, scope, scope_of, Fits};
-ghost use Rattle.cl_eval.specs.Watching.{BindsAll, Walks, amount, watched};
+ghost use Rattle.cl_frames.specs.Seen.{costs_of, scope, scope_of, Fits};
+ghost use Rattle.cl_frames.specs.Watching.{BindsAll, Walks, amount, watched};
 
-use crate::application::last;
-use crate::context::Context;
 use crate::evaluate::{evaluate, evaluate_parts};
-use crate::names::Names;
-use crate::payment::{pay, pay_for};
-use crate::stop::Stop;
-use crate::way::{Way, into_content, optional_way_of, response_way_of};
 use cl_code::{Binding, Code, Watch, Word};
+use cl_frames::{
+    Context, Names, Stop, Way, into_content, optional_way_of, pay, pay_for, response_way_of,
+};
 use cl_shapes::{CostName, Meter};
 use cl_state::World;
+use cl_steps::last;
 use cl_types::Name;
 use cl_values::Val;
 

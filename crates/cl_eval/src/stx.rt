@@ -4,17 +4,15 @@ ghost use Rattle.cl_forms.specs.declared.head.TokenNative.TheVariants as natives
 ghost use Rattle.cl_code.specs.Typed.{expression_of};
 ghost use Rattle.cl_meaning.specs.Tokens.{stx_balance_form, token_form};
 ghost use Rattle.cl_meaning.specs.Meaning.{means};
-ghost use Rattle.cl_eval.specs.Seen.{scope, Fits};
-ghost use Rattle.cl_eval.specs.Watching.{Walks, amount};
+ghost use Rattle.cl_frames.specs.Seen.{scope, Fits};
+ghost use Rattle.cl_frames.specs.Watching.{Walks, amount};
 
-use crate::context::Context;
 use crate::evaluate::{evaluate, evaluate_parts};
-use crate::names::Names;
-use crate::stop::Stop;
-use crate::tokens::{destroy_stx, read_stx, transfer_stx};
 use cl_code::{Code, Watch};
+use cl_frames::{Context, Names, Stop};
 use cl_shapes::Meter;
 use cl_state::World;
+use cl_steps::{destroy_stx, read_stx, transfer_stx};
 use cl_values::Val;
 
 /// What a principal has of STX.

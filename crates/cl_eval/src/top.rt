@@ -4,25 +4,22 @@ ghost use Rattle.cl_costs.specs.Tables.{function_of};
 ghost use Rattle.cl_contracts.specs.Seen.{deployed_seen, IsIndexed, AreIndexed};
 ghost use Rattle.cl_meaning.specs.Deploying.{deployment};
 ghost use Rattle.cl_meaning.specs.Limits.{limited};
-ghost use Rattle.cl_eval.specs.Homes.{frame_seen};
-ghost use Rattle.cl_eval.specs.Deploys.{IsDeploying, AreNew, HasNoTokens, Builds, Deploys, contract_with, all_by, all_charged};
-ghost use Rattle.cl_eval.specs.Sound.{DeploySpendsWithin, IsAcceptedAfter, IsKeptWorld};
-ghost use Rattle.cl_eval.specs.Watching.{Tells, amount, trace};
+ghost use Rattle.cl_frames.specs.Homes.{frame_seen};
+ghost use Rattle.cl_frames.specs.Deploys.{IsDeploying, AreNew, HasNoTokens, Builds, Deploys, contract_with, all_by, all_charged};
+ghost use Rattle.cl_frames.specs.Sound.{DeploySpendsWithin, IsAcceptedAfter, IsKeptWorld};
+ghost use Rattle.cl_frames.specs.Watching.{Tells, amount, trace};
 
-use crate::abort::{Abort, fault};
 use crate::definitions::define;
-use crate::deploying::Deploying;
-use crate::frame::{Frame, is_valid};
-use crate::payment::pay;
-use crate::stop::Stop;
 use cl_code::{Definition, Silent, Watch};
 use cl_contract_sound::{
     charges_stay_within_bounds, deployments_are_sound, limits_leave_sound_answers,
 };
 use cl_contracts::{Checked, Deployed};
 use cl_costs::CostTable;
+use cl_frames::{Abort, Deploying, Frame, Stop, fault, pay};
 use cl_shapes::{CostName, Meter};
 use cl_state::World;
+use cl_steps::is_valid;
 use cl_types::{Fault, Name};
 use cl_values::Val;
 use indexmap::IndexMap;

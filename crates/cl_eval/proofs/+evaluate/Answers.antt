@@ -22,39 +22,39 @@ use Rattle.cl_meaning.specs.Scope.{Frame, OwnFunction, parts, in_frame, as_contr
 use Rattle.cl_meaning.specs.Control.{last_of, and_on, or_on, let_in, match_optional, match_response}
 use Rattle.cl_meaning.specs.Values.{on_values}
 use Rattle.cl_meaning.specs.Calls.{closing, body_in}
-use Rattle.cl_eval.specs.Watching.{watched, Gave, truthful}
+use Rattle.cl_frames.specs.Watching.{watched, Gave, truthful}
 use Rattle.cl_meaning.specs.Meaning.{means, applied, head_form}
-use Rattle.cl_eval.proofs.WatchLaws.{charge_within, watched-stop, watched-ending, then_gave, starts, grew_more}
+use Rattle.cl_frames.proofs.WatchLaws.{charge_within, watched-stop, watched-ending, then_gave, starts, grew_more}
 use Rattle.std.specs.Prelude.{option_map}
-use Rattle.cl_eval.specs.Homes.{frame_seen, home_seen}
-use Rattle.cl_eval.specs.Seen.{costs_of, scope, scope_of}
-use Rattle.cl_eval.proofs.Steps.{native_ends}
-use Rattle.cl_eval.proofs.WatchSteps.{hands_on, stops_eq, stops_then, charge_stops, charge_spent, pay_fails, pay_fails_at, part_fails, memory_ends, memory_fails, ends_so, gives, known_some, known_none, unseen_ends, node_stops, node_gives, node_unseen}
-use Rattle.cl_eval.proofs.Unseen.{stopped, standing_unseen, literal_unseen, name_unseen, values_unseen, shortened_unseen, tuple_unseen, last_unseen, tried_unseen, token_unseen, stx_unseen, printed_unseen, nothing_unseen, one_unseen, all_unseen}
-use Rattle.cl_eval.proofs.Parts.{parts_turn, parts_turn_stop, parts_end, hands_on_all, onto_memory}
-use Rattle.cl_eval.proofs.Nodes
-use Rattle.cl_eval.proofs.Nodes.{node_is}
-use Rattle.cl_eval.proofs.Heads
-use Rattle.cl_eval.proofs.Forms
-use Rattle.cl_eval.proofs.Forms.{begin_at, strict_at, call_at, means_none, means_down, applied_none, applied_down}
-use Rattle.cl_eval.proofs.Ways.{chose_first, chose_second, choice_stops, truth_stops, wanted_good, wanted_bad, wanted_neither, truth_ends, err_good, err_bad, err_neither}
-use Rattle.cl_eval.proofs.Loops
-use Rattle.cl_eval.proofs.Lets
-use Rattle.cl_eval.proofs.TupleLaws
-use Rattle.cl_eval.proofs.HomeLaws
-use Rattle.cl_eval.proofs.Closing.{public_ends, public_one, other_ends, returning_ends, closes_below}
+use Rattle.cl_frames.specs.Homes.{frame_seen, home_seen}
+use Rattle.cl_frames.specs.Seen.{costs_of, scope, scope_of}
+use Rattle.cl_frames.proofs.Steps.{native_ends}
+use Rattle.cl_frames.proofs.WatchSteps.{hands_on, stops_eq, stops_then, charge_stops, charge_spent, pay_fails, pay_fails_at, part_fails, memory_ends, memory_fails, ends_so, gives, known_some, known_none, unseen_ends, node_stops, node_gives, node_unseen}
+use Rattle.cl_frames.proofs.Unseen.{stopped, standing_unseen, literal_unseen, name_unseen, values_unseen, shortened_unseen, tuple_unseen, last_unseen, tried_unseen, token_unseen, stx_unseen, printed_unseen, nothing_unseen, one_unseen, all_unseen}
+use Rattle.cl_frames.proofs.Parts.{parts_turn, parts_turn_stop, parts_end, hands_on_all, onto_memory}
+use Rattle.cl_frames.proofs.Nodes
+use Rattle.cl_frames.proofs.Nodes.{node_is}
+use Rattle.cl_frames.proofs.Heads
+use Rattle.cl_frames.proofs.Forms
+use Rattle.cl_frames.proofs.Forms.{begin_at, strict_at, call_at, means_none, means_down, applied_none, applied_down}
+use Rattle.cl_frames.proofs.Ways.{chose_first, chose_second, choice_stops, truth_stops, wanted_good, wanted_bad, wanted_neither, truth_ends, err_good, err_bad, err_neither}
+use Rattle.cl_frames.proofs.Loops
+use Rattle.cl_frames.proofs.Lets
+use Rattle.cl_frames.proofs.TupleLaws
+use Rattle.cl_frames.proofs.HomeLaws
+use Rattle.cl_frames.proofs.Closing.{public_ends, public_one, other_ends, returning_ends, closes_below}
 use Rattle.cl_values.specs.Tree.{ListV, items_of}
 use Rattle.cl_values.specs.Computed.{Gives}
 use Rattle.cl_meaning.specs.Sequences.{each, folded}
 use Rattle.cl_meaning.specs.Scope.{sizes}
 use Rattle.cl_meaning.specs.Answers.{stop, outcome_of}
-use Rattle.cl_eval.specs.Applying.{callee_seen}
-use Rattle.cl_eval.specs.Rows.{rows_from, entries_from}
-use Rattle.cl_eval.proofs.Parts.{onto, onto-nil}
-use Rattle.cl_eval.proofs.Binding.{given_as}
-use Rattle.cl_eval.proofs.IterateLaws
-use Rattle.cl_eval.proofs.Iterating
-use Rattle.cl_eval.proofs.Rows
+use Rattle.cl_frames.specs.Applying.{callee_seen}
+use Rattle.cl_frames.specs.Rows.{rows_from, entries_from}
+use Rattle.cl_frames.proofs.Parts.{onto, onto-nil}
+use Rattle.cl_frames.proofs.Binding.{given_as}
+use Rattle.cl_frames.proofs.IterateLaws
+use Rattle.cl_frames.proofs.Iterating
+use Rattle.cl_frames.proofs.Rows
 use Rattle.cl_eval.proofs.+evaluate.Goals as goal
 use Rattle.cl_forms.specs.declared.head.TokenNative.TheVariants as natives
 

@@ -4,14 +4,14 @@ use Rattle.cl_code.specs.Typed.{expression_of}
 use Rattle.cl_code.specs.Expression.{bound_items}
 use Rattle.cl_meaning.specs.Scope.{parts}
 use Rattle.cl_meaning.specs.Control.{and_on, or_on, let_in}
-use Rattle.cl_eval.specs.Watching.{watched, amount}
+use Rattle.cl_frames.specs.Watching.{watched, amount}
 use Rattle.cl_meaning.specs.Meaning.{means, applied}
-use Rattle.cl_eval.specs.Seen.{costs_of, scope, scope_of, Fits}
-use Rattle.cl_eval.proofs.Parts.{onto}
+use Rattle.cl_frames.specs.Seen.{costs_of, scope, scope_of, Fits}
+use Rattle.cl_frames.proofs.Parts.{onto}
 use Rattle.cl_values.specs.Tree.{Tree as Val}
 use Rattle.cl_meaning.specs.Sequences.{each, folded}
-use Rattle.cl_eval.specs.Applying.{callee_seen}
-use Rattle.cl_eval.specs.Rows.{rows_from, entries_from}
+use Rattle.cl_frames.specs.Applying.{callee_seen}
+use Rattle.cl_frames.specs.Rows.{rows_from, entries_from}
 use Rattle.std.specs.Vec.{vec_capacity}
 use Rattle.cl_eval.proofs.+evaluate.Given as goal
 

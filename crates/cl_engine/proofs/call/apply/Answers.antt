@@ -5,9 +5,9 @@ use Rattle.cl_events.specs.State.{State}
 use Rattle.cl_meaning.specs.Limits.{Limited, limited}
 use Rattle.cl_meaning.specs.Top.{call_from}
 use Rattle.cl_contracts.specs.Seen.{deployed_seen, function_seen}
-use Rattle.cl_eval.specs.Aborts.{Answers}
-use Rattle.cl_eval.specs.Homes.{frame_seen}
-use Rattle.cl_eval.specs.Sound.{IsFittingCall, IsKeptWorld}
+use Rattle.cl_frames.specs.Aborts.{Answers}
+use Rattle.cl_frames.specs.Homes.{frame_seen}
+use Rattle.cl_frames.specs.Sound.{IsFittingCall, IsKeptWorld}
 use Rattle.cl_state.specs.Stack.{Stack}
 use Rattle.cl_tx.specs.Nodes.{purse_of}
 use Rattle.cl_engine.proofs.Ends.{may_answer, run_answers, ok_also}

@@ -2,7 +2,7 @@ use Rattle.std.proofs.Common.{◌≡◌, ℕ, ◌<◌, ◌^◌, Some, None, refl
 use Rattle.cl_costs.specs.Tables.{function_of}
 use Rattle.cl_meaning.specs.Deployed.{Contract, contract_at, function_in}
 use Rattle.cl_contracts.specs.Seen.{contract_seen, deployed_seen, function_seen}
-use Rattle.cl_eval.specs.Homes.{frame_seen}
+use Rattle.cl_frames.specs.Homes.{frame_seen}
 use Rattle.cl_tx.specs.declared.outcome.TxResult.{TxResult}
 use Rattle.cl_tx.specs.Nodes.{NodeSeen}
 use Rattle.cl_node_sound.proofs.Calling.{fitting_are}

@@ -4,8 +4,8 @@ use Rattle.cl_meaning.specs.Deploying.{deployment}
 use Rattle.cl_meaning.specs.Limits.{limited}
 use Rattle.cl_meaning.specs.Scope.{Frame}
 use Rattle.cl_contracts.specs.Seen.{deployed_seen}
-use Rattle.cl_eval.specs.Deploys.{HasNoTokens, contract_with}
-use Rattle.cl_eval.specs.Homes.{frame_seen}
+use Rattle.cl_frames.specs.Deploys.{HasNoTokens, contract_with}
+use Rattle.cl_frames.specs.Homes.{frame_seen}
 use Rattle.cl_file.specs.declared.entry.Entry.TheVariants.{Deploy}
 use Rattle.cl_tx.specs.declared.outcome.Outcome.TheVariants.{Done, Aborted}
 use Rattle.cl_tx.specs.Nodes.{NodeSeen, contract_of, purse_of, result_of}

@@ -3,9 +3,9 @@ use Rattle.cl_costs.specs.Tables.{function_of}
 use Rattle.cl_meaning.specs.Deploying.{deployment}
 use Rattle.cl_meaning.specs.Limits.{limited}
 use Rattle.cl_contracts.specs.Seen.{deployed_seen}
-use Rattle.cl_eval.specs.Deploys.{HasNoTokens, contract_with}
-use Rattle.cl_eval.specs.Homes.{frame_seen}
-use Rattle.cl_eval.specs.Sound.{IsAcceptedAfter}
+use Rattle.cl_frames.specs.Deploys.{HasNoTokens, contract_with}
+use Rattle.cl_frames.specs.Homes.{frame_seen}
+use Rattle.cl_frames.specs.Sound.{IsAcceptedAfter}
 use Rattle.cl_state.specs.Stack.{Stack}
 use Rattle.cl_post.specs.Post.{holds}
 use Rattle.cl_tx.specs.Nodes.{purse_of}

@@ -4,12 +4,12 @@ use Rattle.cl_costs.specs.Tables.{function_of as cost_function}
 use Rattle.cl_contracts.specs.Seen.{deployed_seen}
 use Rattle.cl_meaning.specs.Deployed.{Deployed}
 use Rattle.cl_meaning.specs.Scope.{Frame}
-use Rattle.cl_eval.specs.Homes.{frame_seen}
+use Rattle.cl_frames.specs.Homes.{frame_seen}
 use Rattle.cl_shapes.specs.Costs.{IsAtMost}
 use Rattle.cl_shapes.specs.Limits.{Purse}
-use Rattle.cl_eval.proofs.AbortLaws.{aborts, given_spends, memory_spends_nothing, no_fault, same_fault, stopped_spends}
-use Rattle.cl_eval.proofs.NeverStuck.{IsValidFrame, call_fine, call_is_not_early, call_keeps, call_not_stuck, call_spends, call_stops, returned_typed}
-use Rattle.cl_eval.proofs.Telling.{run_ends, tells_given, tells_stopped}
+use Rattle.cl_frames.proofs.AbortLaws.{aborts, given_spends, memory_spends_nothing, no_fault, same_fault, stopped_spends}
+use Rattle.cl_frames.proofs.NeverStuck.{IsValidFrame, call_fine, call_is_not_early, call_keeps, call_not_stuck, call_spends, call_stops, returned_typed}
+use Rattle.cl_frames.proofs.Telling.{run_ends, tells_given, tells_stopped}
 use Rattle.cl_eval.proofs.call.run_watched.Goals as goal
 
 pub fault-requires : goal.fault-requires

@@ -1,7 +1,7 @@
 use Rattle.std.proofs.Common.{ap, None}
 use Rattle.cl_code.specs.declared.definition.Definition.{Definition}
 use Rattle.cl_code.specs.Definitions.{form_defined}
-use Rattle.cl_eval.proofs.Defining.{by_form, builds, map_ends, function_ends, map_unseen, nonfungible_unseen, function_unseen}
+use Rattle.cl_frames.proofs.Defining.{by_form, builds, map_ends, function_ends, map_unseen, nonfungible_unseen, function_unseen}
 use Rattle.cl_eval.proofs.definitions.define.Goals as goal
 
 pub returns-in-Constant-clause-meant : goal.returns-in-Constant-clause-meant

@@ -1,4 +1,4 @@
-use Rattle.cl_eval.proofs.Defining.{supply_form, builds, uncapped_unseen}
+use Rattle.cl_frames.proofs.Defining.{supply_form, builds, uncapped_unseen}
 use Rattle.cl_eval.proofs.definitions.define_fungible.Goals as goal
 
 pub returns-in-Some-clause-meant : goal.returns-in-Some-clause-meant

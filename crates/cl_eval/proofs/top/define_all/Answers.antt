@@ -3,13 +3,13 @@ use Rattle.std.specs.Prelude.{slice_get}
 use Rattle.std.proofs.lemmas.Result.{err_from_is_err_and}
 use Rattle.std.proofs.lemmas.List.{drop_all}
 use Rattle.std.proofs.lemmas.Option.{slice_get-get_or}
-use Rattle.cl_eval.specs.Watching.{watched}
-use Rattle.cl_eval.specs.Deploys.{costs_of, all_by}
+use Rattle.cl_frames.specs.Watching.{watched}
+use Rattle.cl_frames.specs.Deploys.{costs_of, all_by}
 use Rattle.std.specs.Prelude.{Ok}
-use Rattle.cl_eval.proofs.Telling.{run_ends}
-use Rattle.cl_eval.proofs.WatchSteps.{hands_on, stops_eq}
-use Rattle.cl_eval.proofs.Defining.{hand, define_turn, define_stops, define_end, place_within, form_here, places_left}
-use Rattle.cl_eval.proofs.Newness.{new_here, new_after}
+use Rattle.cl_frames.proofs.Telling.{run_ends}
+use Rattle.cl_frames.proofs.WatchSteps.{hands_on, stops_eq}
+use Rattle.cl_frames.proofs.Defining.{hand, define_turn, define_stops, define_end, place_within, form_here, places_left}
+use Rattle.cl_frames.proofs.Newness.{new_here, new_after}
 use Rattle.cl_eval.proofs.top.define_all.Goals as goal
 
 pub definition_at-definition-requires : goal.definition_at-definition-requires

@@ -1,6 +1,6 @@
 use Rattle.std.proofs.Common.{◌≡◌, ◌≤◌, drop}
-use Rattle.cl_eval.specs.Watching.{watched, amount}
-use Rattle.cl_eval.specs.Deploys.{AreNew, all_by, costs_of}
+use Rattle.cl_frames.specs.Watching.{watched, amount}
+use Rattle.cl_frames.specs.Deploys.{AreNew, all_by, costs_of}
 use Rattle.cl_eval.proofs.top.define_all.Given as goal
 
 abbrev pub invariant-loop-place : goal.invariant-loop-place

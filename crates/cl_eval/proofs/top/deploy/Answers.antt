@@ -1,10 +1,10 @@
 use Rattle.std.proofs.Common.{List, ℕ, refl, sym, ap, ◌∙◌}
 use Rattle.std.proofs.lemmas.Result.{err_from_is_err_and}
 use Rattle.cl_shapes.specs.declared.name.CostName.TheVariants.{Deploy}
-use Rattle.cl_eval.specs.Watching.{watched}
-use Rattle.cl_eval.specs.Deploys.{costs_of, all_by}
-use Rattle.cl_eval.proofs.WatchSteps.{pay_fails_at, ends_so, charge_spent}
-use Rattle.cl_eval.proofs.Defining.{hand}
+use Rattle.cl_frames.specs.Watching.{watched}
+use Rattle.cl_frames.specs.Deploys.{costs_of, all_by}
+use Rattle.cl_frames.proofs.WatchSteps.{pay_fails_at, ends_so, charge_spent}
+use Rattle.cl_frames.proofs.Defining.{hand}
 use Rattle.cl_eval.proofs.top.deploy.Goals as goal
 
 pub returns-in_err-pay-clause-meant : goal.returns-in_err-pay-clause-meant

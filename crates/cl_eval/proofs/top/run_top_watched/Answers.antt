@@ -3,19 +3,19 @@ use Rattle.cl_values.specs.Tree.{Tree as Val}
 use Rattle.cl_costs.specs.Tables.{function_of}
 use Rattle.cl_contracts.specs.Seen.{deployed_seen}
 use Rattle.cl_meaning.specs.Limits.{limited}
-use Rattle.cl_eval.specs.declared.deploying.Deploying.{Deploying}
-use Rattle.cl_eval.specs.Deploys.{AreNew}
-use Rattle.cl_eval.specs.Homes.{frame_seen}
-use Rattle.cl_eval.specs.Watching.{watched}
+use Rattle.cl_frames.specs.declared.deploying.Deploying.{Deploying}
+use Rattle.cl_frames.specs.Deploys.{AreNew}
+use Rattle.cl_frames.specs.Homes.{frame_seen}
+use Rattle.cl_frames.specs.Watching.{watched}
 use Rattle.cl_shapes.specs.Costs.{IsAtMost}
 use Rattle.cl_shapes.specs.Limits.{Purse}
-use Rattle.cl_eval.proofs.AbortLaws.{aborts, given_spends, memory_spends_nothing, no_fault, same_fault, stopped_spends}
-use Rattle.cl_eval.proofs.Steps.{stops_eq}
-use Rattle.cl_eval.proofs.WatchSteps as steps
-use Rattle.cl_eval.proofs.Telling.{run_ends, tells_given, tells_stopped}
-use Rattle.cl_eval.proofs.Defining.{deployed_so, tokens_at}
-use Rattle.cl_eval.proofs.NeverStuck.{IsValidFrame, deployment_fine, deployment_keeps, deployment_spends, deployment_stops, order_accepted}
-use Rattle.cl_eval.proofs.Newness.{new_at_first}
+use Rattle.cl_frames.proofs.AbortLaws.{aborts, given_spends, memory_spends_nothing, no_fault, same_fault, stopped_spends}
+use Rattle.cl_frames.proofs.Steps.{stops_eq}
+use Rattle.cl_frames.proofs.WatchSteps as steps
+use Rattle.cl_frames.proofs.Telling.{run_ends, tells_given, tells_stopped}
+use Rattle.cl_frames.proofs.Defining.{deployed_so, tokens_at}
+use Rattle.cl_frames.proofs.NeverStuck.{IsValidFrame, deployment_fine, deployment_keeps, deployment_spends, deployment_stops, order_accepted}
+use Rattle.cl_frames.proofs.Newness.{new_at_first}
 use Rattle.cl_eval.proofs.top.run_top_watched.Goals as goal
 
 pub deploy-requires-clause-fits : goal.deploy-requires-clause-fits

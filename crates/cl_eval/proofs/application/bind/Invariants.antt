@@ -1,6 +1,0 @@
-use Rattle.cl_costs.specs.Tables.{function_of}
-use Rattle.cl_eval.proofs.Binding.{SameFrom}
-use Rattle.cl_eval.proofs.application.bind.Given as goal
-
-abbrev pub invariant-loop-place : goal.invariant-loop-place
-invariant-loop-place l = SameFrom (function_of l.costs) l.initial.meter l.function.params.items l.values l.meter l.place

@@ -1,7 +1,0 @@
-use Rattle.std.proofs.Common.{◌≡◌, drop, option_map}
-use Rattle.cl_meaning.specs.Calls.{truths}
-use Rattle.cl_eval.specs.Applying.{join}
-use Rattle.cl_eval.proofs.applied.joined.Given as goal
-
-abbrev pub invariant-loop-value : goal.invariant-loop-value
-invariant-loop-value l = option_map (join l.all l.so_far) (truths (join l.all) l.all (drop l.value-index l.values)) ≡ truths (join l.all) l.all l.values

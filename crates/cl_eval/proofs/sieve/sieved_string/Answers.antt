@@ -1,5 +1,0 @@
-use Rattle.cl_eval.proofs.Sieving.{computes_so, sieved_unicode}
-use Rattle.cl_eval.proofs.sieve.sieved_string.Goals as goal
-
-pub returns : goal.returns
-returns c = computes_so _ _ _ (sieved_unicode c.args.characters.items c.args.flags.now _ c.in_ok-kept.ensures) c.within.ensures

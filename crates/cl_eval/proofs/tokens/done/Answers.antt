@@ -1,9 +1,0 @@
-use Rattle.std.proofs.Common.{true}
-use Rattle.cl_values.specs.Tree.{Tree as Val}
-use Rattle.cl_values.specs.Computed.{Gives}
-use Rattle.cl_eval.proofs.TokenLaws
-use Rattle.cl_eval.proofs.tokens.done.Goals as goal
-
-pub returns : goal.returns
-returns c =
-    TokenLaws.done_made _ _ c.bool_value.ensures (c.computed.ensures (Gives (Rattle.cl_values.specs.Tree.ResponseV true c.bool_value.result)) c.response.ensures)

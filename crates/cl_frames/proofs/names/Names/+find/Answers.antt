@@ -1,0 +1,29 @@
+use Rattle.std.proofs.Common.{◌≡◌, ◌≢◌, ◌∷◌, [], List, ℕ, length, true, false, Option, Some, None, Result, Ok, Err, refl, sym, ap, ◌∙◌, subst, arith}
+use Rattle.std.specs.Option.{option_or}
+use Rattle.std.specs.Prelude.{is_some, option_map}
+use Rattle.std.proofs.lemmas.Result.{err_from_is_err_and}
+use Rattle.cl_state.specs.Stack.{Stack}
+use Rattle.cl_values.specs.Tree.{Tree as Val}
+use Rattle.cl_values.specs.Computed.{Gives}
+use Rattle.cl_events.specs.State.{State}
+use Rattle.cl_events.specs.State.{place as key_of}
+use Rattle.cl_maps.specs.Maps.{get, put}
+use Rattle.cl_meaning.specs.Answers.{with_known, Wrong}
+use Rattle.cl_meaning.specs.Data.{variable_set, set_entry, insert_entry, entry_at}
+use Rattle.cl_meaning.specs.Deployed.{value_of}
+use Rattle.cl_meaning.specs.Limits.{limited, Gave}
+use Rattle.cl_meaning.proofs.LimitLaws.{limited-stop, charge_within}
+use Rattle.cl_frames.specs.declared.stop.Stop.TheVariants.{NoMemory}
+use Rattle.cl_frames.specs.Seen.{costs_of, scope}
+use Rattle.cl_frames.specs.Homes.{home_seen}
+use Rattle.cl_frames.proofs.Steps.{hands_on, pay_fails, pay_fails_at, ends_so, gives, native_ends, known_some, known_none, known_same, charge_spent}
+use Rattle.cl_frames.proofs.Laws
+use Rattle.cl_frames.proofs.names.Names.+find.Goals as goal
+
+pub returns-in-Some : goal.returns-in-Some
+returns-in-Some t c =
+    c.or_first_under.ensures ∙ ap (λ o. Rattle.std.specs.Option.option_or o (Rattle.cl_meaning.specs.Deployed.value_of c.args.name.now (Rattle.cl_frames.specs.Named.own_seen c.self.inside.own))) c.find.ensures ∙ Laws.value_in_both c.args.name.now c.in-Some.outer.now.values (Rattle.cl_frames.specs.Named.own_seen c.self.inside.own) ∙ ap (Rattle.cl_meaning.specs.Deployed.value_of c.args.name.now) (ap (λ (n : Rattle.cl_frames.specs.Named.Named). n.values) (ap (λ o. Rattle.cl_frames.specs.Named.named o (Rattle.cl_frames.specs.Named.own_seen c.self.inside.own)) (sym c.in-Some.is) ∙ c.self.view_is))
+
+pub returns-in-None : goal.returns-in-None
+returns-in-None t c =
+    c.first_under.ensures ∙ ap (Rattle.cl_meaning.specs.Deployed.value_of c.args.name.now) (ap (λ (n : Rattle.cl_frames.specs.Named.Named). n.values) (ap (λ o. Rattle.cl_frames.specs.Named.named o (Rattle.cl_frames.specs.Named.own_seen c.self.inside.own)) (sym c.in-None.is) ∙ c.self.view_is))

@@ -1,0 +1,22 @@
+use Rattle.std.proofs.Common.{◌≡◌, ◌∙◌, refl, sym, ap, Some, None}
+use Rattle.std.proofs.lemmas.Result.{err_from_is_err_and}
+use Rattle.cl_state.specs.Stack.{Stack}
+use Rattle.cl_meaning.specs.Limits.{limited}
+use Rattle.cl_meaning.proofs.LimitLaws.{limited-stop, then_gave, charge_within}
+use Rattle.cl_frames.specs.Deploys.{contract_so_far}
+use Rattle.cl_frames.proofs.Steps.{hands_on, pay_fails, part_fails, ends_so}
+use Rattle.cl_frames.proofs.Defining as Defining
+use Rattle.cl_steps.proofs.definitions.define_uncapped.Goals as goal
+
+pub returns-in_err-pay-clause-meant : goal.returns-in_err-pay-clause-meant
+returns-in_err-pay-clause-meant c at =
+    pay_fails _ _ c.in_err-pay.field-0.0 _ _ _ _ _ _ _ (Defining.hand c.args.deploying.now _ _ _ (err_from_is_err_and c.from_residual.result c.from_residual.ensures.1)) (ap (limited _ _) (Defining.uncapped_at _ _ _ _ _)) c.in_err-pay.ensures
+
+pub define_ft-requires : goal.define_ft-requires
+define_ft-requires c = Defining.absent_there c.args.world.now.stack.top.fungibles _ _ _ _ c.place_of.ensures.contract c.place_of.ensures.name c.requires.new
+
+pub returns-clause-meant : goal.returns-clause-meant
+returns-clause-meant c at =
+    ap (limited _ _) (Defining.uncapped_at _ _ _ _ _)
+    ∙ Defining.charged_gives _ _ _ _ _ _ _ _ _ c.in_ok-pay.ensures refl
+    (Defining.fungible_there (contract_so_far c.args.deploying.now c.args.constants.now.entries) c.place_of.result.contract c.args.name.now c.place_of.result.name None c.args.world.now.stack.top _ c.place_of.ensures.contract c.place_of.ensures.name (ap (λ (w : Stack). w.top) c.in_ok-define_ft.ensures.done))
