@@ -8,7 +8,7 @@ use Rattle.cl_values.specs.Tree.{Tree as Val}
 use Rattle.cl_values.specs.Valid.{IsPrincipal}
 use Rattle.cl_events.specs.State.{State}
 use Rattle.cl_meaning.specs.Deployed.{Deployed, Function, contract_at, function_of}
-use Rattle.cl_meaning.specs.Scope.{Frame, Bound}
+use Rattle.cl_meaning.specs.Scope.{Frame, BoundValues}
 use Rattle.cl_meaning.specs.Meaning.{means}
 use Rattle.cl_meaning.specs.Top.{most_depth, call_from}
 use Rattle.cl_meaning.specs.Kept.{Stage, Whole, Kept}
@@ -99,6 +99,6 @@ function_is_sound costs W ks contracts table p k at x g told =
           called_sound table W Whole contracts.distinct a.defined.context a.contract.principal T.home g f.0 f.2 F (home ∙ sym a.at) (subst IsPrincipal (a.at ∙ sym home) a.accepted.valid) sender caller height vs i s n;
     }
 
-pub expression_is_sound : (costs : CostTable) (W : Deployed) (stage : Stage) → AreDistinct W → (G : Context) → IsContext W stage G → (F : Frame) → IsFrame G F → (B : Names) (E : Bound) → AreBound B E → (e : Tree) (f : Found) → Typed G B e f → Fits e → (depth : ℕ) → f.height ≤ depth → (s : State) → Kept W stage s → IsAsFound (deployed_world costs W stage) f (means depth (scope (deployed_world costs W stage) F E) e s)
+pub expression_is_sound : (costs : CostTable) (W : Deployed) (stage : Stage) → AreDistinct W → (G : Context) → IsContext W stage G → (F : Frame) → IsFrame G F → (B : Names) (E : BoundValues) → AreBound B E → (e : Tree) (f : Found) → Typed G B e f → Fits e → (depth : ℕ) → f.height ≤ depth → (s : State) → Kept W stage s → IsAsFound (deployed_world costs W stage) f (means depth (scope (deployed_world costs W stage) F E) e s)
 expression_is_sound costs W stage A G good F framed B E are e f t fit depth low s n =
     (each_depth (deployed_world costs W stage) (is_world costs W stage A) depth).0.each G good F framed B E are e f (is_fitted G t fit) low s n

@@ -9,7 +9,7 @@ use Rattle.cl_values.specs.Tree.{Tree as Val}
 use Rattle.cl_values.specs.Valid.{IsPrincipal}
 use Rattle.cl_events.specs.State.{State}
 use Rattle.cl_meaning.specs.Deployed.{Contract, Deployed, Function, contract_at, function_in, function_of}
-use Rattle.cl_meaning.specs.Scope.{Frame, Bound}
+use Rattle.cl_meaning.specs.Scope.{Frame, BoundValues}
 use Rattle.cl_meaning.specs.Meaning.{means}
 use Rattle.cl_meaning.specs.Answers.{Answer}
 use Rattle.cl_meaning.specs.Limits.{cost, Within, Limited, Gave, Threw, AbortedBy, Passed, Lost, limit_on, limited}
@@ -79,7 +79,7 @@ FunctionsAreNamed =
 abbrev pub ExpressionsAreSound : Type 0
 ExpressionsAreSound =
     (costs : CostTable) (W : Deployed) → AreDistinct W →
-    (G : Context) → IsContext W Whole G → (F : Frame) → IsFrame G F → (B : Names) (E : Bound) → AreBound B E → (e : Tree) (f : Found) → Typed G B e f → Fits e →
+    (G : Context) → IsContext W Whole G → (F : Frame) → IsFrame G F → (B : Names) (E : BoundValues) → AreBound B E → (e : Tree) (f : Found) → Typed G B e f → Fits e →
     (depth : ℕ) → f.height ≤ depth → (s : State) → Kept W Whole s →
     IsAsFound (deployed_world costs W Whole) f (means depth (scope (deployed_world costs W Whole) F E) e s)
 

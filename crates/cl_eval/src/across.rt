@@ -2,7 +2,7 @@
 ghost use Rattle.std.specs.Prelude.{◌≡◌, ◌<◌, ◌≤◌, ◌∷◌, length, map};
 ghost use Rattle.cl_code.specs.Typed.{expression_of};
 ghost use Rattle.cl_code.specs.Expression.{word, target};
-ghost use Rattle.cl_meaning.specs.Scope.{Bound};
+ghost use Rattle.cl_meaning.specs.Scope.{BoundValues};
 ghost use Rattle.cl_meaning.specs.Calls.{contract_call_form, enter_there};
 ghost use Rattle.cl_meaning.specs.Meaning.{means, applied};
 ghost use Rattle.cl_frames.specs.Homes.{home_seen};
@@ -71,7 +71,7 @@ fn enter_there<W: Watch>(
     watch: &mut W,
 ) -> Result<Val, Stop>
     requires { length values.items < 1048576 }
-    ensures meant { (bound : Bound) → Fits context.now → IsAt context.now home.now → Walks context.now meter.old (W.seen watch.old) (enter_there (applied below) (scope_of context.now bound) name.now values.items (home_seen home.now) world.old.stack.top) result meter.new (W.seen watch.new) world.new.stack.top }
+    ensures meant { (bound : BoundValues) → Fits context.now → IsAt context.now home.now → Walks context.now meter.old (W.seen watch.old) (enter_there (applied below) (scope_of context.now bound) name.now values.items (home_seen home.now) world.old.stack.top) result meter.new (W.seen watch.new) world.new.stack.top }
     ensures below { world.new.stack.below ≡ world.old.stack.below }
     ensures grew { amount (W.seen watch.old) ≤ amount (W.seen watch.new) }
 {

@@ -1,7 +1,7 @@
 //! The application of functions.
 ghost use Rattle.std.specs.Prelude.{◌≡◌, ◌<◌, ◌≤◌, length, map};
 ghost use Rattle.cl_contracts.specs.Seen.{function_seen};
-ghost use Rattle.cl_meaning.specs.Scope.{Bound, OwnFunction};
+ghost use Rattle.cl_meaning.specs.Scope.{BoundValues, OwnFunction};
 ghost use Rattle.cl_meaning.specs.Calls.{call_form, body_in};
 ghost use Rattle.cl_code.specs.Typed.{expression_of};
 ghost use Rattle.cl_meaning.specs.Meaning.{means, applied};
@@ -53,7 +53,7 @@ pub(crate) fn enter<W: Watch>(
     watch: &mut W,
 ) -> Result<Val, Stop>
     requires { length values.items < 4294967296 }
-    ensures meant { (outer : Bound) → Fits context.now → Walks context.now meter.old (W.seen watch.old) (applied depth (scope_of context.now outer) (OwnFunction (function_seen function.now)) values.items world.old.stack.top) result meter.new (W.seen watch.new) world.new.stack.top }
+    ensures meant { (outer : BoundValues) → Fits context.now → Walks context.now meter.old (W.seen watch.old) (applied depth (scope_of context.now outer) (OwnFunction (function_seen function.now)) values.items world.old.stack.top) result meter.new (W.seen watch.new) world.new.stack.top }
     ensures below { world.new.stack.below ≡ world.old.stack.below }
     ensures grew { amount (W.seen watch.old) ≤ amount (W.seen watch.new) }
 {
@@ -78,7 +78,7 @@ fn evaluate_body<W: Watch>(
     meter: &mut Meter,
     watch: &mut W,
 ) -> Result<Val, Stop>
-    ensures meant { (outer : Bound) → Fits context.now → Walks context.now meter.old (W.seen watch.old) (body_in (means below) (scope_of context.now outer) (function_seen function.now) names.now.values world.old.stack.top) result meter.new (W.seen watch.new) world.new.stack.top }
+    ensures meant { (outer : BoundValues) → Fits context.now → Walks context.now meter.old (W.seen watch.old) (body_in (means below) (scope_of context.now outer) (function_seen function.now) names.now.values world.old.stack.top) result meter.new (W.seen watch.new) world.new.stack.top }
     ensures below { world.new.stack.below ≡ world.old.stack.below }
     ensures grew { amount (W.seen watch.old) ≤ amount (W.seen watch.new) }
 {

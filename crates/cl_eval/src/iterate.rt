@@ -6,7 +6,7 @@ ghost use Rattle.cl_code.specs.OpNames.{iteration_head};
 ghost use Rattle.cl_code.specs.Expression.{applied_name};
 ghost use Rattle.cl_code.specs.Typed.{expression_of};
 ghost use Rattle.cl_meaning.specs.Answers.{with_known};
-ghost use Rattle.cl_meaning.specs.Scope.{Bound};
+ghost use Rattle.cl_meaning.specs.Scope.{BoundValues};
 ghost use Rattle.cl_meaning.specs.Sequences.{map_form, mapped, filter_form, filtered, fold_form, fold_of, each, rows_of, all_entries};
 ghost use Rattle.cl_meaning.specs.Meaning.{head_form, means, applied};
 ghost use Rattle.cl_frames.specs.Applying.{callee_seen};
@@ -99,7 +99,7 @@ fn fold<W: Watch>(
     meter: &mut Meter,
     watch: &mut W,
 ) -> Result<Val, Stop>
-    ensures meant { (bound : Bound) → Fits context.now → Walks context.now meter.old (W.seen watch.old) (fold_of (applied below) (scope_of context.now bound) sequence.now start (callee_seen callee.now) world.old.stack.top) result meter.new (W.seen watch.new) world.new.stack.top }
+    ensures meant { (bound : BoundValues) → Fits context.now → Walks context.now meter.old (W.seen watch.old) (fold_of (applied below) (scope_of context.now bound) sequence.now start (callee_seen callee.now) world.old.stack.top) result meter.new (W.seen watch.new) world.new.stack.top }
     ensures below { world.new.stack.below ≡ world.old.stack.below }
     ensures grew { amount (W.seen watch.old) ≤ amount (W.seen watch.new) }
 {
@@ -157,7 +157,7 @@ fn map_rows<W: Watch>(
     watch: &mut W,
 ) -> Result<Val, Stop>
     requires { length sequences.now < 1048576 }
-    ensures meant { (bound : Bound) → Fits context.now → Walks context.now meter.old (W.seen watch.old) (mapped (applied below) (scope_of context.now bound) sequences.now (callee_seen callee.now) world.old.stack.top) result meter.new (W.seen watch.new) world.new.stack.top }
+    ensures meant { (bound : BoundValues) → Fits context.now → Walks context.now meter.old (W.seen watch.old) (mapped (applied below) (scope_of context.now bound) sequences.now (callee_seen callee.now) world.old.stack.top) result meter.new (W.seen watch.new) world.new.stack.top }
     ensures below { world.new.stack.below ≡ world.old.stack.below }
     ensures grew { amount (W.seen watch.old) ≤ amount (W.seen watch.new) }
 {
@@ -203,7 +203,7 @@ fn filter<W: Watch>(
     meter: &mut Meter,
     watch: &mut W,
 ) -> Result<Val, Stop>
-    ensures meant { (bound : Bound) → Fits context.now → Walks context.now meter.old (W.seen watch.old) (filtered (applied below) (scope_of context.now bound) sequence (callee_seen callee.now) world.old.stack.top) result meter.new (W.seen watch.new) world.new.stack.top }
+    ensures meant { (bound : BoundValues) → Fits context.now → Walks context.now meter.old (W.seen watch.old) (filtered (applied below) (scope_of context.now bound) sequence (callee_seen callee.now) world.old.stack.top) result meter.new (W.seen watch.new) world.new.stack.top }
     ensures below { world.new.stack.below ≡ world.old.stack.below }
     ensures grew { amount (W.seen watch.old) ≤ amount (W.seen watch.new) }
 {
@@ -224,7 +224,7 @@ fn apply_each<W: Watch>(
     watch: &mut W,
 ) -> Result<Vec<Val>, Stop>
     requires { length sequences.now < 1048576 }
-    ensures meant { (bound : Bound) → Fits context.now → Walks context.now meter.old (W.seen watch.old) (with_known (rows_of (all_entries sequences.now)) (each (applied below) (scope_of context.now bound) (callee_seen callee.now)) world.old.stack.top) (items_in result) meter.new (W.seen watch.new) world.new.stack.top }
+    ensures meant { (bound : BoundValues) → Fits context.now → Walks context.now meter.old (W.seen watch.old) (with_known (rows_of (all_entries sequences.now)) (each (applied below) (scope_of context.now bound) (callee_seen callee.now)) world.old.stack.top) (items_in result) meter.new (W.seen watch.new) world.new.stack.top }
     ensures below { world.new.stack.below ≡ world.old.stack.below }
     ensures grew { amount (W.seen watch.old) ≤ amount (W.seen watch.new) }
 {
@@ -256,7 +256,7 @@ fn apply<W: Watch>(
     watch: &mut W,
 ) -> Result<Val, Stop>
     requires { length values.items < 1048576 }
-    ensures meant { (bound : Bound) → Fits context.now → Walks context.now meter.old (W.seen watch.old) (applied depth (scope_of context.now bound) (callee_seen callee.now) values.items world.old.stack.top) result meter.new (W.seen watch.new) world.new.stack.top }
+    ensures meant { (bound : BoundValues) → Fits context.now → Walks context.now meter.old (W.seen watch.old) (applied depth (scope_of context.now bound) (callee_seen callee.now) values.items world.old.stack.top) result meter.new (W.seen watch.new) world.new.stack.top }
     ensures below { world.new.stack.below ≡ world.old.stack.below }
     ensures grew { amount (W.seen watch.old) ≤ amount (W.seen watch.new) }
 {

@@ -18,7 +18,7 @@ use Rattle.cl_values.specs.Wire.{size_of}
 use Rattle.cl_events.specs.State.{State}
 use Rattle.cl_meaning.specs.Answers.{Answer, Given, charged}
 use Rattle.cl_meaning.specs.Deployed.{Function, contract_at, function_of}
-use Rattle.cl_meaning.specs.Scope.{Frame, Bound as Values, Take}
+use Rattle.cl_meaning.specs.Scope.{Frame, BoundValues as Values, Take}
 use Rattle.cl_meaning.specs.Calls.{call_form, closing, bound_to, body_in, function_form}
 use Rattle.cl_rules.specs.Faults.{type_rules, form_rules}
 use Rattle.cl_rules.specs.NativeTypes.{Ruled}

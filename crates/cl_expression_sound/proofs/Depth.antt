@@ -15,7 +15,7 @@ use Rattle.cl_forms.specs.Heads.{Row, native, takes, row_of}
 use Rattle.cl_forms.specs.Shapes.{trees_of, pairs_of}
 use Rattle.cl_events.specs.State.{State}
 use Rattle.cl_meaning.specs.Answers.{Given, ending, charged}
-use Rattle.cl_meaning.specs.Scope.{Frame, Bound, OwnFunction, ByName}
+use Rattle.cl_meaning.specs.Scope.{Frame, BoundValues, OwnFunction, ByName}
 use Rattle.cl_meaning.specs.Deployed.{Function}
 use Rattle.cl_c32.specs.declared.principal.Principal.{Principal}
 use Rattle.cl_meaning.specs.Calls.{and_truth, truths, truth_value, native_form, application}
@@ -147,7 +147,7 @@ module _ (K : World) (W : IsWorld K) where
       subst (λ (f : Found). f.height ≤ suc N.depth → IsAsFound K f (ending (span_of e) (node N.take N.enter (here K N) e s))) is
       (λ low. sound_ending K _ (span_of e) _ ((node_sound K N e fit).each fs shape follows types low s n)) low
 
-  abbrev stands : (depth : ℕ) → TakesSound K (means depth) depth → EntersSound K (applied depth) depth → (G : Context) → IsGood K G → (F : Frame) → IsFrame G F → (B : Names) (E : Bound) → AreBound B E → Stands K
+  abbrev stands : (depth : ℕ) → TakesSound K (means depth) depth → EntersSound K (applied depth) depth → (G : Context) → IsGood K G → (F : Frame) → IsFrame G F → (B : Names) (E : BoundValues) → AreBound B E → Stands K
   stands depth takes enters G good F framed B E are = record {
     world = W;
     take = means depth;
@@ -170,11 +170,11 @@ module _ (K : World) (W : IsWorld K) where
         subst (λ a. IsAsFound K f a) (sym (means_step depth (scope K F E) e s)) (taken_sound (stands depth takes enters G good F framed B E are) e f fit low s n);
   }
 
-  function_applied : (depth : ℕ) → TakesSound K (means depth) depth → (G : Context) (g : Signature) (fn : Function) → IsServed K G.principal g fn → (F : Frame) → IsFrame G F → (E : Bound) → g.height ≤ suc depth → (vs : List Val) → AreOf vs (types_of_params g) → (s : State) → IsKept K s → IsSound K (λ v. IsOf v g.returns) NoThrow (g.bound K.costs) (application (means depth) (scope K F E) (OwnFunction fn) vs s)
+  function_applied : (depth : ℕ) → TakesSound K (means depth) depth → (G : Context) (g : Signature) (fn : Function) → IsServed K G.principal g fn → (F : Frame) → IsFrame G F → (E : BoundValues) → g.height ≤ suc depth → (vs : List Val) → AreOf vs (types_of_params g) → (s : State) → IsKept K s → IsSound K (λ v. IsOf v g.returns) NoThrow (g.bound K.costs) (application (means depth) (scope K F E) (OwnFunction fn) vs s)
   unfolding application
   function_applied depth takes G g fn served F framed E low vs i s n = function_sound K (means depth) depth takes G g fn served F framed E low vs i s n
 
-  native_applied : (depth : ℕ) (row : Row) → row ≡ row_of row.head → row.by_name ≡ true → (at : Span) (F : Frame) (E : Bound) (ts : List PlainType) (vs : List Val) → takes row.arity (length ts) ≡ true → AreOf vs ts → type_rules (by_name_row row.head ts).faults ≡ [] → (s : State) → IsKept K s → IsSound K (λ v. IsOf v (by_name_row row.head ts).type) NoThrow (charge row.cost (number_at row.cost ts) K.costs) (application (means depth) (scope K F E) (ByName row at) vs s)
+  native_applied : (depth : ℕ) (row : Row) → row ≡ row_of row.head → row.by_name ≡ true → (at : Span) (F : Frame) (E : BoundValues) (ts : List PlainType) (vs : List Val) → takes row.arity (length ts) ≡ true → AreOf vs ts → type_rules (by_name_row row.head ts).faults ≡ [] → (s : State) → IsKept K s → IsSound K (λ v. IsOf v (by_name_row row.head ts).type) NoThrow (charge row.cost (number_at row.cost ts) K.costs) (application (means depth) (scope K F E) (ByName row at) vs s)
   unfolding application
   native_applied depth row is name at F E ts vs count i types s n =
       sound_ending K (charge row.cost (number_at row.cost ts) K.costs) at (native_form row.head row.cost vs s)

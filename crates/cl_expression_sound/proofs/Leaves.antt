@@ -24,7 +24,7 @@ use Rattle.cl_forms.specs.declared.keyword.Keyword.TheVariants as keys
 use Rattle.cl_forms.specs.Keywords.{keyword_of}
 use Rattle.cl_meaning.specs.Answers.{Answer, Given, give, with_known}
 use Rattle.cl_meaning.specs.Deployed.{value_of, constant_of, contract_at}
-use Rattle.cl_meaning.specs.Scope.{Bound}
+use Rattle.cl_meaning.specs.Scope.{BoundValues}
 use Rattle.cl_meaning.specs.Names.{standing, literal, keyword_or as keyword_form_or, name_form, leaf_form}
 use Rattle.cl_rules.specs.Faults.{type_rules}
 use Rattle.cl_rules.specs.NativeTypes.{Ruled, fine, made, is_small}
@@ -100,7 +100,7 @@ bound_step true t u v rest more h i next = record { value = v; there = refl; typ
     some_is a b e = cc
 bound_step false t u v rest more h i next = next h
 
-pub bound_there : (B : Names) (E : Bound) (x : List ℕ) (t : PlainType) → AreBound B E → named_in x B ≡ Some t → IsThere (value_of x E) t
+pub bound_there : (B : Names) (E : BoundValues) (x : List ℕ) (t : PlainType) → AreBound B E → named_in x B ≡ Some t → IsThere (value_of x E) t
 bound_there [] [] x t are h = absurd cc
 bound_there [] (e ∷ E) x t are h = absurd are
 bound_there (b ∷ B) [] x t are h = absurd are
@@ -112,7 +112,7 @@ free_step : (b : Bool) (u : PlainType) (v : Val) (rest : Option PlainType) (more
 free_step true u v rest more h next = absurd cc
 free_step false u v rest more h next = next h
 
-bound_free : (B : Names) (E : Bound) (x : List ℕ) → AreBound B E → named_in x B ≡ None → value_of x E ≡ None
+bound_free : (B : Names) (E : BoundValues) (x : List ℕ) → AreBound B E → named_in x B ≡ None → value_of x E ≡ None
 bound_free [] [] x are h = refl
 bound_free [] (e ∷ E) x are h = absurd are
 bound_free (b ∷ B) [] x are h = absurd are

@@ -8,7 +8,7 @@ use Rattle.cl_sexpr.specs.Tree.{Tree}
 use Rattle.cl_values.specs.Tree.{Tree as Val}
 use Rattle.cl_events.specs.State.{State}
 use Rattle.cl_meaning.specs.Answers.{Given, Answer}
-use Rattle.cl_meaning.specs.Scope.{Frame, Bound, Scope, Take, Enter, parts}
+use Rattle.cl_meaning.specs.Scope.{Frame, BoundValues, Scope, Take, Enter, parts}
 use Rattle.cl_rules.specs.Faults.{shape_rules, type_rules}
 use Rattle.cl_rules.specs.NativeTypes.{Ruled}
 use Rattle.cl_rules.specs.Context.{Context, Names, Bound as Weight, bind}
@@ -33,10 +33,10 @@ pub record Stands (K : World) : Type 0 where
   pub frame : Frame
   pub framed : IsFrame context frame
   pub names : Names
-  pub bound : Bound
+  pub bound : BoundValues
   pub are : AreBound names bound
 
-pub bound_more : (B : Names) (E : Bound) (x : List ℕ) (t : PlainType) (v : Val) → AreBound B E → IsOf v t → AreBound (bind x t B) (E ++ (x, v) ∷ [])
+pub bound_more : (B : Names) (E : BoundValues) (x : List ℕ) (t : PlainType) (v : Val) → AreBound B E → IsOf v t → AreBound (bind x t B) (E ++ (x, v) ∷ [])
 bound_more [] [] x t v are i = (refl, i, tt)
 bound_more (b ∷ B) (e ∷ E) x t v are i = (are.0, are.1, bound_more B E x t v are.2 i)
 bound_more [] (e ∷ E) x t v are i = absurd are

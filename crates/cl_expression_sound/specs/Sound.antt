@@ -20,7 +20,7 @@ use Rattle.cl_events.specs.Acts.{Acted, acted_by}
 use Rattle.cl_meaning.specs.Answers.{Outcome, Given, Thrown, Aborted, Wrong, Deeper, Answer}
 use Rattle.cl_meaning.specs.Deployed.{Contract, Deployed, Function, contract_at, function_in, function_of, constant_of, has_map}
 use Rattle.cl_meaning.specs.Calls.{callable}
-use Rattle.cl_meaning.specs.Scope.{Frame, Bound, Scope, OwnFunction, ByName, Take, Enter}
+use Rattle.cl_meaning.specs.Scope.{Frame, BoundValues, Scope, OwnFunction, ByName, Take, Enter}
 use Rattle.cl_meaning.specs.Limits.{cost}
 use Rattle.cl_meaning.specs.Kept.{IsHolder, Stage, Kept}
 use Rattle.cl_rules.specs.Faults.{type_rules, form_rules}
@@ -77,7 +77,7 @@ IsAsFound K f a = IsSound K (λ v. IsOf v f.type) (IsThrown f.thrown) (f.bound K
 -- ---- scopes
 
 -- values under the names that are bound, each of the name's type
-abbrev pub AreBound : Names → Bound → Type 0
+abbrev pub AreBound : Names → BoundValues → Type 0
 AreBound [] [] = Unit {0}
 AreBound (b ∷ bs) (e ∷ es) = (e.0 ≡ b.0) × IsOf e.1 b.1 × AreBound bs es
 AreBound bs es = ⊥
@@ -90,7 +90,7 @@ pub record IsFrame (G : Context) (F : Frame) : Type 0 where
   pub caller : IsPrincipal F.caller
   pub height : F.height < 2 ^ 128
 
-abbrev pub scope : World → Frame → Bound → Scope
+abbrev pub scope : World → Frame → BoundValues → Scope
 scope K F E = record { deployed = K.deployed; frame = F; bound = E }
 
 -- ---- functions
@@ -113,7 +113,7 @@ types_of_params g = map (λ (p : List ℕ × PlainType). p.1) g.params
 -- what is typed is sound up to a height
 pub record TakesSound (K : World) (take : Take) (depth : ℕ) : Type 0 where
   pub each :
-      (G : Context) → IsGood K G → (F : Frame) → IsFrame G F → (B : Names) (E : Bound) → AreBound B E → (e : Tree) (f : Found) → Fitted G B e f → f.height ≤ depth →
+      (G : Context) → IsGood K G → (F : Frame) → IsFrame G F → (B : Names) (E : BoundValues) → AreBound B E → (e : Tree) (f : Found) → Fitted G B e f → f.height ≤ depth →
       (s : State) → IsKept K s → IsAsFound K f (take (scope K F E) e s)
 
 -- nothing may be thrown
@@ -123,12 +123,12 @@ NoThrow v = ⊥
 -- and so is the application of a function
 pub record EntersSound (K : World) (enter : Enter) (depth : ℕ) : Type 0 where
   pub each :
-      (G : Context) (g : Signature) (fn : Function) → IsServed K G.principal g fn → (F : Frame) → IsFrame G F → (E : Bound) → g.height ≤ depth →
+      (G : Context) (g : Signature) (fn : Function) → IsServed K G.principal g fn → (F : Frame) → IsFrame G F → (E : BoundValues) → g.height ≤ depth →
       (vs : List Val) → AreOf vs (types_of_params g) →
       (s : State) → IsKept K s → IsSound K (λ v. IsOf v g.returns) NoThrow (g.bound K.costs) (enter (scope K F E) (OwnFunction fn) vs s)
   -- and of a native that can be given by name
   pub natives :
-      1 ≤ depth → (row : Row) → row ≡ row_of row.head → row.by_name ≡ true → (at : Span) (F : Frame) (E : Bound) (ts : List PlainType) (vs : List Val) →
+      1 ≤ depth → (row : Row) → row ≡ row_of row.head → row.by_name ≡ true → (at : Span) (F : Frame) (E : BoundValues) (ts : List PlainType) (vs : List Val) →
       takes row.arity (length ts) ≡ true → AreOf vs ts → type_rules (by_name_row row.head ts).faults ≡ [] →
       (s : State) → IsKept K s → IsSound K (λ v. IsOf v (by_name_row row.head ts).type) NoThrow (charge row.cost (number_at row.cost ts) K.costs) (enter (scope K F E) (ByName row at) vs s)
 

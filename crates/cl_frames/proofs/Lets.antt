@@ -16,7 +16,7 @@ use Rattle.cl_code.specs.declared.op.Word.{Word}
 use Rattle.cl_code.specs.declared.op.Binding.{Binding}
 use Rattle.cl_meaning.specs.Answers.{Answer, wrong, charged, and_then}
 use Rattle.cl_meaning.specs.Deployed.{Function}
-use Rattle.cl_meaning.specs.Scope.{Scope, Take, Bound, parts, binding, with_bound, taken_with}
+use Rattle.cl_meaning.specs.Scope.{Scope, Take, BoundValues, parts, binding, with_bound, taken_with}
 use Rattle.cl_meaning.specs.Control.{match_optional, match_response, match_form, let_form, let_in, last_of}
 use Rattle.cl_meaning.specs.Calls.{body_in}
 use Rattle.cl_meaning.specs.Limits.{Costs}
@@ -70,11 +70,11 @@ no_response take S x a y b (ResponseV false v) s h = absurd cc
 no_response take S x a y b v s h = refl
 
 -- the names of a scope within another, as the code has them
-within : (inner base own seen : Bound) → inner ≡ base ++ seen → seen ≡ own → base ++ own ≡ inner
+within : (inner base own seen : BoundValues) → inner ≡ base ++ seen → seen ≡ own → base ++ own ≡ inner
 within inner base own seen h k = ap (λ l. base ++ l) (sym k) ∙ sym h
 
 -- one more name, in a scope of its own
-pub bound_in : (costs : Costs) (q : Purse) (sq : Seen) (through : Take) (S : Scope) (base : Bound) (x : List ℕ) (v : Val) (inner : Bound) (e : Tree) (s : State) → inner ≡ base ++ (x, v) ∷ [] → watched costs q sq (through (binding x v (with_bound base S)) e s) ≡ watched costs q sq (through (with_bound inner S) e s)
+pub bound_in : (costs : Costs) (q : Purse) (sq : Seen) (through : Take) (S : Scope) (base : BoundValues) (x : List ℕ) (v : Val) (inner : BoundValues) (e : Tree) (s : State) → inner ≡ base ++ (x, v) ∷ [] → watched costs q sq (through (binding x v (with_bound base S)) e s) ≡ watched costs q sq (through (with_bound inner S) e s)
 bound_in costs q sq through S base x v inner e s h = ap (λ b. watched costs q sq (through (with_bound b S) e s)) (sym h)
 
 -- ---- let
@@ -91,14 +91,14 @@ let_at take S bs xs at n s few h =
     ap (λ items. charged Control (suc (length body)) (let_in take body S items s)) (trees_forest (bound_items bs (map expression_of xs)))
     ∙ ap (λ m. charged Control m (let_in take body S (bound_items bs (map expression_of xs)) s)) count
 
-pub let_start : (costs : Costs) (p : Purse) (sp : Seen) (take : Take) (body : List Tree) (S : Scope) (base own : Bound) (items : List Tree) (s : State) → own ≡ [] → watched costs p sp (let_in take body (with_bound base S) items s) ≡ watched costs p sp (let_in take body (with_bound (base ++ own) S) items s)
+pub let_start : (costs : Costs) (p : Purse) (sp : Seen) (take : Take) (body : List Tree) (S : Scope) (base own : BoundValues) (items : List Tree) (s : State) → own ≡ [] → watched costs p sp (let_in take body (with_bound base S) items s) ≡ watched costs p sp (let_in take body (with_bound (base ++ own) S) items s)
 let_start costs p sp take body S base own items s h = ap (λ b. watched costs p sp (let_in take body (with_bound b S) items s)) (sym (append-nil base) ∙ ap (λ l. base ++ l) (sym h))
 
 one_binding : (take : Take) (body : List Tree) (S : Scope) (b : Binding) (bs : List Binding) (e : Tree) (es : List Tree) (s : State) → let_in take body S (bound_items (b ∷ bs) (e ∷ es)) s ≡ and_then (take S e s) (λ v u. charged Bind (size_of v) (let_in take body (binding b.word.name v S) (bound_items bs es) u))
 unfolding let_in
 one_binding take body S b bs e es s = refl
 
-pub let_next : (costs : Costs) (p : Purse) (sp : Seen) (take : Take) (body : List Tree) (S : Scope) (base : Bound) (bs : List Binding) (xs : List Typed) (i j : ℕ) (b : Binding) (c : Typed) (s : State) (own inner seen : Bound) → inner ≡ base ++ seen → seen ≡ own → j ≡ i → i < length bs → length bs ≤ length xs → b ≡ get_or bs i b → c ≡ get_or xs j c → watched costs p sp (let_in take body (with_bound (base ++ own) S) (bound_items (drop i bs) (map expression_of (drop i xs))) s) ≡ watched costs p sp (and_then (take (with_bound inner S) (expression_of c) s) (λ v u. charged Bind (size_of v) (let_in take body (binding b.word.name v (with_bound (base ++ own) S)) (bound_items (drop (i + 1) bs) (map expression_of (drop (i + 1) xs))) u)))
+pub let_next : (costs : Costs) (p : Purse) (sp : Seen) (take : Take) (body : List Tree) (S : Scope) (base : BoundValues) (bs : List Binding) (xs : List Typed) (i j : ℕ) (b : Binding) (c : Typed) (s : State) (own inner seen : BoundValues) → inner ≡ base ++ seen → seen ≡ own → j ≡ i → i < length bs → length bs ≤ length xs → b ≡ get_or bs i b → c ≡ get_or xs j c → watched costs p sp (let_in take body (with_bound (base ++ own) S) (bound_items (drop i bs) (map expression_of (drop i xs))) s) ≡ watched costs p sp (and_then (take (with_bound inner S) (expression_of c) s) (λ v u. charged Bind (size_of v) (let_in take body (binding b.word.name v (with_bound (base ++ own) S)) (bound_items (drop (i + 1) bs) (map expression_of (drop (i + 1) xs))) u)))
 let_next costs p sp take body S base bs xs i j b c s own inner seen h k at here few hb hc =
     let there : i < length xs = omega (arith, here, few) in
     let read : c ≡ get_or xs i c = hc ∙ ap (λ m. get_or xs m c) at in
@@ -108,7 +108,7 @@ let_next costs p sp take body S base bs xs i j b c s own inner seen h k at here 
     ∙ ap (watched costs p sp) (one_binding take body T b (drop (i + 1) bs) (expression_of c) (map expression_of (drop (i + 1) xs)) s)
     ∙ ap (λ e. watched costs p sp (and_then (take (with_bound e S) (expression_of c) s) (λ v u. charged Bind (size_of v) (let_in take body (binding b.word.name v T) (bound_items (drop (i + 1) bs) (map expression_of (drop (i + 1) xs))) u)))) (within inner base own seen h k)
 
-pub let_bound : (costs : Costs) (q : Purse) (sq : Seen) (take : Take) (body : List Tree) (S : Scope) (base : Bound) (x : List ℕ) (v : Val) (own more : Bound) (items : List Tree) (s : State) → more ≡ own ++ (x, v) ∷ [] → watched costs q sq (let_in take body (binding x v (with_bound (base ++ own) S)) items s) ≡ watched costs q sq (let_in take body (with_bound (base ++ more) S) items s)
+pub let_bound : (costs : Costs) (q : Purse) (sq : Seen) (take : Take) (body : List Tree) (S : Scope) (base : BoundValues) (x : List ℕ) (v : Val) (own more : BoundValues) (items : List Tree) (s : State) → more ≡ own ++ (x, v) ∷ [] → watched costs q sq (let_in take body (binding x v (with_bound (base ++ own) S)) items s) ≡ watched costs q sq (let_in take body (with_bound (base ++ more) S) items s)
 let_bound costs q sq take body S base x v own more items s h =
     ap (λ l. watched costs q sq (let_in take body (with_bound l S) items s)) (append_assoc base own ((x, v) ∷ []) ∙ ap (λ l. base ++ l) (sym h))
 
@@ -119,11 +119,11 @@ let_body : (take : Take) (S : Scope) (body : List Tree) (s : State) → let_in t
 unfolding let_in
 let_body take S body s = refl
 
-pub binds_not : (costs : Costs) (take : Take) (body : List Tree) (S : Bound → Scope) (l : Watched Val) (r : Result (Vec (List ℕ × Val) Global) Stop) (e : Stop) (q : Purse) (sq : Seen) (s : State) → Handed r e → Stops l e q sq s → BindsAll costs take body S l r q sq s
+pub binds_not : (costs : Costs) (take : Take) (body : List Tree) (S : BoundValues → Scope) (l : Watched Val) (r : Result (Vec (List ℕ × Val) Global) Stop) (e : Stop) (q : Purse) (sq : Seen) (s : State) → Handed r e → Stops l e q sq s → BindsAll costs take body S l r q sq s
 binds_not costs take body S l r e q sq s p h = subst (λ x. BindsAll costs take body S l x q sq s) (sym (p.1 ∙ ap Err p.2)) h
 
 -- memory runs out where the start of all was seen
-pub binds_memory : (costs : Costs) (take : Take) (body : List Tree) (S : Bound → Scope) (l x : Watched Val) (r : Result (Vec (List ℕ × Val) Global) Stop) (q : Purse) (sq : Seen) (s : State) → Handed r NoMemory → l ≡ x → IsStart sq (seen_of x) → BindsAll costs take body S l r q sq s
+pub binds_memory : (costs : Costs) (take : Take) (body : List Tree) (S : BoundValues → Scope) (l x : Watched Val) (r : Result (Vec (List ℕ × Val) Global) Stop) (q : Purse) (sq : Seen) (s : State) → Handed r NoMemory → l ≡ x → IsStart sq (seen_of x) → BindsAll costs take body S l r q sq s
 binds_memory costs take body S l x r q sq s p same start = binds_not costs take body S l r NoMemory q sq s p (stops_eq l x NoMemory q sq s same start)
 
 taken_all : (k : ℕ) (ys : List Typed) → k ≡ length ys → take k ys ≡ ys
@@ -133,7 +133,7 @@ taken_all (suc k) [] h = absurd (omega (arith, h))
 taken_all (suc k) (y ∷ ys) h = ap (λ l. y ∷ l) (taken_all k ys (omega (arith, h)))
 
 -- the body of let, as the code has its names and its parts
-pub let_rest : (costs : Costs) (p : Purse) (sp : Seen) (through : Take) (S : Scope) (base : Bound) (n : ℕ) (xs : List Typed) (own inner seen : Bound) (s : State) → inner ≡ base ++ seen → seen ≡ own → watched costs p sp (let_in through (drop n (map expression_of xs)) (with_bound (base ++ own) S) [] s) ≡ watched costs p sp (and_then (parts through (with_bound inner S) (map expression_of (take (length xs - n) (drop n xs))) s) last_of)
+pub let_rest : (costs : Costs) (p : Purse) (sp : Seen) (through : Take) (S : Scope) (base : BoundValues) (n : ℕ) (xs : List Typed) (own inner seen : BoundValues) (s : State) → inner ≡ base ++ seen → seen ≡ own → watched costs p sp (let_in through (drop n (map expression_of xs)) (with_bound (base ++ own) S) [] s) ≡ watched costs p sp (and_then (parts through (with_bound inner S) (map expression_of (take (length xs - n) (drop n xs))) s) last_of)
 let_rest costs p sp through S base n xs own inner seen s h k =
     ap (watched costs p sp) (let_body through (with_bound (base ++ own) S) (drop n (map expression_of xs)) s)
     ∙ ap (λ l. watched costs p sp (and_then (parts through (with_bound (base ++ own) S) l s) last_of)) (dropped n xs ∙ ap (map expression_of) (sym (taken_all (length xs - n) (drop n xs) (sym (length-drop n xs)))))
@@ -145,5 +145,5 @@ let_rest costs p sp through S base n xs own inner seen s h k =
     dropped (suc m) (y ∷ ys) = dropped m ys
 
 -- ---- the body of a function, whose names stand alone
-pub body_bound : (costs : Costs) (p : Purse) (sp : Seen) (through : Take) (S : Scope) (f : Function) (bound names seen : Bound) (s : State) → names ≡ seen → seen ≡ bound → watched costs p sp (body_in through S f bound s) ≡ watched costs p sp (body_in through S f names s)
+pub body_bound : (costs : Costs) (p : Purse) (sp : Seen) (through : Take) (S : Scope) (f : Function) (bound names seen : BoundValues) (s : State) → names ≡ seen → seen ≡ bound → watched costs p sp (body_in through S f bound s) ≡ watched costs p sp (body_in through S f names s)
 body_bound costs p sp through S f bound names seen s h k = ap (λ b. watched costs p sp (body_in through S f b s)) (sym k ∙ sym h)

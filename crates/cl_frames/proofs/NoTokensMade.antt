@@ -25,7 +25,7 @@ use Rattle.cl_events.specs.declared.event.EventKind.TheVariants.{Print}
 use Rattle.cl_events.specs.State.{State, spot, with_variables, with_entries, with_event}
 use Rattle.cl_meaning.specs.Answers.{Given, Wrong, Deeper, Answer, stop, give, charged, and_then, ending, returning, with_known, outcome_of}
 use Rattle.cl_meaning.specs.Deployed.{Contract, Deployed, Function, function_in, function_of, has_map}
-use Rattle.cl_meaning.specs.Scope.{Frame, Scope, home, Bound, Take, Enter, Callee, OwnFunction, ByName, parts, binding, with_bound, in_frame, as_contract, called, taken_with}
+use Rattle.cl_meaning.specs.Scope.{Frame, Scope, home, BoundValues, Take, Enter, Callee, OwnFunction, ByName, parts, binding, with_bound, in_frame, as_contract, called, taken_with}
 use Rattle.cl_meaning.specs.Values.{on_values, strict_form, tuple_form, get_form, as_max_len_form}
 use Rattle.cl_meaning.specs.Control.{choice, throw, if_form, last_of, begin_form, let_in, let_form, and_on, or_on, and_form, or_form, throwing, asserts_form, wanted_part, err_part, unwrap_form, unwrap_err_form, tried, try_form, match_optional, match_response, match_form, as_contract_form}
 use Rattle.cl_meaning.specs.Data.{here, variable_set, found_at, entry_at, delete_entry, with_map, key_and_value, insert_entry, set_entry, write_form, var_get_form, var_set_form, map_get_form, map_set_form, map_insert_form, map_delete_form}
@@ -290,7 +290,7 @@ module _ (take : Take) (T : KeepsTake take) where
 
   -- ---- applications
 
-  keeps_bound : (S : Scope) (f : Function) (bound : Bound) (params : List (List ℕ × PlainType)) (vs : List Val) (s : State) → Keeps s (bound_to (body_in take S f) bound params vs s)
+  keeps_bound : (S : Scope) (f : Function) (bound : BoundValues) (params : List (List ℕ × PlainType)) (vs : List Val) (s : State) → Keeps s (bound_to (body_in take S f) bound params vs s)
   unfolding bound_to
   keeps_bound S f bound [] [] s =
       keeps_from (returning (take (with_bound bound S) f.body s)) (closing f.access s) s (keeps_returning _ s (T (with_bound bound S) f.body s))

@@ -6,7 +6,7 @@ use Rattle.std.proofs.lemmas.List.{drop_all}
 use Rattle.cl_types.specs.Types.{PlainType}
 use Rattle.cl_values.specs.Tree.{Tree as Val}
 use Rattle.cl_meaning.specs.Deployed.{value_of}
-use Rattle.cl_meaning.specs.Scope.{Bound}
+use Rattle.cl_meaning.specs.Scope.{BoundValues}
 use Rattle.cl_frames.specs.Named.{paired}
 use Rattle.cl_frames.proofs.Parts.{next_part}
 
@@ -43,7 +43,7 @@ next_pair params values i x v h k hx hv =
 pub next_under : (name : List ℕ) (params : Params) (values : List Val) (i : ℕ) (x : List ℕ × PlainType) → i < length params → i < length values → x ≡ get_or params i x → bytes_eq x.0 name ≡ false → value_of name (paired (drop (i + 1) params) (drop (i + 1) values)) ≡ value_of name (paired (drop i params) (drop i values))
 next_under name params values i x h k hx other =
     let given = there values i k in
-    let rest : Bound = paired (drop (i + 1) params) (drop (i + 1) values) in
+    let rest : BoundValues = paired (drop (i + 1) params) (drop (i + 1) values) in
     sym (ap (value_of name) (next_pair params values i x given.0 h k hx given.1) ∙ ap (λ (b : Bool). if b then Some given.0 else value_of name rest) other)
 
 pub none_given : (name : List ℕ) (params : Params) (values : List Val) (i : ℕ) → length values ≤ i → value_of name (paired (drop i params) (drop i values)) ≡ value_of name []

@@ -10,7 +10,7 @@ use Rattle.cl_values.specs.Tree.{Tree as Val, BoolV}
 use Rattle.cl_events.specs.State.{State}
 use Rattle.cl_code.specs.Watched.{GrewBy}
 use Rattle.cl_meaning.specs.Answers.{Cause, ByArithmetic, ByPanic, BySupply, Answer}
-use Rattle.cl_meaning.specs.Scope.{Bound, Scope, Take}
+use Rattle.cl_meaning.specs.Scope.{BoundValues, Scope, Take}
 use Rattle.cl_meaning.specs.Control.{let_in}
 use Rattle.cl_meaning.specs.Calls.{bound_to}
 use Rattle.cl_meaning.specs.Limits.{Costs, Limited, limited}
@@ -110,12 +110,12 @@ Walks c p j a r q k s = Ends (watched (costs_of c) p j a) r q k s
 -- whatever follows, on whatever state: parameters are bound to values and it goes on with them, or it stops there
 abbrev pub Binds : Costs → Purse → List (List ℕ × PlainType) → List Val → Result (Unit {0}) Stop → Purse → Type 0
 Binds costs p params values (Ok u) q =
-    (body : Bound → State → Answer Val) (s : State) (k : Seen) → watched costs p k (bound_to body [] params values s) ≡ watched costs q k (body (paired params values) s)
+    (body : BoundValues → State → Answer Val) (s : State) (k : Seen) → watched costs p k (bound_to body [] params values s) ≡ watched costs q k (body (paired params values) s)
 Binds costs p params values (Err stop) q =
-    (body : Bound → State → Answer Val) (s : State) (k : Seen) → Stops (watched costs p k (bound_to body [] params values s)) stop q k s
+    (body : BoundValues → State → Answer Val) (s : State) (k : Seen) → Stops (watched costs p k (bound_to body [] params values s)) stop q k s
 
 -- names are bound, and what is left of let goes on with them; or it stops there
-abbrev pub BindsAll : Costs → Take → List Tree → (Bound → Scope) → Watched Val → Result (Vec (List ℕ × Val) Global) Stop → Purse → Seen → State → Type 0
+abbrev pub BindsAll : Costs → Take → List Tree → (BoundValues → Scope) → Watched Val → Result (Vec (List ℕ × Val) Global) Stop → Purse → Seen → State → Type 0
 BindsAll costs take body S w (Ok own) q k s = w ≡ watched costs q k (let_in take body (S own.items) [] s)
 BindsAll costs take body S w (Err stop) q k s = Stops w stop q k s
 

@@ -15,7 +15,7 @@ use Rattle.cl_forms.specs.Shapes.{trees_of, binding_of, bindings_of, pairs_of}
 use Rattle.cl_events.specs.State.{State}
 use Rattle.cl_meaning.specs.Answers.{Answer, Deeper}
 use Rattle.cl_meaning.specs.Deployed.{Function}
-use Rattle.cl_meaning.specs.Scope.{Scope, Bound, Callee, OwnFunction, ByName, Take, Enter, parts, binding, taken_with}
+use Rattle.cl_meaning.specs.Scope.{Scope, BoundValues, Callee, OwnFunction, ByName, Take, Enter, parts, binding, taken_with}
 use Rattle.cl_meaning.specs.Control.{if_form, begin_form, let_in, let_form, and_on, or_on, and_form, or_form, throwing, asserts_form, wanted_part, err_part, unwrap_form, unwrap_err_form, try_form, match_optional, match_response, match_form, as_contract_form}
 use Rattle.cl_meaning.specs.Values.{strict_form, tuple_form, get_form, as_max_len_form}
 use Rattle.cl_meaning.specs.Data.{var_set_form, map_get_form, map_set_form, map_insert_form, map_delete_form}
@@ -276,7 +276,7 @@ module _ (take deep : Take) (t : TakesBelow take deep) where
 
   -- ---- applications
 
-  bound_below : (f g : Bound → State → Answer Val) → ((B : Bound) (s : State) → Below (f B s) (g B s)) → (B : Bound) (ps : List (List ℕ × PlainType)) (vs : List Val) (s : State) → Below (bound_to f B ps vs s) (bound_to g B ps vs s)
+  bound_below : (f g : BoundValues → State → Answer Val) → ((B : BoundValues) (s : State) → Below (f B s) (g B s)) → (B : BoundValues) (ps : List (List ℕ × PlainType)) (vs : List Val) (s : State) → Below (bound_to f B ps vs s) (bound_to g B ps vs s)
   unfolding bound_to
   bound_below f g h B [] [] s = h B s
   bound_below f g h B (p ∷ ps) (v ∷ vs) s = below_charged _ _ (bound_below f g h (B ++ (p.0, v) ∷ []) ps vs s)

@@ -15,7 +15,7 @@ use Rattle.cl_forms.specs.Shapes.{principal_named, open_to_others}
 use Rattle.cl_events.specs.State.{State, is_principal}
 use Rattle.cl_meaning.specs.Answers.{Answer, give, wrong, charged, and_then, returning, ending, with_known}
 use Rattle.cl_meaning.specs.Deployed.{Contract, Function, contract_at, function_in, function_of}
-use Rattle.cl_meaning.specs.Scope.{Scope, Bound, home, called, in_frame, with_bound, Callee, OwnFunction, ByName, Take, Enter, parts}
+use Rattle.cl_meaning.specs.Scope.{Scope, BoundValues, home, called, in_frame, with_bound, Callee, OwnFunction, ByName, Take, Enter, parts}
 use Rattle.cl_meaning.specs.Values.{on_values}
 
 -- ---- calls
@@ -58,13 +58,13 @@ closing Public before v s = wrong s
 closing access before v s = give v s
 
 -- the parameters bound to the values, each charged by its size, and then what follows
-unfoldable pub bound_to : (Bound → State → Answer Val) → Bound → List (List ℕ × PlainType) → List Val → State → Answer Val
+unfoldable pub bound_to : (BoundValues → State → Answer Val) → BoundValues → List (List ℕ × PlainType) → List Val → State → Answer Val
 bound_to body bound [] [] s = body bound s
 bound_to body bound (p ∷ ps) (v ∷ vs) s = charged Bind (size_of v) (bound_to body (bound ++ (p.0, v) ∷ []) ps vs s)
 bound_to body bound ps vs s = wrong s
 
 -- the body, whose early return is the function's return
-abbrev pub body_in : Take → Scope → Function → Bound → State → Answer Val
+abbrev pub body_in : Take → Scope → Function → BoundValues → State → Answer Val
 body_in take S f bound s = and_then (returning (take (with_bound bound S) f.body s)) (closing f.access s)
 
 unfoldable pub function_form : Take → Scope → Function → List Val → State → Answer Val

@@ -19,13 +19,13 @@ pub record Frame : Type 0 where
   pub height : ℕ
 
 -- the values of the bound names; of one name the first counts
-abbrev pub Bound : Type 0
-Bound = List (List ℕ × Val)
+abbrev pub BoundValues : Type 0
+BoundValues = List (List ℕ × Val)
 
 pub record Scope : Type 0 where
   pub deployed : Deployed
   pub frame : Frame
-  pub bound : Bound
+  pub bound : BoundValues
 
 -- the contract whose code is evaluated
 abbrev pub home : Scope → Option Contract
@@ -35,7 +35,7 @@ home S = contract_at S.frame.contract S.deployed
 abbrev pub binding : List ℕ → Val → Scope → Scope
 binding x v S = record S { bound = S.bound ++ (x, v) ∷ [] }
 
-abbrev pub with_bound : Bound → Scope → Scope
+abbrev pub with_bound : BoundValues → Scope → Scope
 with_bound bound S = record S { bound = bound }
 
 abbrev pub in_frame : Frame → Scope → Scope

@@ -5,7 +5,7 @@ use Rattle.std.specs.Str.{bytes_eq}
 use Rattle.cl_values.specs.Tree.{Tree}
 use Rattle.cl_values.specs.Typed.{IsOf}
 use Rattle.cl_meaning.specs.Deployed.{value_of}
-use Rattle.cl_meaning.specs.Scope.{Bound}
+use Rattle.cl_meaning.specs.Scope.{BoundValues}
 use Rattle.cl_rules.specs.Context.{Names, named_in, same}
 use Rattle.cl_expression_sound.specs.Sound.{AreBound}
 use Rattle.cl_node_sound.specs.Sound.{IsTypedUnder}
@@ -13,7 +13,7 @@ use Rattle.cl_node_sound.specs.Sound.{IsTypedUnder}
 some_value : (v w : Tree) → Some v ≡ Some w → v ≡ w
 some_value v w e = cc
 
-pub typed_under : (B : Names) (E : Bound) (x : List ℕ) (v : Tree) → AreBound B E → value_of x E ≡ Some v → IsTypedUnder B x v
+pub typed_under : (B : Names) (E : BoundValues) (x : List ℕ) (v : Tree) → AreBound B E → value_of x E ≡ Some v → IsTypedUnder B x v
 typed_under [] [] x v are h = absurd cc
 typed_under [] (e ∷ E) x v are h = absurd are
 typed_under (b ∷ B) [] x v are h = absurd are

@@ -15,7 +15,7 @@ use Rattle.cl_forms.specs.Names.{is_one_of}
 use Rattle.cl_forms.specs.Writes.{writing_natives, applying_natives, Call, calls_in, Writes, WritesIn, has_writing_body, by_native, by_function, by_name, by_contract}
 use Rattle.cl_events.specs.State.{is_principal}
 use Rattle.cl_meaning.specs.Deployed.{Contract, Deployed, Function, contract_at, function_in, function_of}
-use Rattle.cl_meaning.specs.Scope.{Frame, Bound}
+use Rattle.cl_meaning.specs.Scope.{Frame, BoundValues}
 use Rattle.cl_meaning.specs.Calls.{callable, target_of, other_contract}
 use Rattle.cl_meaning.specs.Kept.{Whole}
 use Rattle.cl_rules.specs.Faults.{shape_rules}
@@ -171,7 +171,7 @@ target_by G leaf at x at' es (Some q) is literal there told = by_known (target_a
     by_known None e h told = absurd cc
 
 -- a literal is the same principal in the meaning
-literal_is : (W : Deployed) (F : Frame) (E : Bound) (own : Principal) → F.contract ≡ own → (leaf : Leaf) (at : Span) (q : Principal) → contract_literal own leaf ≡ Some q → target_of (scope W F E) (LeafAt leaf at) ≡ Some q
+literal_is : (W : Deployed) (F : Frame) (E : BoundValues) (own : Principal) → F.contract ≡ own → (leaf : Leaf) (at : Span) (q : Principal) → contract_literal own leaf ≡ Some q → target_of (scope W F E) (LeafAt leaf at) ≡ Some q
 literal_is W F E own home (Standing r) at q h = by r.contract h
   where
     by : (o : Option (List ℕ)) → elim o [ None ↦ None | Some name ↦ Some r ] ≡ Some q → Some r ≡ Some q

@@ -25,7 +25,7 @@ use Rattle.cl_forms.specs.declared.keyword.Keyword.{Keyword}
 use Rattle.cl_forms.specs.Keywords.{keyword_of}
 use Rattle.cl_meaning.specs.Answers.{Outcome, Given, Thrown, Aborted, Wrong, Deeper, Answer, Note, stop, and_then, then_on}
 use Rattle.cl_meaning.specs.Deployed.{Deployed, Function, contract_at, function_in, function_of, value_of, constant_of}
-use Rattle.cl_meaning.specs.Scope.{Scope, Frame, Bound, Callee, OwnFunction, ByName, Take, Enter, parts, taken_with, called, as_contract}
+use Rattle.cl_meaning.specs.Scope.{Frame, BoundValues, Callee, OwnFunction, ByName, Take, Enter, parts, taken_with, called, as_contract, Scope}
 use Rattle.cl_meaning.specs.Names.{standing, literal, keyword_or, known_form, name_form, leaf_form}
 use Rattle.cl_meaning.specs.Control.{if_form, begin_form, last_of, let_in, let_form, and_on, or_on, and_form, or_form, throwing, asserts_form, wanted_part, err_part, tried, unwrap_form, unwrap_err_form, try_form, match_optional, match_response, match_form, as_contract_form}
 use Rattle.cl_meaning.specs.Values.{on_values, strict_form, tuple_form, get_form, as_max_len_form}
@@ -75,14 +75,14 @@ module _ (W : Deployed) (Q : Principal → Function → Type 0) where
   pair_parts p (Pair k e ps) q = (q.0, pair_parts p ps q.1)
 
   abbrev pub Takes : Take → Type 0
-  Takes take = (F : Frame) (E : Bound) (e : Tree) → IsQuiet W Q F.contract e → (s : State) → Leaves s (take (scope W F E) e s)
+  Takes take = (F : Frame) (E : BoundValues) (e : Tree) → IsQuiet W Q F.contract e → (s : State) → Leaves s (take (scope W F E) e s)
 
   abbrev pub IsQuietCallee : Principal → Callee → Type 0
   IsQuietCallee p (OwnFunction f) = Q p f
   IsQuietCallee p (ByName row at) = Unit {0}
 
   abbrev pub Enters : Enter → Type 0
-  Enters enter = (F : Frame) (E : Bound) (f : Callee) → IsQuietCallee F.contract f → (vs : List Val) (s : State) → Leaves s (enter (scope W F E) f vs s)
+  Enters enter = (F : Frame) (E : BoundValues) (f : Callee) → IsQuietCallee F.contract f → (vs : List Val) (s : State) → Leaves s (enter (scope W F E) f vs s)
 
   -- ---- names and values
 
@@ -99,7 +99,7 @@ module _ (W : Deployed) (Q : Principal → Function → Type 0) where
   leaves_values n cost vs s = leaves_charged _ _ (leaves_stop _ s)
 
   module _ (take : Take) (t : Takes take) where
-    leaves_parts : (F : Frame) (E : Bound) (es : List Tree) → AllQuiet W Q F.contract es → (s : State) → Leaves s (parts take (scope W F E) es s)
+    leaves_parts : (F : Frame) (E : BoundValues) (es : List Tree) → AllQuiet W Q F.contract es → (s : State) → Leaves s (parts take (scope W F E) es s)
     unfolding parts
     leaves_parts F E [] q s = leaves_stop _ s
     leaves_parts F E (e ∷ es) q s = leaves_then (t F E e q.0 s) (λ v u. leaves_then (leaves_parts F E es q.1 u) (λ vs w. leaves_stop _ w))
@@ -111,45 +111,45 @@ module _ (W : Deployed) (Q : Principal → Function → Type 0) where
 
     -- ---- control
 
-    leaves_if : (F : Frame) (E : Bound) (es : List Tree) → AllQuiet W Q F.contract es → (s : State) → Leaves s (if_form take (scope W F E) es s)
+    leaves_if : (F : Frame) (E : BoundValues) (es : List Tree) → AllQuiet W Q F.contract es → (s : State) → Leaves s (if_form take (scope W F E) es s)
     unfolding if_form
     leaves_if F E (b ∷ x ∷ y ∷ []) q s = leaves_charged _ _ (leaves_then (t F E b q.0 s) (λ v u. leaves_choice v (t F E x q.1.0) (t F E y q.1.1.0) u))
     leaves_if F E es q s = leaves_stop _ s
 
-    leaves_begin : (F : Frame) (E : Bound) (es : List Tree) → AllQuiet W Q F.contract es → (s : State) → Leaves s (begin_form take (scope W F E) es s)
+    leaves_begin : (F : Frame) (E : BoundValues) (es : List Tree) → AllQuiet W Q F.contract es → (s : State) → Leaves s (begin_form take (scope W F E) es s)
     unfolding begin_form
     leaves_begin F E es q s = leaves_charged _ _ (leaves_then (leaves_parts F E es q s) leaves_last)
 
-    leaves_let_in : (body : List Tree) (F : Frame) (E : Bound) → AllQuiet W Q F.contract body → (bs : List Tree) → AllQuietPairs W Q F.contract bs → (s : State) → Leaves s (let_in take body (scope W F E) bs s)
+    leaves_let_in : (body : List Tree) (F : Frame) (E : BoundValues) → AllQuiet W Q F.contract body → (bs : List Tree) → AllQuietPairs W Q F.contract bs → (s : State) → Leaves s (let_in take body (scope W F E) bs s)
     unfolding let_in
     leaves_let_in body F E q [] r s = leaves_then (leaves_parts F E body q s) leaves_last
     leaves_let_in body F E q (b ∷ bs) r s =
         leaves_known (binding_of b) (λ p u is. leaves_then (t F E p.1 (quiet_binding F.contract b r.0 p is) u) (λ v w. leaves_charged _ _ (leaves_let_in body F (E ++ (p.0, v) ∷ []) q bs r.1 w))) s
 
-    leaves_and_on : (F : Frame) (E : Bound) (es : List Tree) → AllQuiet W Q F.contract es → (s : State) → Leaves s (and_on take (scope W F E) es s)
+    leaves_and_on : (F : Frame) (E : BoundValues) (es : List Tree) → AllQuiet W Q F.contract es → (s : State) → Leaves s (and_on take (scope W F E) es s)
     unfolding and_on
     leaves_and_on F E [] q s = leaves_stop _ s
     leaves_and_on F E (e ∷ es) q s = leaves_then (t F E e q.0 s) (λ v u. leaves_choice v (leaves_and_on F E es q.1) (λ w. leaves_stop _ w) u)
 
-    leaves_or_on : (F : Frame) (E : Bound) (es : List Tree) → AllQuiet W Q F.contract es → (s : State) → Leaves s (or_on take (scope W F E) es s)
+    leaves_or_on : (F : Frame) (E : BoundValues) (es : List Tree) → AllQuiet W Q F.contract es → (s : State) → Leaves s (or_on take (scope W F E) es s)
     unfolding or_on
     leaves_or_on F E [] q s = leaves_stop _ s
     leaves_or_on F E (e ∷ es) q s = leaves_then (t F E e q.0 s) (λ v u. leaves_choice v (λ w. leaves_stop _ w) (leaves_or_on F E es q.1) u)
 
-    leaves_and : (F : Frame) (E : Bound) (es : List Tree) → AllQuiet W Q F.contract es → (s : State) → Leaves s (and_form take (scope W F E) es s)
+    leaves_and : (F : Frame) (E : BoundValues) (es : List Tree) → AllQuiet W Q F.contract es → (s : State) → Leaves s (and_form take (scope W F E) es s)
     unfolding and_form
     leaves_and F E [] q s = leaves_stop _ s
     leaves_and F E (e ∷ es) q s = leaves_charged _ _ (leaves_and_on F E (e ∷ es) q s)
 
-    leaves_or : (F : Frame) (E : Bound) (es : List Tree) → AllQuiet W Q F.contract es → (s : State) → Leaves s (or_form take (scope W F E) es s)
+    leaves_or : (F : Frame) (E : BoundValues) (es : List Tree) → AllQuiet W Q F.contract es → (s : State) → Leaves s (or_form take (scope W F E) es s)
     unfolding or_form
     leaves_or F E [] q s = leaves_stop _ s
     leaves_or F E (e ∷ es) q s = leaves_charged _ _ (leaves_or_on F E (e ∷ es) q s)
 
-    leaves_throwing : (F : Frame) (E : Bound) (e : Tree) → IsQuiet W Q F.contract e → (s : State) → Leaves s (throwing take (scope W F E) e s)
+    leaves_throwing : (F : Frame) (E : BoundValues) (e : Tree) → IsQuiet W Q F.contract e → (s : State) → Leaves s (throwing take (scope W F E) e s)
     leaves_throwing F E e q s = leaves_then (t F E e q s) (λ v u. leaves_stop (Thrown v) u)
 
-    leaves_asserts : (F : Frame) (E : Bound) (es : List Tree) → AllQuiet W Q F.contract es → (s : State) → Leaves s (asserts_form take (scope W F E) es s)
+    leaves_asserts : (F : Frame) (E : BoundValues) (es : List Tree) → AllQuiet W Q F.contract es → (s : State) → Leaves s (asserts_form take (scope W F E) es s)
     unfolding asserts_form
     leaves_asserts F E (b ∷ x ∷ []) q s = leaves_charged _ _ (leaves_then (t F E b q.0 s) (λ v u. leaves_choice v (λ w. leaves_stop _ w) (leaves_throwing F E x q.1.0) u))
     leaves_asserts F E es q s = leaves_stop _ s
@@ -166,12 +166,12 @@ module _ (W : Deployed) (Q : Principal → Function → Type 0) where
     leaves_err otherwise h (ResponseV true v) s = h s
     leaves_err otherwise h v s = leaves_stop _ s
 
-    leaves_unwrap : (F : Frame) (E : Bound) (es : List Tree) → AllQuiet W Q F.contract es → (s : State) → Leaves s (unwrap_form take (scope W F E) es s)
+    leaves_unwrap : (F : Frame) (E : BoundValues) (es : List Tree) → AllQuiet W Q F.contract es → (s : State) → Leaves s (unwrap_form take (scope W F E) es s)
     unfolding unwrap_form
     leaves_unwrap F E (e ∷ x ∷ []) q s = leaves_charged _ _ (leaves_then (t F E e q.0 s) (leaves_wanted (throwing take (scope W F E) x) (leaves_throwing F E x q.1.0)))
     leaves_unwrap F E es q s = leaves_stop _ s
 
-    leaves_unwrap_err : (F : Frame) (E : Bound) (es : List Tree) → AllQuiet W Q F.contract es → (s : State) → Leaves s (unwrap_err_form take (scope W F E) es s)
+    leaves_unwrap_err : (F : Frame) (E : BoundValues) (es : List Tree) → AllQuiet W Q F.contract es → (s : State) → Leaves s (unwrap_err_form take (scope W F E) es s)
     unfolding unwrap_err_form
     leaves_unwrap_err F E (e ∷ x ∷ []) q s = leaves_charged _ _ (leaves_then (t F E e q.0 s) (leaves_err (throwing take (scope W F E) x) (leaves_throwing F E x q.1.0)))
     leaves_unwrap_err F E es q s = leaves_stop _ s
@@ -183,59 +183,59 @@ module _ (W : Deployed) (Q : Principal → Function → Type 0) where
     leaves_tried (ResponseV false v) s = leaves_stop _ s
     leaves_tried v s = leaves_stop _ s
 
-    leaves_try : (F : Frame) (E : Bound) (es : List Tree) → AllQuiet W Q F.contract es → (s : State) → Leaves s (try_form take (scope W F E) es s)
+    leaves_try : (F : Frame) (E : BoundValues) (es : List Tree) → AllQuiet W Q F.contract es → (s : State) → Leaves s (try_form take (scope W F E) es s)
     unfolding try_form
     leaves_try F E (e ∷ []) q s = leaves_charged _ _ (leaves_then (t F E e q.0 s) leaves_tried)
     leaves_try F E es q s = leaves_stop _ s
 
-    leaves_with : (F : Frame) (E : Bound) (x : List ℕ) (v : Val) (e : Tree) → IsQuiet W Q F.contract e → (s : State) → Leaves s (taken_with take (scope W F E) x v e s)
+    leaves_with : (F : Frame) (E : BoundValues) (x : List ℕ) (v : Val) (e : Tree) → IsQuiet W Q F.contract e → (s : State) → Leaves s (taken_with take (scope W F E) x v e s)
     leaves_with F E x v e q s = leaves_charged _ _ (t F (E ++ (x, v) ∷ []) e q s)
 
-    leaves_optional : (F : Frame) (E : Bound) (x : List ℕ) (a b : Tree) → IsQuiet W Q F.contract a → IsQuiet W Q F.contract b → (v : Val) (s : State) → Leaves s (match_optional take (scope W F E) x a b v s)
+    leaves_optional : (F : Frame) (E : BoundValues) (x : List ℕ) (a b : Tree) → IsQuiet W Q F.contract a → IsQuiet W Q F.contract b → (v : Val) (s : State) → Leaves s (match_optional take (scope W F E) x a b v s)
     leaves_optional F E x a b q r (SomeV v) s = leaves_with F E x v a q s
     leaves_optional F E x a b q r NoneV s = t F E b r s
     leaves_optional F E x a b q r v s = leaves_stop _ s
 
-    leaves_response : (F : Frame) (E : Bound) (x : List ℕ) (a : Tree) (y : List ℕ) (b : Tree) → IsQuiet W Q F.contract a → IsQuiet W Q F.contract b → (v : Val) (s : State) → Leaves s (match_response take (scope W F E) x a y b v s)
+    leaves_response : (F : Frame) (E : BoundValues) (x : List ℕ) (a : Tree) (y : List ℕ) (b : Tree) → IsQuiet W Q F.contract a → IsQuiet W Q F.contract b → (v : Val) (s : State) → Leaves s (match_response take (scope W F E) x a y b v s)
     leaves_response F E x a y b q r (ResponseV true v) s = leaves_with F E x v a q s
     leaves_response F E x a y b q r (ResponseV false v) s = leaves_with F E y v b r s
     leaves_response F E x a y b q r v s = leaves_stop _ s
 
-    leaves_match : (F : Frame) (E : Bound) (es : List Tree) → AllQuiet W Q F.contract es → (s : State) → Leaves s (match_form take (scope W F E) es s)
+    leaves_match : (F : Frame) (E : BoundValues) (es : List Tree) → AllQuiet W Q F.contract es → (s : State) → Leaves s (match_form take (scope W F E) es s)
     unfolding match_form
     leaves_match F E (e ∷ LeafAt (Named x) at ∷ a ∷ b ∷ []) q s = leaves_charged _ _ (leaves_then (t F E e q.0 s) (leaves_optional F E x a b q.1.1.0 q.1.1.1.0))
     leaves_match F E (e ∷ LeafAt (Named x) at ∷ a ∷ LeafAt (Named y) at' ∷ b ∷ []) q s = leaves_charged _ _ (leaves_then (t F E e q.0 s) (leaves_response F E x a y b q.1.1.0 q.1.1.1.1.0))
     leaves_match F E es q s = leaves_stop _ s
 
-    leaves_as_contract : (F : Frame) (E : Bound) (es : List Tree) → AllQuiet W Q F.contract es → (s : State) → Leaves s (as_contract_form take (scope W F E) es s)
+    leaves_as_contract : (F : Frame) (E : BoundValues) (es : List Tree) → AllQuiet W Q F.contract es → (s : State) → Leaves s (as_contract_form take (scope W F E) es s)
     unfolding as_contract_form
     leaves_as_contract F E (e ∷ []) q s = leaves_charged _ _ (t (as_contract F) E e q.0 s)
     leaves_as_contract F E es q s = leaves_stop _ s
 
     -- ---- values
 
-    leaves_strict : (n : Native) (cost : CostName) (F : Frame) (E : Bound) (es : List Tree) → AllQuiet W Q F.contract es → (s : State) → Leaves s (strict_form n cost take (scope W F E) es s)
+    leaves_strict : (n : Native) (cost : CostName) (F : Frame) (E : BoundValues) (es : List Tree) → AllQuiet W Q F.contract es → (s : State) → Leaves s (strict_form n cost take (scope W F E) es s)
     unfolding strict_form
     leaves_strict n cost F E es q s = leaves_then (leaves_parts F E es q s) (leaves_values n cost)
 
-    leaves_tuple : (F : Frame) (E : Bound) (ps : List (List ℕ × Tree)) → AllQuiet W Q F.contract (map (λ (b : List ℕ × Tree). b.1) ps) → (s : State) → Leaves s (tuple_form take (scope W F E) ps s)
+    leaves_tuple : (F : Frame) (E : BoundValues) (ps : List (List ℕ × Tree)) → AllQuiet W Q F.contract (map (λ (b : List ℕ × Tree). b.1) ps) → (s : State) → Leaves s (tuple_form take (scope W F E) ps s)
     unfolding tuple_form
     leaves_tuple F E [] q s = leaves_stop _ s
     leaves_tuple F E (p ∷ ps) q s = leaves_then (leaves_parts F E _ q s) (λ vs u. leaves_charged _ _ (leaves_stop _ u))
 
-    leaves_get : (F : Frame) (E : Bound) (es : List Tree) → AllQuiet W Q F.contract es → (s : State) → Leaves s (get_form take (scope W F E) es s)
+    leaves_get : (F : Frame) (E : BoundValues) (es : List Tree) → AllQuiet W Q F.contract es → (s : State) → Leaves s (get_form take (scope W F E) es s)
     unfolding get_form
     leaves_get F E (LeafAt (Named key) at ∷ e ∷ []) q s = leaves_then (t F E e q.1.0 s) (λ v u. leaves_charged _ _ (leaves_stop _ u))
     leaves_get F E es q s = leaves_stop _ s
 
-    leaves_max_len : (F : Frame) (E : Bound) (es : List Tree) → AllQuiet W Q F.contract es → (s : State) → Leaves s (as_max_len_form take (scope W F E) es s)
+    leaves_max_len : (F : Frame) (E : BoundValues) (es : List Tree) → AllQuiet W Q F.contract es → (s : State) → Leaves s (as_max_len_form take (scope W F E) es s)
     unfolding as_max_len_form
     leaves_max_len F E (e ∷ LeafAt (Unsigned most) at ∷ []) q s = leaves_then (t F E e q.0 s) (λ v u. leaves_charged _ _ (leaves_stop _ u))
     leaves_max_len F E es q s = leaves_stop _ s
 
     -- ---- data and tokens that are read, and events
 
-    leaves_map_get : (F : Frame) (E : Bound) (es : List Tree) → AllQuiet W Q F.contract es → (s : State) → Leaves s (map_get_form take (scope W F E) es s)
+    leaves_map_get : (F : Frame) (E : BoundValues) (es : List Tree) → AllQuiet W Q F.contract es → (s : State) → Leaves s (map_get_form take (scope W F E) es s)
     unfolding map_get_form
     leaves_map_get F E (LeafAt (Named m) at ∷ k ∷ []) q s = leaves_then (t F E k q.1.0 s) (λ key u. leaves_only _ (λ w. leaves_charged _ _ (leaves_stop _ w)) u)
       where
@@ -248,32 +248,32 @@ module _ (W : Deployed) (Q : Principal → Function → Type 0) where
     leaves_balance (PrincipalV who) l s = leaves_stop _ s
     leaves_balance v l s = leaves_stop _ s
 
-    leaves_ft_balance : (F : Frame) (E : Bound) (es : List Tree) → AllQuiet W Q F.contract es → (s : State) → Leaves s (ft_balance_form take (scope W F E) es s)
+    leaves_ft_balance : (F : Frame) (E : BoundValues) (es : List Tree) → AllQuiet W Q F.contract es → (s : State) → Leaves s (ft_balance_form take (scope W F E) es s)
     unfolding ft_balance_form
     leaves_ft_balance F E (LeafAt (Named token) at ∷ e ∷ []) q s = leaves_then (t F E e q.1.0 s) (λ v u. leaves_charged _ _ (leaves_known (get (here (scope W F E) token) u.fungibles) (λ l w is. leaves_balance v l w) u))
     leaves_ft_balance F E es q s = leaves_stop _ s
 
-    leaves_stx_balance : (F : Frame) (E : Bound) (es : List Tree) → AllQuiet W Q F.contract es → (s : State) → Leaves s (stx_balance_form take (scope W F E) es s)
+    leaves_stx_balance : (F : Frame) (E : BoundValues) (es : List Tree) → AllQuiet W Q F.contract es → (s : State) → Leaves s (stx_balance_form take (scope W F E) es s)
     unfolding stx_balance_form
     leaves_stx_balance F E (e ∷ []) q s = leaves_then (t F E e q.0 s) (λ v u. leaves_charged _ _ (leaves_balance v u.stx u))
     leaves_stx_balance F E es q s = leaves_stop _ s
 
-    leaves_nft_owner : (F : Frame) (E : Bound) (es : List Tree) → AllQuiet W Q F.contract es → (s : State) → Leaves s (nft_owner_form take (scope W F E) es s)
+    leaves_nft_owner : (F : Frame) (E : BoundValues) (es : List Tree) → AllQuiet W Q F.contract es → (s : State) → Leaves s (nft_owner_form take (scope W F E) es s)
     unfolding nft_owner_form
     leaves_nft_owner F E (LeafAt (Named token) at ∷ e ∷ []) q s = leaves_then (t F E e q.1.0 s) (λ id u. leaves_charged _ _ (leaves_known (get (here (scope W F E) token) u.nonfungibles) (λ owners w is. leaves_known (owner_value (get (wire id) owners)) (λ v x is. leaves_stop (Given v) x) w) u))
     leaves_nft_owner F E es q s = leaves_stop _ s
 
-    leaves_print : (F : Frame) (E : Bound) (es : List Tree) → AllQuiet W Q F.contract es → (s : State) → Leaves s (print_form take (scope W F E) es s)
+    leaves_print : (F : Frame) (E : BoundValues) (es : List Tree) → AllQuiet W Q F.contract es → (s : State) → Leaves s (print_form take (scope W F E) es s)
     unfolding print_form
     leaves_print F E (e ∷ []) q s = leaves_then (t F E e q.0 s) (λ v u. leaves_charged _ _ (leaves_at (Given v) u _ (one_printed _ v u)))
     leaves_print F E es q s = leaves_stop _ s
 
-  leaves_var_get : (F : Frame) (E : Bound) (es : List Tree) (s : State) → Leaves s (var_get_form (scope W F E) es s)
+  leaves_var_get : (F : Frame) (E : BoundValues) (es : List Tree) (s : State) → Leaves s (var_get_form (scope W F E) es s)
   unfolding var_get_form
   leaves_var_get F E (LeafAt (Named x) at ∷ []) s = leaves_known (get (here (scope W F E) x) s.variables) (λ v u is. leaves_charged ReadVar (size_of v) (leaves_stop (Given v) u)) s
   leaves_var_get F E es s = leaves_stop _ s
 
-  leaves_ft_supply : (F : Frame) (E : Bound) (es : List Tree) (s : State) → Leaves s (ft_supply_form (scope W F E) es s)
+  leaves_ft_supply : (F : Frame) (E : BoundValues) (es : List Tree) (s : State) → Leaves s (ft_supply_form (scope W F E) es s)
   unfolding ft_supply_form
   leaves_ft_supply F E (LeafAt (Named token) at ∷ []) s = leaves_charged _ _ (leaves_known (get (here (scope W F E) token) s.fungibles) (λ l u is. leaves_stop (Given (UintV l.supply)) u) s)
   leaves_ft_supply F E es s = leaves_stop _ s
@@ -304,22 +304,22 @@ module _ (W : Deployed) (Q : Principal → Function → Type 0) where
         same_callee : (g f : Callee) → Some g ≡ Some f → g ≡ f
         same_callee g f is = cc
 
-    leaves_each : (F : Frame) (E : Bound) (f : Callee) → IsQuietCallee F.contract f → (rows : List (List Val)) (s : State) → Leaves s (each enter (scope W F E) f rows s)
+    leaves_each : (F : Frame) (E : BoundValues) (f : Callee) → IsQuietCallee F.contract f → (rows : List (List Val)) (s : State) → Leaves s (each enter (scope W F E) f rows s)
     unfolding each
     leaves_each F E f q [] s = leaves_stop _ s
     leaves_each F E f q (r ∷ rs) s = leaves_then (n F E f q r s) (λ v u. leaves_then (leaves_each F E f q rs u) (λ vs w. leaves_stop _ w))
 
-    leaves_mapped : (F : Frame) (E : Bound) (vs : List Val) (f : Callee) → IsQuietCallee F.contract f → (s : State) → Leaves s (mapped enter (scope W F E) vs f s)
+    leaves_mapped : (F : Frame) (E : BoundValues) (vs : List Val) (f : Callee) → IsQuietCallee F.contract f → (s : State) → Leaves s (mapped enter (scope W F E) vs f s)
     leaves_mapped F E vs f q s = leaves_known (rows_of (all_entries vs)) (λ rs u is. leaves_then (leaves_each F E f q rs u) (λ ws w. leaves_stop _ w)) s
 
-    leaves_map : (F : Frame) (E : Bound) (es : Forest) → IsQuietUse W Q F.contract es → AllQuiet W Q F.contract (trees_of es) → (s : State) → Leaves s (map_form take enter (scope W F E) (trees_of es) s)
+    leaves_map : (F : Frame) (E : BoundValues) (es : Forest) → IsQuietUse W Q F.contract es → AllQuiet W Q F.contract (trees_of es) → (s : State) → Leaves s (map_form take enter (scope W F E) (trees_of es) s)
     unfolding map_form
     leaves_map F E (Then (LeafAt (Named f) at) es) given q s =
         leaves_then (leaves_parts take t F E (trees_of es) q.1 s)
         (λ vs u. leaves_charged _ _ (leaves_known (callee_of (scope W F E) f at) (λ g w is. leaves_mapped F E vs g (choice_quiet F.contract _ (row_quiet F.contract at (native f) _ given) g is) w) u))
     leaves_map F E es given q s = leaves_stop _ s
 
-    leaves_sifted : (F : Frame) (E : Bound) (f : Callee) → IsQuietCallee F.contract f → (xs : List Val) (s : State) → Leaves s (sifted enter (scope W F E) f xs s)
+    leaves_sifted : (F : Frame) (E : BoundValues) (f : Callee) → IsQuietCallee F.contract f → (xs : List Val) (s : State) → Leaves s (sifted enter (scope W F E) f xs s)
     unfolding sifted
     leaves_sifted F E f q [] s = leaves_stop _ s
     leaves_sifted F E f q (x ∷ xs) s = leaves_then (n F E f q (x ∷ []) s) (λ v u. leaves_then (leaves_sifted F E f q xs u) (λ ys w. leaves_kept v x ys w))
@@ -329,22 +329,22 @@ module _ (W : Deployed) (Q : Principal → Function → Type 0) where
         leaves_kept (BoolV false) x xs s = leaves_stop _ s
         leaves_kept v x xs s = leaves_stop _ s
 
-    leaves_filtered : (F : Frame) (E : Bound) (v : Val) (f : Callee) → IsQuietCallee F.contract f → (s : State) → Leaves s (filtered enter (scope W F E) v f s)
+    leaves_filtered : (F : Frame) (E : BoundValues) (v : Val) (f : Callee) → IsQuietCallee F.contract f → (s : State) → Leaves s (filtered enter (scope W F E) v f s)
     leaves_filtered F E v f q s = leaves_known (entries_of v) (λ xs u is. leaves_then (leaves_sifted F E f q xs u) (λ ys w. leaves_stop _ w)) s
 
-    leaves_filter : (F : Frame) (E : Bound) (es : Forest) → IsQuietUse W Q F.contract es → AllQuiet W Q F.contract (trees_of es) → (s : State) → Leaves s (filter_form take enter (scope W F E) (trees_of es) s)
+    leaves_filter : (F : Frame) (E : BoundValues) (es : Forest) → IsQuietUse W Q F.contract es → AllQuiet W Q F.contract (trees_of es) → (s : State) → Leaves s (filter_form take enter (scope W F E) (trees_of es) s)
     unfolding filter_form
     leaves_filter F E (Then (LeafAt (Named f) at) (Then e Empty)) given q s =
         leaves_then (t F E e q.1.0 s)
         (λ v u. leaves_charged _ _ (leaves_known (callee_of (scope W F E) f at) (λ g w is. leaves_filtered F E v g (choice_quiet F.contract _ (row_quiet F.contract at (native f) _ given) g is) w) u))
     leaves_filter F E es given q s = leaves_stop _ s
 
-    leaves_folded : (F : Frame) (E : Bound) (f : Callee) → IsQuietCallee F.contract f → (xs : List Val) (result : Val) (s : State) → Leaves s (folded enter (scope W F E) f xs result s)
+    leaves_folded : (F : Frame) (E : BoundValues) (f : Callee) → IsQuietCallee F.contract f → (xs : List Val) (result : Val) (s : State) → Leaves s (folded enter (scope W F E) f xs result s)
     unfolding folded
     leaves_folded F E f q [] result s = leaves_stop _ s
     leaves_folded F E f q (x ∷ xs) result s = leaves_then (n F E f q (x ∷ result ∷ []) s) (leaves_folded F E f q xs)
 
-    leaves_fold : (F : Frame) (E : Bound) (es : Forest) → IsQuietUse W Q F.contract es → AllQuiet W Q F.contract (trees_of es) → (s : State) → Leaves s (fold_form take enter (scope W F E) (trees_of es) s)
+    leaves_fold : (F : Frame) (E : BoundValues) (es : Forest) → IsQuietUse W Q F.contract es → AllQuiet W Q F.contract (trees_of es) → (s : State) → Leaves s (fold_form take enter (scope W F E) (trees_of es) s)
     unfolding fold_form
     leaves_fold F E (Then (LeafAt (Named f) at) (Then e (Then i Empty))) given q s =
         leaves_then (t F E e q.1.0 s) (λ v u. leaves_then (t F E i q.1.1.0 u)
@@ -353,7 +353,7 @@ module _ (W : Deployed) (Q : Principal → Function → Type 0) where
 
     -- ---- calls
 
-    leaves_call : (x : List ℕ) (F : Frame) (E : Bound) → IsQuietOne W Q F.contract (function_of x (contract_at F.contract W)) → (es : List Tree) → AllQuiet W Q F.contract es → (s : State) → Leaves s (call_form x take enter (scope W F E) es s)
+    leaves_call : (x : List ℕ) (F : Frame) (E : BoundValues) → IsQuietOne W Q F.contract (function_of x (contract_at F.contract W)) → (es : List Tree) → AllQuiet W Q F.contract es → (s : State) → Leaves s (call_form x take enter (scope W F E) es s)
     unfolding call_form
     leaves_call x F E one es q s =
         leaves_then (leaves_parts take t F E es q s)
@@ -366,7 +366,7 @@ module _ (W : Deployed) (Q : Principal → Function → Type 0) where
         quiet_one None q f is = absurd cc
         quiet_one (Some g) q f is = subst (Q F.contract) (same_function g f is) q
 
-    leaves_across : (F : Frame) (E : Bound) (es : Forest) → IsQuietAcross W Q F.contract es → AllQuiet W Q F.contract (trees_of es) → (s : State) → Leaves s (contract_call_form take enter (scope W F E) (trees_of es) s)
+    leaves_across : (F : Frame) (E : BoundValues) (es : Forest) → IsQuietAcross W Q F.contract es → AllQuiet W Q F.contract (trees_of es) → (s : State) → Leaves s (contract_call_form take enter (scope W F E) (trees_of es) s)
     unfolding contract_call_form
     leaves_across F E (Then e (Then (LeafAt (Named x) at) es)) across q s =
         leaves_then (leaves_parts take t F E (trees_of es) q.1.1 s)
@@ -380,11 +380,11 @@ module _ (W : Deployed) (Q : Principal → Function → Type 0) where
     leaves_keyword S (Some k) other s h = leaves_standing _ _ s
     leaves_keyword S None other s h = h
 
-    leaves_name : (F : Frame) (E : Bound) (x : List ℕ) (s : State) → Leaves s (name_form (scope W F E) x s)
+    leaves_name : (F : Frame) (E : BoundValues) (x : List ℕ) (s : State) → Leaves s (name_form (scope W F E) x s)
     unfolding name_form
     leaves_name F E x s = leaves_keyword (scope W F E) (keyword_of x) (known_form (scope W F E) x) s (leaves_known (option_or (value_of x E) (constant_of x (contract_at F.contract W))) (λ v u is. leaves_standing Lookup v u) s)
 
-    leaves_leaf : (F : Frame) (E : Bound) (leaf : Leaf) (s : State) → Leaves s (leaf_form (scope W F E) leaf s)
+    leaves_leaf : (F : Frame) (E : BoundValues) (leaf : Leaf) (s : State) → Leaves s (leaf_form (scope W F E) leaf s)
     unfolding leaf_form
     leaves_leaf F E (Named x) s = leaves_name F E x s
     leaves_leaf F E (Signed z) s = leaves_standing _ _ s
@@ -395,12 +395,12 @@ module _ (W : Deployed) (Q : Principal → Function → Type 0) where
     leaves_leaf F E (Standing p) s = leaves_standing _ _ s
     leaves_leaf F E (Local x) s = leaves_standing _ _ s
 
-    leaves_let : (F : Frame) (E : Bound) (es : Forest) → AreQuietBehind W Q F.contract AtBindings es → (s : State) → Leaves s (let_form take (scope W F E) (trees_of es) s)
+    leaves_let : (F : Frame) (E : BoundValues) (es : Forest) → AreQuietBehind W Q F.contract AtBindings es → (s : State) → Leaves s (let_form take (scope W F E) (trees_of es) s)
     unfolding let_form
     leaves_let F E (Then (ListAt bs at) body) q s = leaves_charged _ _ (leaves_let_in take t (trees_of body) F E (plain_items F.contract body q.1) (trees_of bs) (pair_items F.contract bs q.0) s)
     leaves_let F E es q s = leaves_stop _ s
 
-    leaves_head : (head : Head) (cost : CostName) (F : Frame) (E : Bound) (es : Forest) → IsQuietHead W Q F.contract head es → AreQuietBehind W Q F.contract (way_of_head head) es → (s : State) → Leaves s (head_form head cost take enter (scope W F E) (trees_of es) s)
+    leaves_head : (head : Head) (cost : CostName) (F : Frame) (E : BoundValues) (es : Forest) → IsQuietHead W Q F.contract head es → AreQuietBehind W Q F.contract (way_of_head head) es → (s : State) → Leaves s (head_form head cost take enter (scope W F E) (trees_of es) s)
     unfolding head_form
     leaves_head (OnValues m) cost F E es h q s = leaves_strict take t m cost F E (trees_of es) (plain_items F.contract es q) s
     leaves_head (OnToken act) cost F E es h q s = absurd h
@@ -434,11 +434,11 @@ module _ (W : Deployed) (Q : Principal → Function → Type 0) where
     leaves_head Fold cost F E es h q s = leaves_fold F E es h (plain_items F.contract es q) s
     leaves_head ContractCall cost F E es h q s = leaves_across F E es h (plain_items F.contract es q) s
 
-    leaves_operator : (o : Option Row) (x : List ℕ) (F : Frame) (E : Bound) (es : Forest) → IsQuietCall W Q F.contract o x es → AreQuietBehind W Q F.contract (way_of o) es → (s : State) → Leaves s (operator o x take enter (scope W F E) (trees_of es) s)
+    leaves_operator : (o : Option Row) (x : List ℕ) (F : Frame) (E : BoundValues) (es : Forest) → IsQuietCall W Q F.contract o x es → AreQuietBehind W Q F.contract (way_of o) es → (s : State) → Leaves s (operator o x take enter (scope W F E) (trees_of es) s)
     leaves_operator (Some row) x F E es h q s = leaves_head row.head row.cost F E es h q s
     leaves_operator None x F E es h q s = leaves_call x F E h (trees_of es) (plain_items F.contract es q) s
 
-    leaves_node : (F : Frame) (E : Bound) (e : Tree) → IsQuiet W Q F.contract e → (s : State) → Leaves s (node take enter (scope W F E) e s)
+    leaves_node : (F : Frame) (E : BoundValues) (e : Tree) → IsQuiet W Q F.contract e → (s : State) → Leaves s (node take enter (scope W F E) e s)
     unfolding node
     leaves_node F E (LeafAt leaf at) q s = leaves_leaf F E leaf s
     leaves_node F E (TupleAt ps at) q s = leaves_tuple take t F E (pairs_of ps) (pair_parts F.contract ps q) s
@@ -464,7 +464,7 @@ module _ (W : Deployed) (Q : Principal → Function → Type 0) where
   unfolding and_then
   leaves_closed access s a h = closed_case access s a.outcome a.state a.log h.untouched
 
-  leaves_bound : (body : Bound → State → Answer Val) → ((E : Bound) (u : State) → Leaves u (body E u)) → (E : Bound) (ps : List (List ℕ × PlainType)) (vs : List Val) (s : State) → Leaves s (bound_to body E ps vs s)
+  leaves_bound : (body : BoundValues → State → Answer Val) → ((E : BoundValues) (u : State) → Leaves u (body E u)) → (E : BoundValues) (ps : List (List ℕ × PlainType)) (vs : List Val) (s : State) → Leaves s (bound_to body E ps vs s)
   unfolding bound_to
   leaves_bound body h E [] [] s = h E s
   leaves_bound body h E (p ∷ ps) (v ∷ vs) s = leaves_charged _ _ (leaves_bound body h (E ++ (p.0, v) ∷ []) ps vs s)
@@ -487,7 +487,7 @@ module _ (W : Deployed) (Q : Principal → Function → Type 0) where
   IsClosed = (p : Principal) (f : Function) → Q p f → IsQuiet W Q p f.body
 
   module _ (bodies : IsClosed) where
-    leaves_application : (take : Take) → Takes take → (F : Frame) (E : Bound) (f : Callee) → IsQuietCallee F.contract f → (vs : List Val) (s : State) → Leaves s (application take (scope W F E) f vs s)
+    leaves_application : (take : Take) → Takes take → (F : Frame) (E : BoundValues) (f : Callee) → IsQuietCallee F.contract f → (vs : List Val) (s : State) → Leaves s (application take (scope W F E) f vs s)
     unfolding application function_form
     leaves_application take t F E (OwnFunction f) q vs s =
         leaves_charged _ _ (leaves_bound (body_in take (scope W F E) f) (λ B u. leaves_closed f.access u _ (leaves_returning (t F B f.body (bodies F.contract f q) u))) [] f.params vs s)

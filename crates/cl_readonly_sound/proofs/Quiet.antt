@@ -7,10 +7,10 @@ use Rattle.cl_forms.specs.declared.head.Head.{Head}
 use Rattle.cl_forms.specs.declared.head.Head.TheVariants.{OnToken, TupleOf, VarSet, MapSet, MapInsert, MapDelete, Let, Map, Filter, Fold, ContractCall}
 use Rattle.cl_forms.specs.Heads.{Row, native}
 use Rattle.cl_meaning.specs.Deployed.{Contract, Deployed, Function, contract_at, function_in, function_of}
-use Rattle.cl_meaning.specs.Scope.{Frame, Bound, Scope}
+use Rattle.cl_meaning.specs.Scope.{Frame, BoundValues, Scope}
 use Rattle.cl_meaning.specs.Calls.{callable, target_of, other_contract}
 
-abbrev pub scope : Deployed → Frame → Bound → Scope
+abbrev pub scope : Deployed → Frame → BoundValues → Scope
 scope W F E = record { deployed = W; frame = F; bound = E }
 
 -- how the items behind an operator are taken: as they stand; the first as a list of bindings; all as pairs
@@ -39,7 +39,7 @@ module _ (W : Deployed) (Q : Principal → Function → Type 0) (p : Principal) 
   -- the function of another contract
   abbrev pub IsQuietAcross : Forest → Type 0
   IsQuietAcross (Then e (Then (LeafAt (Named x) at) es)) =
-      (F : Frame) (E : Bound) → F.contract ≡ p → (c : Contract) → option_and_then (other_contract (scope W F E)) (target_of (scope W F E) e) ≡ Some c → (f : Function) → option_and_then callable (function_in x c.forms) ≡ Some f → Q c.principal f
+      (F : Frame) (E : BoundValues) → F.contract ≡ p → (c : Contract) → option_and_then (other_contract (scope W F E)) (target_of (scope W F E) e) ≡ Some c → (f : Function) → option_and_then callable (function_in x c.forms) ≡ Some f → Q c.principal f
   IsQuietAcross es = Unit {0}
 
   abbrev pub IsQuietHead : Head → Forest → Type 0
