@@ -1,9 +1,10 @@
 //! Texts of addresses that were made before.
 ghost use Rattle.std.specs.Prelude.{◌≡◌, ◌++◌, [], IfOk, length};
 ghost use Rattle.cl_c32.specs.Codec.{address_text};
-ghost use Rattle.cl_text.specs.Printed.{contract_text, principal_text};
+ghost use Rattle.cl_text.specs.Printed.{principal_text};
 
-use cl_c32::{Address, AddressText, ContractName, Principal, encode};
+use cl_c32::{Address, AddressText, Principal, encode};
+use cl_text::write_contract;
 use cl_types::NoMemory;
 use std::alloc::Global;
 use std::marker::Model;
@@ -123,14 +124,4 @@ impl AddressCache {
 // alone are spread.
 fn slot_of(address: &Address) -> usize {
     usize::from(address.hash[0].wrapping_add(address.hash[19]))
-}
-
-fn write_contract(out: &mut Vec<u8>, contract: &Option<ContractName>) -> Result<(), NoMemory>
-    ensures { IfOk result (λ _. out.new.items ≡ out.old.items ++ contract_text contract.now) }
-{
-    if let Some(name) = contract {
-        out.push(b'.')?;
-        out.extend_from_slice(name.bytes())?;
-    }
-    Ok(())
 }

@@ -84,12 +84,13 @@ impl Tables {
         ensures state { IfOk result (λ t. state_of (held_in t) ≡ genesis holders.now) }
         ensures sound { IfOk result (λ t. IsSound (held_in t)) }
     {
+        let stx = paid(alloc, holders)?;
         Ok(Tables {
             variables: Table::new(alloc),
             entries: Table::new(alloc),
             fungibles: IndexMap::new(alloc),
             nonfungibles: IndexMap::new(alloc),
-            stx: paid(alloc, holders)?,
+            stx,
             fungibles_touched: Touched::none(),
             nonfungibles_touched: Touched::none(),
         })

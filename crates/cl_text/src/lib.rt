@@ -12,6 +12,6 @@ mod word;
 
 pub use laws::{each_text_has_an_outcome, one_outcome, printed_is_read};
 pub use parser::parse;
-pub use printer::{print_principal, print_value};
+pub use printer::{print_principal, print_value, write_contract};
 pub use refusal::TextRefusal;
 pub use type_printer::print_type;

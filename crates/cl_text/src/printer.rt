@@ -144,7 +144,8 @@ fn write_utf8(out: &mut Vec<u8>, alloc: Global, characters: &[char]) -> Result<(
     write_bytes(out, b"\"")
 }
 
-fn write_contract(out: &mut Vec<u8>, contract: &Option<ContractName>) -> Result<(), NoMemory>
+/// Writes the part of a principal behind its address: for a contract `.` and its name.
+pub fn write_contract(out: &mut Vec<u8>, contract: &Option<ContractName>) -> Result<(), NoMemory>
     ensures { IfOk result (λ _. out.new.items ≡ out.old.items ++ contract_text contract.now) }
 {
     match contract {
