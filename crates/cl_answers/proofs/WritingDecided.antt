@@ -1,81 +1,23 @@
 -- Whether a function writes: the functions that write are found one after another, each by a body that writes where those
 -- found before do, until there is no more.
 use Rattle.std.proofs.Common.{◌≡◌, ◌⊎◌, inl, inr, ℕ, zero, suc, ◌≤◌, Bool, true, false, List, [], ◌∷◌, length, Option, Some, None, refl, sym, ap, subst, ◌∙◌, arith}
-use Rattle.std.specs.Prelude.{Contains, codes, ◌||◌, ◌&&◌}
-use Rattle.std.specs.List.{list_any}
-use Rattle.std.proofs.lemmas.Bool.{or_cases, or_left, or_right, and_parts, and_from, false≢true}
+use Rattle.std.specs.Prelude.{Contains}
+use Rattle.std.proofs.lemmas.Bool.{or_cases, or_left, or_right, false≢true}
 use Rattle.std.proofs.lemmas.List.Elements.{Contains-push, Contains-append_left, Contains-append_right}
 use Rattle.cl_types.specs.Types.{PlainType}
 use Rattle.cl_types.specs.declared.sized.Access.{Access}
 use Rattle.cl_types.proofs.Lattice.{keys_equal, key_same}
-use Rattle.cl_sexpr.specs.Tree.{Tree, LeafAt, Leaf, Named, Forest, Then}
+use Rattle.cl_sexpr.specs.Tree.{Tree, Leaf}
 use Rattle.cl_forms.specs.Forms.{Form, FormKind, FunctionForm}
 use Rattle.cl_forms.specs.Names.{same, is_one_of}
-use Rattle.cl_forms.specs.Writes.{writing_natives, applying_natives, Call, calls_in, Writes, WritesIn, has_writing_body, by_native, by_function, by_name, by_contract}
+use Rattle.cl_forms.specs.Writes.{Writes, WritesIn, has_writing_body, by_native, by_function, by_name, by_contract, has_write}
+use Rattle.cl_forms.proofs.Writing.{native_there, function_there, name_there, contract_there, write_is}
 use Rattle.cl_answers.specs.Laws.{EachWritesOrNot}
 
-any_there : {A : Type 0} (test : A → Bool) (xs : List A) (x : A) → Contains xs x → test x ≡ true → list_any test xs ≡ true
-any_there test [] x (n, l, e) h = absurd (omega (arith, l))
-any_there test (y ∷ xs) x (zero, l, e) h = or_left (test y) (list_any test xs) (ap test e ∙ h)
-any_there test (y ∷ xs) x (suc n, l, e) h = or_right (test y) (list_any test xs) (any_there test xs x (n, omega (arith, l), e) h)
-
-any_is : {A : Type 0} (test : A → Bool) (xs : List A) → list_any test xs ≡ true → (x : A) × Contains xs x × (test x ≡ true)
-any_is test [] h = absurd (false≢true h)
-any_is test (x ∷ xs) h =
-    elim (or_cases (test x) (list_any test xs) h) [
-      | inl first ↦ (x, Contains-append_left (x ∷ []) xs x (Contains-push [] x), first)
-      | inr later ↦ let rest = any_is test xs later in (rest.0, Contains-append_right (x ∷ []) xs rest.0 rest.1, rest.2)
-    ]
-
 module _ (forms : List Form) (is_public : Leaf → List ℕ → Bool) where
-  -- ---- a call that writes, where these functions do
-
-  abbrev gives_one : List (List ℕ) → Forest → Bool
-  gives_one fs (Then (LeafAt (Named f) at) parts) = is_one_of fs f
-  gives_one fs parts = false
-
-  abbrev crosses : Forest → Bool
-  crosses (Then (LeafAt contract at) (Then (LeafAt (Named f) at') parts)) = is_public contract f
-  crosses parts = false
-
-  abbrev call_writes : List (List ℕ) → Call → Bool
-  call_writes fs c =
-      is_one_of writing_natives c.operator
-      || (is_one_of fs c.operator
-      || ((is_one_of applying_natives c.operator && gives_one fs c.parts)
-      || (same c.operator (codes "contract-call?") && crosses c.parts)))
-
-  abbrev has_write : List (List ℕ) → Tree → Bool
-  has_write fs e = list_any (call_writes fs) (calls_in e)
-
   -- each of these writes
   abbrev AllWrite : List (List ℕ) → Type 0
   AllWrite fs = (x : List ℕ) → is_one_of fs x ≡ true → Writes forms is_public x
-
-  module _ (fs : List (List ℕ)) (each : AllWrite fs) (e : Tree) where
-    given_writes : (x : List ℕ) (parts : Forest) → Contains (calls_in e) (record { operator = x; parts = parts }) → is_one_of applying_natives x ≡ true → gives_one fs parts ≡ true → WritesIn forms is_public e
-    given_writes x (Then (LeafAt (Named f) at) parts) there applies h = by_name at there applies (each f h)
-    given_writes x parts there applies h = absurd cc
-
-    crossing_writes : (x : List ℕ) (parts : Forest) → Contains (calls_in e) (record { operator = x; parts = parts }) → same x (codes "contract-call?") ≡ true → crosses parts ≡ true → WritesIn forms is_public e
-    crossing_writes x (Then (LeafAt contract at) (Then (LeafAt (Named f) at') parts)) there is h = by_contract at at' there (keys_equal x (codes "contract-call?") is) h
-    crossing_writes x parts there is h = absurd cc
-
-    call_is : (c : Call) → Contains (calls_in e) c → call_writes fs c ≡ true → WritesIn forms is_public e
-    call_is c there h =
-        elim (or_cases (is_one_of writing_natives c.operator) _ h) [
-          | inl native ↦ by_native there native
-          | inr h ↦ elim (or_cases (is_one_of fs c.operator) _ h) [
-            | inl function ↦ by_function there (each c.operator function)
-            | inr h ↦ elim (or_cases (is_one_of applying_natives c.operator && gives_one fs c.parts) _ h) [
-              | inl h ↦ let both = and_parts (is_one_of applying_natives c.operator) (gives_one fs c.parts) h in given_writes c.operator c.parts there both.0 both.1
-              | inr h ↦ let both = and_parts (same c.operator (codes "contract-call?")) (crosses c.parts) h in crossing_writes c.operator c.parts there both.0 both.1
-            ]
-          ]
-        ]
-
-    write_is : has_write fs e ≡ true → WritesIn forms is_public e
-    write_is h = let call = any_is (call_writes fs) (calls_in e) h in call_is call.0 call.1 call.2
 
   -- ---- functions with such a call
 
@@ -87,10 +29,10 @@ module _ (forms : List Form) (is_public : Leaf → List ℕ → Bool) where
     body : Tree
     named : form.name ≡ Some name
     function : form.kind ≡ FunctionForm access params body
-    writes : has_write fs body ≡ true
+    writes : has_write (is_one_of fs) is_public body ≡ true
 
   next_writes : (fs : List (List ℕ)) → AllWrite fs → (form : Form) → Contains forms form → (n : Next fs form) → Writes forms is_public n.name
-  next_writes fs each form there n = has_writing_body (record { form = form; access = n.access; params = n.params; there = there; named = n.named; function = n.function }) (write_is fs each n.body n.writes)
+  next_writes fs each form there n = has_writing_body (record { form = form; access = n.access; params = n.params; there = there; named = n.named; function = n.function }) (write_is is_public (is_one_of fs) n.body forms each n.writes)
 
   same_body : (a b : Access) (ps qs : List (List ℕ × PlainType)) (c d : Tree) → FunctionForm a ps c ≡ FunctionForm b qs d → c ≡ d
   same_body a b ps qs c d h = cc
@@ -98,12 +40,12 @@ module _ (forms : List Form) (is_public : Leaf → List ℕ → Bool) where
   next_or_not : (fs : List (List ℕ)) (form : Form) → Next fs form ⊎ (Next fs form → ⊥)
   next_or_not fs form = by_name form.name refl
     where
-      by_test : (name : List ℕ) (access : Access) (params : List (List ℕ × PlainType)) (body : Tree) → form.name ≡ Some name → form.kind ≡ FunctionForm access params body → (b : Bool) → has_write fs body ≡ b → Next fs form ⊎ (Next fs form → ⊥)
+      by_test : (name : List ℕ) (access : Access) (params : List (List ℕ × PlainType)) (body : Tree) → form.name ≡ Some name → form.kind ≡ FunctionForm access params body → (b : Bool) → has_write (is_one_of fs) is_public body ≡ b → Next fs form ⊎ (Next fs form → ⊥)
       by_test name access params body named kind true h = inl (record { name = name; access = access; params = params; body = body; named = named; function = kind; writes = h })
-      by_test name access params body named kind false h = inr (λ n. false≢true (sym h ∙ ap (has_write fs) (same_body access n.access params n.params body n.body (sym kind ∙ n.function)) ∙ n.writes))
+      by_test name access params body named kind false h = inr (λ n. false≢true (sym h ∙ ap (has_write (is_one_of fs) is_public) (same_body access n.access params n.params body n.body (sym kind ∙ n.function)) ∙ n.writes))
 
       by_kind : (name : List ℕ) → form.name ≡ Some name → (kind : FormKind) → form.kind ≡ kind → Next fs form ⊎ (Next fs form → ⊥)
-      by_kind name named (FunctionForm access params body) is = by_test name access params body named is (has_write fs body) refl
+      by_kind name named (FunctionForm access params body) is = by_test name access params body named is (has_write (is_one_of fs) is_public body) refl
       by_kind name named kind is = inr (λ n. none n.access n.params n.body (sym is ∙ n.function))
         where
           none : (access : Access) (params : List (List ℕ × PlainType)) (body : Tree) → kind ≡ FunctionForm access params body → ⊥
@@ -217,20 +159,11 @@ module _ (forms : List Form) (is_public : Leaf → List ℕ → Bool) where
       writes_is {x = x} (has_writing_body {body = body} d w) =
           set.closed d.form d.there (record { name = x; access = d.access; params = d.params; body = body; named = d.named; function = d.function; writes = body_writes w })
 
-      body_writes : {e : Tree} → WritesIn forms is_public e → has_write set.functions e ≡ true
-      body_writes {e = e} (by_native {x = x} {parts = parts} there h) =
-          any_there (call_writes set.functions) (calls_in e) (record { operator = x; parts = parts }) there (or_left (is_one_of writing_natives x) _ h)
-      body_writes {e = e} (by_function {x = x} {parts = parts} there w) =
-          any_there (call_writes set.functions) (calls_in e) (record { operator = x; parts = parts }) there
-          (or_right (is_one_of writing_natives x) _ (or_left (is_one_of set.functions x) _ (writes_is w)))
-      body_writes {e = e} (by_name {x = x} {f = f} {parts = parts} at there applies w) =
-          any_there (call_writes set.functions) (calls_in e) (record { operator = x; parts = Then (LeafAt (Named f) at) parts }) there
-          (or_right (is_one_of writing_natives x) _ (or_right (is_one_of set.functions x) _
-          (or_left (is_one_of applying_natives x && is_one_of set.functions f) _ (and_from (is_one_of applying_natives x) (is_one_of set.functions f) applies (writes_is w)))))
-      body_writes {e = e} (by_contract {x = x} {f = f} {contract = contract} {parts = parts} at at' there is h) =
-          any_there (call_writes set.functions) (calls_in e) (record { operator = x; parts = Then (LeafAt contract at) (Then (LeafAt (Named f) at') parts) }) there
-          (or_right (is_one_of writing_natives x) _ (or_right (is_one_of set.functions x) _ (or_right (is_one_of applying_natives x && gives_one set.functions (Then (LeafAt contract at) (Then (LeafAt (Named f) at') parts))) _
-          (and_from (same x (codes "contract-call?")) (is_public contract f) (ap (same x) (sym is) ∙ key_same x) h))))
+      body_writes : {e : Tree} → WritesIn forms is_public e → has_write (is_one_of set.functions) is_public e ≡ true
+      body_writes {e = e} (by_native {x = x} {parts = parts} there h) = native_there is_public (is_one_of set.functions) e x parts there h
+      body_writes {e = e} (by_function {x = x} {parts = parts} there w) = function_there is_public (is_one_of set.functions) e x parts there (writes_is w)
+      body_writes {e = e} (by_name {x = x} {f = f} {parts = parts} at there applies w) = name_there is_public (is_one_of set.functions) e x f at parts there applies (writes_is w)
+      body_writes {e = e} (by_contract {x = x} {f = f} {contract = contract} {parts = parts} at at' there is h) = contract_there is_public (is_one_of set.functions) e x f contract at at' parts there is h
 
   writes_or_not : (set : Closed) (x : List ℕ) (b : Bool) → is_one_of set.functions x ≡ b → Writes forms is_public x ⊎ (Writes forms is_public x → ⊥)
   writes_or_not set x true h = inl (set.each x h)

@@ -38,7 +38,7 @@ use Rattle.cl_code.specs.declared.op.Op.{Op}
 use Rattle.cl_code.specs.declared.op.Op.TheVariants as ops
 use Rattle.cl_code.specs.OpNames.{parts_head, name_head, iteration_head}
 use Rattle.cl_code.specs.Nodes.{has_own_name}
-use Rattle.cl_code.specs.Expression.{word, applied_name, target, headed, bound_items, behind_first, expression}
+use Rattle.cl_code.specs.Expression.{word, applied_name, target, headed, bound_items, behind_first, optional_branches, response_branches, expression}
 use Rattle.cl_bound.specs.Own.{own, inside, of_branches, branch_by, good_part, bad_part, applied, called_at}
 use Rattle.cl_bound.specs.declared.branches.Branch.TheVariants.{Plain, Good, Bad}
 use Rattle.cl_bound.specs.Charged.{Charges}
@@ -173,12 +173,12 @@ module _ (G : Context) (B : Names) (es : List Tree) where
   call_charges (Some f) fs table sound count fine = refl
 
 module _ (G : Context) (B : Names) where
-  optional_charges : (es : List Tree) (head : Span) (part : Word) → Charges (head_shape heads.Match (row_of heads.Match) G B (behind_first (λ e more. e ∷ word part ∷ more) es)) (length es) (own G (ops.MatchOptional head part)) (inside (ops.MatchOptional head part))
+  optional_charges : (es : List Tree) (head : Span) (part : Word) → Charges (head_shape heads.Match (row_of heads.Match) G B (optional_branches part es)) (length es) (own G (ops.MatchOptional head part)) (inside (ops.MatchOptional head part))
   unfolding head_shape
   optional_charges [] head part fs table sound count fine = absurd cc
   optional_charges (e ∷ more) head part fs table sound count fine = match_optional (length (e ∷ word part ∷ more)) fs table (omega (arith, count)) fine
 
-  response_charges : (es : List Tree) (head : Span) (good bad : Word) → Charges (head_shape heads.Match (row_of heads.Match) G B (behind_first (λ e more. e ∷ word good ∷ behind_first (λ d last. d ∷ word bad ∷ last) more) es)) (length es) (own G (ops.MatchResponse head good bad)) (inside (ops.MatchResponse head good bad))
+  response_charges : (es : List Tree) (head : Span) (good bad : Word) → Charges (head_shape heads.Match (row_of heads.Match) G B (response_branches good bad es)) (length es) (own G (ops.MatchResponse head good bad)) (inside (ops.MatchResponse head good bad))
   unfolding head_shape
   response_charges [] head good bad fs table sound count fine = absurd cc
   response_charges (e ∷ []) head good bad fs table sound count fine = absurd cc
@@ -258,7 +258,7 @@ op_charges G B (ops.AsMaxLen head most lit) es at named = by_head heads.AsMaxLen
 op_charges G B (ops.Tuple names) es at named = λ fs table sound count fine. refl
 op_charges G B (ops.TupleOf head pairs) es at named = by_head heads.TupleOf head at (bound_items pairs.items es) G B (length es) (own G (ops.TupleOf head pairs)) (inside (ops.TupleOf head pairs)) (pairs_charges G B es head pairs)
 op_charges G B (ops.Let head brackets bs) es at named = by_head heads.Let head at (ListAt (forest (bound_items bs.items es)) brackets ∷ drop (length bs.items) es) G B (length es) (own G (ops.Let head brackets bs)) (inside (ops.Let head brackets bs)) (let_charges G B es head brackets bs)
-op_charges G B (ops.MatchOptional head part) es at named = by_head heads.Match head at (behind_first (λ e more. e ∷ word part ∷ more) es) G B (length es) (own G (ops.MatchOptional head part)) (inside (ops.MatchOptional head part)) (optional_charges G B es head part)
-op_charges G B (ops.MatchResponse head good bad) es at named = by_head heads.Match head at (behind_first (λ e more. e ∷ word good ∷ behind_first (λ d last. d ∷ word bad ∷ last) more) es) G B (length es) (own G (ops.MatchResponse head good bad)) (inside (ops.MatchResponse head good bad)) (response_charges G B es head good bad)
+op_charges G B (ops.MatchOptional head part) es at named = by_head heads.Match head at (optional_branches part es) G B (length es) (own G (ops.MatchOptional head part)) (inside (ops.MatchOptional head part)) (optional_charges G B es head part)
+op_charges G B (ops.MatchResponse head good bad) es at named = by_head heads.Match head at (response_branches good bad es) G B (length es) (own G (ops.MatchResponse head good bad)) (inside (ops.MatchResponse head good bad)) (response_charges G B es head good bad)
 op_charges G B (ops.Call w) es at named = own_call G B es w at named
 op_charges G B (ops.ContractCall head c w callee) es at named = by_head heads.ContractCall head at (target c ∷ word w ∷ es) G B (length es) (own G (ops.ContractCall head c w callee)) (inside (ops.ContractCall head c w callee)) (contract_charges G B es head c w callee)

@@ -52,6 +52,13 @@ abbrev pub behind_first : (Tree → List Tree → List Tree) → List Tree → L
 behind_first make [] = []
 behind_first make (e ∷ es) = make e es
 
+-- the branches of a match with their names, behind the input
+abbrev pub optional_branches : Word → List Tree → List Tree
+optional_branches part es = behind_first (λ e more. e ∷ word part ∷ more) es
+
+abbrev pub response_branches : Word → Word → List Tree → List Tree
+response_branches good bad es = behind_first (λ e more. e ∷ word good ∷ behind_first (λ d last. d ∷ word bad ∷ last) more) es
+
 -- what stands in the text for a node with these parts
 abbrev pub expression : Op → List Tree → Span → Tree
 expression (Int z) es at = LeafAt (Signed z) at
@@ -72,7 +79,7 @@ expression (AsMaxLen head most literal) es at = headed (codes "as-max-len?") hea
 expression (Tuple keys) es at = TupleAt (keyed keys.items es) at
 expression (TupleOf head pairs) es at = headed (codes "tuple") head (bound_items pairs.items es) at
 expression (Let head brackets bindings) es at = headed (codes "let") head (ListAt (forest (bound_items bindings.items es)) brackets ∷ drop (length bindings.items) es) at
-expression (MatchOptional head part) es at = headed (codes "match") head (behind_first (λ e more. e ∷ word part ∷ more) es) at
-expression (MatchResponse head good bad) es at = headed (codes "match") head (behind_first (λ e more. e ∷ word good ∷ behind_first (λ d last. d ∷ word bad ∷ last) more) es) at
+expression (MatchOptional head part) es at = headed (codes "match") head (optional_branches part es) at
+expression (MatchResponse head good bad) es at = headed (codes "match") head (response_branches good bad es) at
 expression (Call f) es at = headed f.name f.span es at
 expression (ContractCall head contract function callee) es at = headed (codes "contract-call?") head (target contract ∷ word function ∷ es) at

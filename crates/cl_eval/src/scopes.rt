@@ -2,10 +2,9 @@
 ghost use Rattle.std.specs.Prelude.{◌≡◌, ◌<◌, ◌≤◌, ◌∷◌, ◌++◌, List, length, map, drop};
 ghost use Rattle.cl_sexpr.specs.declared.sexpr.Span.{Span};
 ghost use Rattle.cl_sexpr.specs.Tree.{Tree, ListAt, forest};
-ghost use Rattle.cl_code.specs.Expression.{bound_items};
+ghost use Rattle.cl_code.specs.Expression.{bound_items, optional_branches, response_branches};
 ghost use Rattle.cl_meaning.specs.Scope.{taken_with};
 ghost use Rattle.cl_meaning.specs.Control.{match_form, let_form, let_in};
-ghost use Rattle.cl_frames.specs.Branches.{optional_branches, response_branches};
 ghost use Rattle.cl_code.specs.Typed.{expression_of};
 ghost use Rattle.cl_meaning.specs.Meaning.{means};
 ghost use Rattle.cl_frames.specs.Seen.{costs_of, scope, scope_of, Fits};

@@ -1,8 +1,7 @@
 -- let and match.
-use Rattle.std.proofs.Common.{◌≡◌, ◌⊎◌, inl, inr, ℕ, zero, suc, ◌<◌, ◌≤◌, Bool, true, false, List, [], ◌∷◌, take, drop, length, Option, Some, None, Result, Ok, Err, refl, sym, subst, arith}
+use Rattle.std.proofs.Common.{◌≡◌, inl, inr, ℕ, zero, suc, ◌<◌, ◌≤◌, Bool, true, false, List, [], ◌∷◌, take, drop, length, Option, Some, None, Result, Ok, Err, refl, sym, subst, arith}
 use Rattle.std.specs.Prelude.{◌||◌, not, nat_eq, filter_map, is_some}
 use Rattle.std.specs.List.{cons_option}
-use Rattle.std.proofs.lemmas.Bool.{eqb-true}
 use Rattle.cl_types.specs.Types.{PlainType, OptionalType, ResponseType, size_of as type_size}
 use Rattle.cl_types.specs.Lattice.{least_supertype}
 use Rattle.cl_types.specs.declared.sized.TyRefusal.{TyRefusal}
@@ -15,11 +14,11 @@ use Rattle.cl_sexpr.specs.Tree.{Tree, LeafAt, ListAt, Named}
 use Rattle.cl_values.specs.Tree.{Tree as Val}
 use Rattle.cl_values.specs.Wire.{size_of}
 use Rattle.cl_forms.specs.declared.head.Head.TheVariants.{Let, Match}
-use Rattle.cl_forms.specs.Shapes.{trees_of, binding_of, bindings_of, and_binding}
+use Rattle.cl_forms.specs.Shapes.{trees_of, binding_of, bindings_of, and_binding, OptionalMatch, ResponseMatch}
 use Rattle.cl_events.specs.State.{State}
 use Rattle.cl_meaning.specs.Answers.{and_then, charged, with_known}
 use Rattle.cl_meaning.specs.Scope.{binding, taken_with}
-use Rattle.cl_meaning.specs.Control.{let_in, let_form, match_optional, match_response, match_form}
+use Rattle.cl_meaning.specs.Control.{let_in, let_form, match_optional, match_response, match_taken, match_form}
 use Rattle.cl_rules.specs.Faults.{type_rules}
 use Rattle.cl_rules.specs.NativeTypes.{Ruled, fine, and_lub, lubbed}
 use Rattle.cl_rules.specs.Context.{Bound, bind, charge, both}
@@ -27,6 +26,7 @@ use Rattle.cl_rules.specs.Verdicts.{Found, types_of, highest, sum_of}
 use Rattle.cl_rules.specs.Shapes.{Ends, Part, Gives, parts as all_parts}
 use Rattle.cl_rules.specs.ControlShapes.{last_of as last_type, last_row, let_plan, binds, let_verdict, let_with, optional_plan, response_plan, if_determined, bound_branch, matched, optional_verdict, response_verdict, match_verdict, either}
 use Rattle.cl_rules.specs.Table.{head_shape}
+use Rattle.cl_rules.proofs.Matches.{match_is_read}
 use Rattle.cl_expression_sound.specs.Fitted.{Fitted, Follows, ends, part, gives}
 use Rattle.cl_expression_sound.specs.Sound.{World, IsSound, IsThrown, IsAsFound, IsKept}
 use Rattle.cl_expression_sound.proofs.Costs.{at_most, alone, turned, same_cost, more_of_both, less_charged, left_of_both, right_of_both, bindings_first, grouped}
@@ -61,11 +61,10 @@ module _ (K : World) (N : Stands K) where
       sound_more K (plus (charge Bind (size_of w) K.costs) (f.bound K.costs)) (bound_branch t f K.costs) _ (more_of_both (charge Bind (size_of w) K.costs) (charge Bind (type_size t) K.costs) (f.bound K.costs) (f.bound K.costs) (less_charged K.costs Bind (size_of w) (type_size t) (no_larger w t i)) (same_cost (f.bound K.costs)))
       (sound_charged K Bind (size_of w) (f.bound K.costs) _ (part_sound K (within K N x t w i) a f fit low more s n))
 
-  match_some : (e : Tree) (x : List ℕ) (at : Span) (a b : Tree) (f fa fb : Found) (t : PlainType) → f.type ≡ OptionalType t → Fitted N.context N.names e f → Fitted N.context (bind x t N.names) a fa → Fitted N.context N.names b fb →
+  match_some : (e : Tree) (x : List ℕ) (a b : Tree) (f fa fb : Found) (t : PlainType) → f.type ≡ OptionalType t → Fitted N.context N.names e f → Fitted N.context (bind x t N.names) a fa → Fitted N.context N.names b fb →
       type_rules (matched (not (is_undetermined t)) (charge Control 4) f fa fb (bound_branch t fa) fb.bound).faults ≡ [] → (matched (not (is_undetermined t)) (charge Control 4) f fa fb (bound_branch t fa) fb.bound).found.height ≤ suc N.depth →
-      (s : State) → IsKept K s → IsAsFound K (matched (not (is_undetermined t)) (charge Control 4) f fa fb (bound_branch t fa) fb.bound).found (match_form N.take (here K N) (e ∷ LeafAt (Named x) at ∷ a ∷ b ∷ []) s)
-  unfolding match_form
-  match_some e x at a b f fa fb t is te ta tb types low s n =
+      (s : State) → IsKept K s → IsAsFound K (matched (not (is_undetermined t)) (charge Control 4) f fa fb (bound_branch t fa) fb.bound).found (match_taken N.take (here K N) (Some (OptionalMatch e x a b)) s)
+  match_some e x a b f fa fb t is te ta tb types low s n =
       let fs : List Found = f ∷ fa ∷ fb ∷ [] in
       let r : Ruled = if_determined (not (is_undetermined t)) (lubbed fa.type fb.type) in
       let c : Cost5 = greater (bound_branch t fa K.costs) (fb.bound K.costs) in
@@ -92,27 +91,26 @@ module _ (K : World) (N : Stands K) where
           (sound_more K (bound_branch t fa K.costs) c _ (left_of_both (bound_branch t fa K.costs) (fb.bound K.costs))
           (sound_less K (bound_branch t fa K.costs) _ (λ v i. lub_left v fa.type fb.type fine_r i) (λ v k. k) (branch_sound x t a fa ta low_a (λ v k. inl (inr (inl k))) w j u m)))
 
-  match_two : (e : Tree) (x : List ℕ) (at : Span) (a b : Tree) (f : Found) (fs : List Found) (t : PlainType) → f.type ≡ OptionalType t → Fitted N.context N.names e f → Follows N.context (Part (bind x t N.names) a (Part N.names b Ends)) fs →
+  match_two : (e : Tree) (x : List ℕ) (a b : Tree) (f : Found) (fs : List Found) (t : PlainType) → f.type ≡ OptionalType t → Fitted N.context N.names e f → Follows N.context (Part (bind x t N.names) a (Part N.names b Ends)) fs →
       type_rules (match_verdict true (charge Control 4) (f ∷ fs)).faults ≡ [] → (match_verdict true (charge Control 4) (f ∷ fs)).found.height ≤ suc N.depth →
-      (s : State) → IsKept K s → IsAsFound K (match_verdict true (charge Control 4) (f ∷ fs)).found (match_form N.take (here K N) (e ∷ LeafAt (Named x) at ∷ a ∷ b ∷ []) s)
-  match_two e x at a b f _ t is te (part {f = fa} ta (part {f = fb} tb ends)) types low s n =
-      subst (λ u. type_rules (optional_verdict (charge Control 4) f fa fb u).faults ≡ [] → (optional_verdict (charge Control 4) f fa fb u).found.height ≤ suc N.depth → IsAsFound K (optional_verdict (charge Control 4) f fa fb u).found (match_form N.take (here K N) (e ∷ LeafAt (Named x) at ∷ a ∷ b ∷ []) s)) (sym is)
-      (λ types low. match_some e x at a b f fa fb t is te ta tb types low s n) types low
+      (s : State) → IsKept K s → IsAsFound K (match_verdict true (charge Control 4) (f ∷ fs)).found (match_taken N.take (here K N) (Some (OptionalMatch e x a b)) s)
+  match_two e x a b f _ t is te (part {f = fa} ta (part {f = fb} tb ends)) types low s n =
+      subst (λ u. type_rules (optional_verdict (charge Control 4) f fa fb u).faults ≡ [] → (optional_verdict (charge Control 4) f fa fb u).found.height ≤ suc N.depth → IsAsFound K (optional_verdict (charge Control 4) f fa fb u).found (match_taken N.take (here K N) (Some (OptionalMatch e x a b)) s)) (sym is)
+      (λ types low. match_some e x a b f fa fb t is te ta tb types low s n) types low
 
   not_optional : (b : Tree) (f : Found) (fs : List Found) → Follows N.context (Part N.names b Ends) fs → type_rules (match_verdict true (charge Control 4) (f ∷ fs)).faults ≡ [] → ⊥
   not_optional b f _ (part tb ends) types = absurd cc
 
-  match_four : (e : Tree) (x : List ℕ) (at : Span) (a b : Tree) (f : Found) (fs : List Found) (t : PlainType) → f.type ≡ t → Fitted N.context N.names e f → Follows N.context (optional_plan N.names x a b t) fs →
+  match_four : (e : Tree) (x : List ℕ) (a b : Tree) (f : Found) (fs : List Found) (t : PlainType) → f.type ≡ t → Fitted N.context N.names e f → Follows N.context (optional_plan N.names x a b t) fs →
       type_rules (match_verdict true (charge Control 4) (f ∷ fs)).faults ≡ [] → (match_verdict true (charge Control 4) (f ∷ fs)).found.height ≤ suc N.depth →
-      (s : State) → IsKept K s → IsAsFound K (match_verdict true (charge Control 4) (f ∷ fs)).found (match_form N.take (here K N) (e ∷ LeafAt (Named x) at ∷ a ∷ b ∷ []) s)
-  match_four e x at a b f fs (OptionalType t) is te follows types low s n = match_two e x at a b f fs t is te follows types low s n
-  match_four e x at a b f fs t is te follows types low s n = absurd (not_optional b f fs follows types)
+      (s : State) → IsKept K s → IsAsFound K (match_verdict true (charge Control 4) (f ∷ fs)).found (match_taken N.take (here K N) (Some (OptionalMatch e x a b)) s)
+  match_four e x a b f fs (OptionalType t) is te follows types low s n = match_two e x a b f fs t is te follows types low s n
+  match_four e x a b f fs t is te follows types low s n = absurd (not_optional b f fs follows types)
 
-  match_answer : (e : Tree) (x y : List ℕ) (at at' : Span) (a b : Tree) (f fa fb : Found) (t u : PlainType) → f.type ≡ ResponseType t u → Fitted N.context N.names e f → Fitted N.context (bind x t N.names) a fa → Fitted N.context (bind y u N.names) b fb →
+  match_answer : (e : Tree) (x y : List ℕ) (a b : Tree) (f fa fb : Found) (t u : PlainType) → f.type ≡ ResponseType t u → Fitted N.context N.names e f → Fitted N.context (bind x t N.names) a fa → Fitted N.context (bind y u N.names) b fb →
       type_rules (matched (not (is_undetermined t || is_undetermined u)) (charge Control 5) f fa fb (bound_branch t fa) (bound_branch u fb)).faults ≡ [] → (matched (not (is_undetermined t || is_undetermined u)) (charge Control 5) f fa fb (bound_branch t fa) (bound_branch u fb)).found.height ≤ suc N.depth →
-      (s : State) → IsKept K s → IsAsFound K (matched (not (is_undetermined t || is_undetermined u)) (charge Control 5) f fa fb (bound_branch t fa) (bound_branch u fb)).found (match_form N.take (here K N) (e ∷ LeafAt (Named x) at ∷ a ∷ LeafAt (Named y) at' ∷ b ∷ []) s)
-  unfolding match_form
-  match_answer e x y at at' a b f fa fb t u is te ta tb types low s n =
+      (s : State) → IsKept K s → IsAsFound K (matched (not (is_undetermined t || is_undetermined u)) (charge Control 5) f fa fb (bound_branch t fa) (bound_branch u fb)).found (match_taken N.take (here K N) (Some (ResponseMatch e x a y b)) s)
+  match_answer e x y a b f fa fb t u is te ta tb types low s n =
       let fs : List Found = f ∷ fa ∷ fb ∷ [] in
       let r : Ruled = if_determined (not (is_undetermined t || is_undetermined u)) (lubbed fa.type fb.type) in
       let c : Cost5 = greater (bound_branch t fa K.costs) (bound_branch u fb K.costs) in
@@ -139,79 +137,42 @@ module _ (K : World) (N : Stands K) where
           (sound_more K (bound_branch u fb K.costs) c _ (right_of_both (bound_branch t fa K.costs) (bound_branch u fb K.costs))
           (sound_less K (bound_branch u fb K.costs) _ (λ v i. lub_right v fa.type fb.type fine_r i) (λ v k. k) (branch_sound y u b fb tb low_b (λ v k. inl (inr (inr (inl k)))) w j z m)))
 
-  match_both : (e : Tree) (x y : List ℕ) (at at' : Span) (a b : Tree) (f : Found) (fs : List Found) (t u : PlainType) → f.type ≡ ResponseType t u → Fitted N.context N.names e f → Follows N.context (Part (bind x t N.names) a (Part (bind y u N.names) b Ends)) fs →
+  match_both : (e : Tree) (x y : List ℕ) (a b : Tree) (f : Found) (fs : List Found) (t u : PlainType) → f.type ≡ ResponseType t u → Fitted N.context N.names e f → Follows N.context (Part (bind x t N.names) a (Part (bind y u N.names) b Ends)) fs →
       type_rules (match_verdict false (charge Control 5) (f ∷ fs)).faults ≡ [] → (match_verdict false (charge Control 5) (f ∷ fs)).found.height ≤ suc N.depth →
-      (s : State) → IsKept K s → IsAsFound K (match_verdict false (charge Control 5) (f ∷ fs)).found (match_form N.take (here K N) (e ∷ LeafAt (Named x) at ∷ a ∷ LeafAt (Named y) at' ∷ b ∷ []) s)
-  match_both e x y at at' a b f _ t u is te (part {f = fa} ta (part {f = fb} tb ends)) types low s n =
-      subst (λ z. type_rules (response_verdict (charge Control 5) f fa fb z).faults ≡ [] → (response_verdict (charge Control 5) f fa fb z).found.height ≤ suc N.depth → IsAsFound K (response_verdict (charge Control 5) f fa fb z).found (match_form N.take (here K N) (e ∷ LeafAt (Named x) at ∷ a ∷ LeafAt (Named y) at' ∷ b ∷ []) s)) (sym is)
-      (λ types low. match_answer e x y at at' a b f fa fb t u is te ta tb types low s n) types low
+      (s : State) → IsKept K s → IsAsFound K (match_verdict false (charge Control 5) (f ∷ fs)).found (match_taken N.take (here K N) (Some (ResponseMatch e x a y b)) s)
+  match_both e x y a b f _ t u is te (part {f = fa} ta (part {f = fb} tb ends)) types low s n =
+      subst (λ z. type_rules (response_verdict (charge Control 5) f fa fb z).faults ≡ [] → (response_verdict (charge Control 5) f fa fb z).found.height ≤ suc N.depth → IsAsFound K (response_verdict (charge Control 5) f fa fb z).found (match_taken N.take (here K N) (Some (ResponseMatch e x a y b)) s)) (sym is)
+      (λ types low. match_answer e x y a b f fa fb t u is te ta tb types low s n) types low
 
   not_response : (f : Found) (fs : List Found) → Follows N.context Ends fs → type_rules (match_verdict false (charge Control 5) (f ∷ fs)).faults ≡ [] → ⊥
   not_response f _ ends types = absurd cc
 
-  match_five : (e : Tree) (x y : List ℕ) (at at' : Span) (a b : Tree) (f : Found) (fs : List Found) (t : PlainType) → f.type ≡ t → Fitted N.context N.names e f → Follows N.context (response_plan N.names x a y b t) fs →
+  match_five : (e : Tree) (x y : List ℕ) (a b : Tree) (f : Found) (fs : List Found) (t : PlainType) → f.type ≡ t → Fitted N.context N.names e f → Follows N.context (response_plan N.names x a y b t) fs →
       type_rules (match_verdict false (charge Control 5) (f ∷ fs)).faults ≡ [] → (match_verdict false (charge Control 5) (f ∷ fs)).found.height ≤ suc N.depth →
-      (s : State) → IsKept K s → IsAsFound K (match_verdict false (charge Control 5) (f ∷ fs)).found (match_form N.take (here K N) (e ∷ LeafAt (Named x) at ∷ a ∷ LeafAt (Named y) at' ∷ b ∷ []) s)
-  match_five e x y at at' a b f fs (ResponseType t u) is te follows types low s n = match_both e x y at at' a b f fs t u is te follows types low s n
-  match_five e x y at at' a b f fs t is te follows types low s n = absurd (not_response f fs follows types)
+      (s : State) → IsKept K s → IsAsFound K (match_verdict false (charge Control 5) (f ∷ fs)).found (match_taken N.take (here K N) (Some (ResponseMatch e x a y b)) s)
+  match_five e x y a b f fs (ResponseType t u) is te follows types low s n = match_both e x y a b f fs t u is te follows types low s n
+  match_five e x y a b f fs t is te follows types low s n = absurd (not_response f fs follows types)
 
-  four_each : (e : Tree) (x : List ℕ) (at : Span) (a b : Tree) → IsSoundShape K N (head_shape Match (row_of Match) N.context N.names (e ∷ LeafAt (Named x) at ∷ a ∷ b ∷ [])) (match_form N.take (here K N) (e ∷ LeafAt (Named x) at ∷ a ∷ b ∷ []))
-  unfolding head_shape
-  four_each e x at a b = record { each = λ fs shape follows. by fs follows }
+  optional_sound : (e : Tree) (x : List ℕ) (at : Span) (a b : Tree) → IsSoundShape K N (head_shape Match (row_of Match) N.context N.names (e ∷ LeafAt (Named x) at ∷ a ∷ b ∷ [])) (match_form N.take (here K N) (e ∷ LeafAt (Named x) at ∷ a ∷ b ∷ []))
+  unfolding head_shape match_form
+  optional_sound e x at a b = record { each = λ fs shape follows. by fs follows }
     where
-      by : (fs : List Found) → Follows N.context (Gives N.names e (λ f. optional_plan N.names x a b f.type)) fs → type_rules (match_verdict true (charge Control 4) fs).faults ≡ [] → (match_verdict true (charge Control 4) fs).found.height ≤ suc N.depth → (s : State) → IsKept K s → IsAsFound K (match_verdict true (charge Control 4) fs).found (match_form N.take (here K N) (e ∷ LeafAt (Named x) at ∷ a ∷ b ∷ []) s)
-      by _ (gives {f = f} {fs = fs} t ts) types low s n = match_four e x at a b f fs f.type refl t ts types low s n
+      by : (fs : List Found) → Follows N.context (Gives N.names e (λ f. optional_plan N.names x a b f.type)) fs → type_rules (match_verdict true (charge Control 4) fs).faults ≡ [] → (match_verdict true (charge Control 4) fs).found.height ≤ suc N.depth → (s : State) → IsKept K s → IsAsFound K (match_verdict true (charge Control 4) fs).found (match_taken N.take (here K N) (Some (OptionalMatch e x a b)) s)
+      by _ (gives {f = f} {fs = fs} t ts) types low s n = match_four e x a b f fs f.type refl t ts types low s n
 
-  five_each : (e : Tree) (x y : List ℕ) (at at' : Span) (a b : Tree) → IsSoundShape K N (head_shape Match (row_of Match) N.context N.names (e ∷ LeafAt (Named x) at ∷ a ∷ LeafAt (Named y) at' ∷ b ∷ [])) (match_form N.take (here K N) (e ∷ LeafAt (Named x) at ∷ a ∷ LeafAt (Named y) at' ∷ b ∷ []))
-  unfolding head_shape
-  five_each e x y at at' a b = record { each = λ fs shape follows. by fs follows }
+  response_sound : (e : Tree) (x : List ℕ) (at : Span) (a : Tree) (y : List ℕ) (at' : Span) (b : Tree) → IsSoundShape K N (head_shape Match (row_of Match) N.context N.names (e ∷ LeafAt (Named x) at ∷ a ∷ LeafAt (Named y) at' ∷ b ∷ [])) (match_form N.take (here K N) (e ∷ LeafAt (Named x) at ∷ a ∷ LeafAt (Named y) at' ∷ b ∷ []))
+  unfolding head_shape match_form
+  response_sound e x at a y at' b = record { each = λ fs shape follows. by fs follows }
     where
-      by : (fs : List Found) → Follows N.context (Gives N.names e (λ f. response_plan N.names x a y b f.type)) fs → type_rules (match_verdict false (charge Control 5) fs).faults ≡ [] → (match_verdict false (charge Control 5) fs).found.height ≤ suc N.depth → (s : State) → IsKept K s → IsAsFound K (match_verdict false (charge Control 5) fs).found (match_form N.take (here K N) (e ∷ LeafAt (Named x) at ∷ a ∷ LeafAt (Named y) at' ∷ b ∷ []) s)
-      by _ (gives {f = f} {fs = fs} t ts) types low s n = match_five e x y at at' a b f fs f.type refl t ts types low s n
+      by : (fs : List Found) → Follows N.context (Gives N.names e (λ f. response_plan N.names x a y b f.type)) fs → type_rules (match_verdict false (charge Control 5) fs).faults ≡ [] → (match_verdict false (charge Control 5) fs).found.height ≤ suc N.depth → (s : State) → IsKept K s → IsAsFound K (match_verdict false (charge Control 5) fs).found (match_taken N.take (here K N) (Some (ResponseMatch e x a y b)) s)
+      by _ (gives {f = f} {fs = fs} t ts) types low s n = match_five e x y a b f fs f.type refl t ts types low s n
 
-  atoms_four : (e x a b : Tree) → IsSoundShape K N (head_shape Match (row_of Match) N.context N.names (e ∷ x ∷ a ∷ b ∷ [])) (match_form N.take (here K N) (e ∷ x ∷ a ∷ b ∷ []))
-  unfolding head_shape
-  atoms_four e (LeafAt (Named x) at) a b = four_each e x at a b
-  atoms_four e x a b = record { each = λ fs shape follows types low s n. let h = (fine_shape (head_shape Match (row_of Match) N.context N.names (e ∷ x ∷ a ∷ b ∷ [])).faults shape).bad_binding in absurd cc }
-
-  atoms_five : (e x a y b : Tree) → IsSoundShape K N (head_shape Match (row_of Match) N.context N.names (e ∷ x ∷ a ∷ y ∷ b ∷ [])) (match_form N.take (here K N) (e ∷ x ∷ a ∷ y ∷ b ∷ []))
-  unfolding head_shape
-  atoms_five e (LeafAt (Named x) at) a (LeafAt (Named y) at') b = five_each e x y at at' a b
-  atoms_five e (LeafAt (Named x) at) a y b = record { each = λ fs shape follows types low s n. let h = (fine_shape (head_shape Match (row_of Match) N.context N.names (e ∷ LeafAt (Named x) at ∷ a ∷ y ∷ b ∷ [])).faults shape).bad_binding in absurd cc }
-  atoms_five e x a y b = record { each = λ fs shape follows types low s n. let h = (fine_shape (head_shape Match (row_of Match) N.context N.names (e ∷ x ∷ a ∷ y ∷ b ∷ [])).faults shape).bad_binding in absurd cc }
-
-four_or_five : (P : List Tree → Type 0) → ((a b c d : Tree) → P (a ∷ b ∷ c ∷ d ∷ [])) → ((a b c d e : Tree) → P (a ∷ b ∷ c ∷ d ∷ e ∷ [])) → (es : List Tree) → (length es ≡ 4) ⊎ (length es ≡ 5) → P es
-four_or_five P h k (a ∷ b ∷ c ∷ d ∷ []) o = h a b c d
-four_or_five P h k (a ∷ b ∷ c ∷ d ∷ e ∷ []) o = k a b c d e
-four_or_five P h k [] (inl e) = absurd (omega (arith, e))
-four_or_five P h k [] (inr e) = absurd (omega (arith, e))
-four_or_five P h k (a ∷ []) (inl e) = absurd (omega (arith, e))
-four_or_five P h k (a ∷ []) (inr e) = absurd (omega (arith, e))
-four_or_five P h k (a ∷ b ∷ []) (inl e) = absurd (omega (arith, e))
-four_or_five P h k (a ∷ b ∷ []) (inr e) = absurd (omega (arith, e))
-four_or_five P h k (a ∷ b ∷ c ∷ []) (inl e) = absurd (omega (arith, e))
-four_or_five P h k (a ∷ b ∷ c ∷ []) (inr e) = absurd (omega (arith, e))
-four_or_five P h k (a ∷ b ∷ c ∷ d ∷ e ∷ f ∷ es) (inl g) = absurd (omega (arith, g))
-four_or_five P h k (a ∷ b ∷ c ∷ d ∷ e ∷ f ∷ es) (inr g) = absurd (omega (arith, g))
-
-one_true : (a b : Bool) → (a || b) ≡ true → (a ≡ true) ⊎ (b ≡ true)
-one_true true b h = inl refl
-one_true false b h = inr h
-
-either_count : (n : ℕ) → not (nat_eq n 4 || nat_eq n 5) ≡ false → (n ≡ 4) ⊎ (n ≡ 5)
-either_count n h = by (one_true (nat_eq n 4) (nat_eq n 5) (not_false (nat_eq n 4 || nat_eq n 5) h))
-  where
-    by : (nat_eq n 4 ≡ true) ⊎ (nat_eq n 5 ≡ true) → (n ≡ 4) ⊎ (n ≡ 5)
-    by (inl e) = inl (eqb-true n 4 e)
-    by (inr e) = inr (eqb-true n 5 e)
-
-module _ (K : World) (N : Stands K) where
   pub match_sound : (es : List Tree) → IsSoundShape K N (head_shape Match (row_of Match) N.context N.names es) (match_form N.take (here K N) es)
   unfolding head_shape
   match_sound es = record {
     each = λ fs shape.
-        (four_or_five (λ es. IsSoundShape K N (head_shape Match (row_of Match) N.context N.names es) (match_form N.take (here K N) es)) (atoms_four K N) (atoms_five K N) es
-        (either_count (length es) (fine_shape (head_shape Match (row_of Match) N.context N.names es).faults shape).argument_count)).each fs shape;
+        let fine = fine_shape (head_shape Match (row_of Match) N.context N.names es).faults shape in
+        (match_is_read (λ es. IsSoundShape K N (head_shape Match (row_of Match) N.context N.names es) (match_form N.take (here K N) es)) optional_sound response_sound es fine.argument_count fine.bad_binding).each fs shape;
   }
 
 -- ---- let

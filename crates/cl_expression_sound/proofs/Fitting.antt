@@ -10,7 +10,7 @@ use Rattle.cl_forms.specs.declared.head.TokenNative.TheVariants.{MintFt, BurnFt,
 use Rattle.cl_forms.specs.declared.keyword.Keyword.{Keyword}
 use Rattle.cl_forms.specs.Keywords.{keyword_of}
 use Rattle.cl_forms.specs.Heads.{Row, native}
-use Rattle.cl_forms.specs.Shapes.{trees_of, pairs_of, binding_of}
+use Rattle.cl_forms.specs.Shapes.{trees_of, pairs_of, binding_of, match_of}
 use Rattle.cl_rules.specs.Context.{Context, Names, Signature, signature_in, bind, named_in, is_no_value}
 use Rattle.cl_rules.specs.Verdicts.{Found}
 use Rattle.cl_rules.specs.Shapes.{Plan, Ends, Part, Gives, Shape, parts}
@@ -88,7 +88,7 @@ response_fits : (B : Names) (x : List ℕ) (a : Tree) (y : List ℕ) (b : Tree) 
 response_fits B x a y b (ResponseType t e) h k = (h, (k, tt))
 response_fits B x a y b t h k = tt
 
-match_fits : (B : Names) (es : List Tree) → AreFit es → PlanFits (match_plan B es)
+match_fits : (B : Names) (es : List Tree) → AreFit es → PlanFits (match_plan B (match_of es))
 match_fits B (i ∷ LeafAt (Named x) at ∷ a ∷ b ∷ []) h = (h.0, λ f. optional_fits B x a b f.type h.1.1.0 h.1.1.1.0)
 match_fits B (i ∷ LeafAt (Named x) at ∷ a ∷ LeafAt (Named y) at' ∷ b ∷ []) h = (h.0, λ f. response_fits B x a y b f.type h.1.1.0 h.1.1.1.1.0)
 match_fits B es h = tt

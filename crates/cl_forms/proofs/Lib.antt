@@ -15,3 +15,4 @@ pub mod Keywords
 pub mod SameNames
 pub mod FreeNames
 pub mod Twice
+pub mod Writing

@@ -1,4 +1,5 @@
--- What both the meaning and the rules read: a binding, a pair of a tuple, a principal that a literal names, what may be called.
+-- What both the meaning and the rules read: a binding, a pair of a tuple, the parts of match, a principal that a literal names,
+-- what may be called.
 use Rattle.std.specs.Prelude.{ℕ, List, [], ◌∷◌, Option, Some, None}
 use Rattle.cl_types.specs.declared.sized.Access.{Access}
 use Rattle.cl_types.specs.declared.sized.Access.TheVariants.{Public, ReadOnly, Private}
@@ -28,6 +29,23 @@ and_binding p ps = None
 abbrev pub bindings_of : List Tree → Option (List (List ℕ × Tree))
 bindings_of [] = Some []
 bindings_of (e ∷ es) = and_binding (binding_of e) (bindings_of es)
+
+-- the parts of match: the input, the name and the branch of some or ok, and the branch of none or that of err with its name
+pub data MatchParts : Type 0 where
+  OptionalMatch : Tree → List ℕ → Tree → Tree → MatchParts
+  ResponseMatch : Tree → List ℕ → Tree → List ℕ → Tree → MatchParts
+
+-- these items as the parts of match, where they are: four, or five with a second name
+abbrev pub match_of : List Tree → Option MatchParts
+match_of (i ∷ LeafAt (Named x) at ∷ a ∷ b ∷ []) = Some (OptionalMatch i x a b)
+match_of (i ∷ LeafAt (Named x) at ∷ a ∷ LeafAt (Named y) at' ∷ b ∷ []) = Some (ResponseMatch i x a y b)
+match_of es = None
+
+-- what stands where match has names, also where the items aren't its parts: the second, and of five the fourth
+abbrev pub name_places : List Tree → List Tree
+name_places (i ∷ x ∷ a ∷ y ∷ b ∷ []) = x ∷ y ∷ []
+name_places (i ∷ x ∷ es) = x ∷ []
+name_places es = []
 
 -- the contract of this name at the address of a contract
 abbrev pub beside : Principal → List ℕ → Principal

@@ -1,5 +1,6 @@
 -- Which functions of a contract write.
-use Rattle.std.specs.Prelude.{◌≡◌, ℕ, Bool, true, false, List, [], ◌∷◌, ◌++◌, codes, Contains, Some}
+use Rattle.std.specs.Prelude.{◌≡◌, ℕ, Bool, true, false, List, [], ◌∷◌, ◌++◌, codes, Contains, Some, ◌||◌, ◌&&◌}
+use Rattle.std.specs.List.{list_any}
 use Rattle.cl_types.specs.Types.{PlainType}
 use Rattle.cl_types.specs.declared.sized.Access.{Access}
 use Rattle.cl_sexpr.specs.Tree.{Tree, LeafAt, ListAt, TupleAt, Leaf, Named, Forest, Empty, Then, Pairs, NoPair, Pair}
@@ -45,6 +46,31 @@ abbrev mutual
   pub calls_of_pairs : Pairs → List Call
   calls_of_pairs NoPair = []
   calls_of_pairs (Pair k e parts) = calls_in e ++ calls_of_pairs parts
+
+-- ---- whether a call writes, where it is told which functions of the contract write and which of other contracts are public
+
+-- the first item is the name of such a function
+abbrev pub gives_one : (List ℕ → Bool) → Forest → Bool
+gives_one functions (Then (LeafAt (Named f) at) es) = functions f
+gives_one functions es = false
+
+-- the first two items stand for a public function of another contract
+abbrev pub crosses : (Leaf → List ℕ → Bool) → Forest → Bool
+crosses is_public (Then (LeafAt contract at) (Then (LeafAt (Named f) at') es)) = is_public contract f
+crosses is_public es = false
+
+abbrev pub call_writes : (List ℕ → Bool) → (Leaf → List ℕ → Bool) → Call → Bool
+call_writes functions is_public c =
+    is_one_of writing_natives c.operator
+    || (functions c.operator
+    || ((is_one_of applying_natives c.operator && gives_one functions c.parts)
+    || (same c.operator (codes "contract-call?") && crosses is_public c.parts)))
+
+-- an expression has a call that writes
+abbrev pub has_write : (List ℕ → Bool) → (Leaf → List ℕ → Bool) → Tree → Bool
+has_write functions is_public e = list_any (call_writes functions is_public) (calls_in e)
+
+-- ---- the functions that write
 
 -- a form defines this function
 pub record Defines (forms : List Form) (name : List ℕ) (body : Tree) : Type 0 where

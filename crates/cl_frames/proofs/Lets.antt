@@ -11,7 +11,7 @@ use Rattle.cl_values.specs.Tree.{Tree as Val, NoneV, SomeV, ResponseV}
 use Rattle.cl_values.specs.Wire.{size_of}
 use Rattle.cl_events.specs.State.{State}
 use Rattle.cl_code.specs.Typed.{Typed, expression_of}
-use Rattle.cl_code.specs.Expression.{bound_items}
+use Rattle.cl_code.specs.Expression.{bound_items, optional_branches, response_branches}
 use Rattle.cl_code.specs.declared.op.Word.{Word}
 use Rattle.cl_code.specs.declared.op.Binding.{Binding}
 use Rattle.cl_meaning.specs.Answers.{Answer, wrong, charged, and_then}
@@ -24,7 +24,6 @@ use Rattle.cl_frames.specs.Watching.{Seen, Watched, watched, seen_of, IsStart, S
 use Rattle.cl_frames.specs.declared.stop.Stop.{Stop}
 use Rattle.cl_frames.specs.declared.stop.Stop.TheVariants.{NoMemory}
 use Rattle.cl_frames.specs.declared.way.Way.TheVariants.{Good, Bad, Neither}
-use Rattle.cl_frames.specs.Branches.{optional_branches, response_branches}
 use Rattle.cl_frames.specs.Runs.{optional_way_of, response_way_of, content}
 use Rattle.cl_frames.proofs.Steps.{Handed}
 use Rattle.cl_frames.proofs.WatchSteps.{stops_eq}

@@ -19,7 +19,7 @@ use Rattle.cl_forms.specs.declared.head.Head.TheVariants as head
 use Rattle.cl_forms.specs.declared.head.TokenNative.{TokenNative}
 use Rattle.cl_forms.specs.declared.head.TokenNative.TheVariants.{MintFt, BurnFt, SendFt, MintNft, BurnNft, SendNft, SendStx, BurnStx}
 use Rattle.cl_forms.specs.Heads.{Row, native}
-use Rattle.cl_forms.specs.Shapes.{trees_of, binding_of, bindings_of, pairs_of}
+use Rattle.cl_forms.specs.Shapes.{trees_of, binding_of, bindings_of, pairs_of, MatchParts, OptionalMatch, ResponseMatch, match_of}
 use Rattle.cl_maps.specs.Maps.{get, put, without}
 use Rattle.cl_events.specs.declared.event.EventKind.TheVariants.{Print}
 use Rattle.cl_events.specs.State.{State, spot, with_variables, with_entries, with_event}
@@ -27,7 +27,7 @@ use Rattle.cl_meaning.specs.Answers.{Given, Wrong, Deeper, Answer, stop, give, c
 use Rattle.cl_meaning.specs.Deployed.{Contract, Deployed, Function, function_in, function_of, has_map}
 use Rattle.cl_meaning.specs.Scope.{Frame, Scope, home, BoundValues, Take, Enter, Callee, OwnFunction, ByName, parts, binding, with_bound, in_frame, as_contract, called, taken_with}
 use Rattle.cl_meaning.specs.Values.{on_values, strict_form, tuple_form, get_form, as_max_len_form}
-use Rattle.cl_meaning.specs.Control.{choice, throw, if_form, last_of, begin_form, let_in, let_form, and_on, or_on, and_form, or_form, throwing, asserts_form, wanted_part, err_part, unwrap_form, unwrap_err_form, tried, try_form, match_optional, match_response, match_form, as_contract_form}
+use Rattle.cl_meaning.specs.Control.{choice, throw, if_form, last_of, begin_form, let_in, let_form, and_on, or_on, and_form, or_form, throwing, asserts_form, wanted_part, err_part, unwrap_form, unwrap_err_form, tried, try_form, match_optional, match_response, match_taken, match_form, as_contract_form}
 use Rattle.cl_meaning.specs.Data.{here, variable_set, found_at, entry_at, delete_entry, with_map, key_and_value, insert_entry, set_entry, write_form, var_get_form, var_set_form, map_get_form, map_set_form, map_insert_form, map_delete_form}
 use Rattle.cl_meaning.specs.Tokens.{ft_balance_form, ft_supply_form, stx_balance_form, nft_owner_form, balance_in, owner_value, act_of, acts, act_form, named_act_form, token_form, print_form}
 use Rattle.cl_meaning.specs.Sequences.{callee_of, rows_of, all_entries, each, mapped, map_form, kept_if, sifted, filtered, filter_form, folded, fold_of, fold_form}
@@ -197,11 +197,14 @@ module _ (take : Take) (T : KeepsTake take) where
   keeps_response S x a y b (ResponseV false v) s = keeps_with S y v b s
   keeps_response S x a y b v s = keeps_stop Wrong s
 
+  keeps_branches : (S : Scope) (m : Option MatchParts) (s : State) → Keeps s (match_taken take S m s)
+  keeps_branches S (Some (OptionalMatch e x a b)) s = keeps_charged _ _ _ s (keeps_then (take S e s) (match_optional take S x a b) s (T S e s) (λ v t. keeps_optional S x a b v t))
+  keeps_branches S (Some (ResponseMatch e x a y b)) s = keeps_charged _ _ _ s (keeps_then (take S e s) (match_response take S x a y b) s (T S e s) (λ v t. keeps_response S x a y b v t))
+  keeps_branches S None s = keeps_stop Wrong s
+
   keeps_match : (S : Scope) (es : List Tree) (s : State) → Keeps s (match_form take S es s)
   unfolding match_form
-  keeps_match S (e ∷ LeafAt (Named x) at ∷ a ∷ b ∷ []) s = keeps_charged _ _ _ s (keeps_then (take S e s) (match_optional take S x a b) s (T S e s) (λ v t. keeps_optional S x a b v t))
-  keeps_match S (e ∷ LeafAt (Named x) at ∷ a ∷ LeafAt (Named y) at' ∷ b ∷ []) s = keeps_charged _ _ _ s (keeps_then (take S e s) (match_response take S x a y b) s (T S e s) (λ v t. keeps_response S x a y b v t))
-  keeps_match S es s = keeps_stop Wrong s
+  keeps_match S es s = keeps_branches S (match_of es) s
 
   keeps_as_contract : (S : Scope) (es : List Tree) (s : State) → Keeps s (as_contract_form take S es s)
   unfolding as_contract_form

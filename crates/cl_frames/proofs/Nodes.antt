@@ -20,7 +20,7 @@ use Rattle.cl_code.specs.OpNames.{parts_head, name_head, iteration_head}
 use Rattle.cl_code.specs.declared.op.Binding.{Binding}
 use Rattle.cl_code.specs.Nodes.{has_own_name, has_parts, are_once, bound_names}
 use Rattle.cl_code.specs.Typed.{Typed, TypedAs, typeds, expression_of}
-use Rattle.cl_code.specs.Expression.{word, target, applied_name, headed, bound_items, keyed, behind_first, expression}
+use Rattle.cl_code.specs.Expression.{word, target, applied_name, headed, bound_items, keyed, behind_first, optional_branches, response_branches, expression}
 use Rattle.cl_meaning.specs.Answers.{Answer, with_known}
 use Rattle.cl_meaning.specs.Scope.{Scope, Take, Enter}
 use Rattle.cl_meaning.specs.Names.{standing, literal, leaf_form, name_form}
@@ -29,7 +29,6 @@ use Rattle.cl_meaning.specs.Values.{strict_form, tuple_form, as_max_len_form}
 use Rattle.cl_meaning.specs.Calls.{call_form, contract_call_form}
 use Rattle.cl_meaning.specs.Meaning.{head_form, node}
 use Rattle.cl_meaning.proofs.Equations.{node_of_call, node_of_leaf, node_of_tuple}
-use Rattle.cl_frames.specs.Branches.{optional_branches, response_branches}
 use Rattle.cl_frames.proofs.Heads.{by_head, exactly}
 
 not_true : (b : Bool) → not b ≡ true → b ≡ false

@@ -3,7 +3,6 @@ pub mod Named
 pub mod Seen
 pub mod Runs
 pub mod Tails
-pub mod Branches
 pub mod Across
 pub mod Aborts
 pub mod ActParts

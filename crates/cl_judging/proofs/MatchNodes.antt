@@ -8,7 +8,7 @@ use Rattle.cl_sexpr.specs.Tree.{Tree, forest, forest_size, tree_size}
 use Rattle.cl_forms.specs.Heads.{row_of, takes}
 use Rattle.cl_forms.specs.declared.head.Head.TheVariants.{Match}
 use Rattle.cl_code.specs.declared.op.Word.{Word}
-use Rattle.cl_code.specs.Expression.{word, headed, behind_first}
+use Rattle.cl_code.specs.Expression.{headed, optional_branches, response_branches}
 use Rattle.cl_code.specs.Typed.{expression_of}
 use Rattle.cl_typing.specs.declared.concluding.Checked.{Checked}
 use Rattle.cl_typing.specs.Verdicts.{texts_of}
@@ -25,11 +25,11 @@ module _ (ps : List Checked) (x y z : Checked) (three : ps ≡ x ∷ y ∷ z ∷
   pub three_texts : (i a b : Tree) → expression_of x.code ≡ i → expression_of y.code ≡ a → expression_of z.code ≡ b → texts_of ps ≡ i ∷ a ∷ b ∷ []
   three_texts i a b h k l = ap texts_of three ∙ (λ j. h j ∷ k j ∷ l j ∷ [])
 
-pub optional_text : (head at : Span) (part : Word) (i a b : Tree) (es : List Tree) → es ≡ i ∷ a ∷ b ∷ [] → headed (codes "match") head (behind_first (λ e more. e ∷ word part ∷ more) es) at ≡ headed (codes "match") head (i ∷ word part ∷ a ∷ b ∷ []) at
-optional_text head at part i a b es is = ap (λ (ts : List Tree). headed (codes "match") head (behind_first (λ e more. e ∷ word part ∷ more) ts) at) is
+pub optional_text : (head at : Span) (part : Word) (i a b : Tree) (es : List Tree) → es ≡ i ∷ a ∷ b ∷ [] → headed (codes "match") head (optional_branches part es) at ≡ headed (codes "match") head (optional_branches part (i ∷ a ∷ b ∷ [])) at
+optional_text head at part i a b es is = ap (λ (ts : List Tree). headed (codes "match") head (optional_branches part ts) at) is
 
-pub response_text : (head at : Span) (good bad : Word) (i a b : Tree) (es : List Tree) → es ≡ i ∷ a ∷ b ∷ [] → headed (codes "match") head (behind_first (λ e more. e ∷ word good ∷ behind_first (λ d last. d ∷ word bad ∷ last) more) es) at ≡ headed (codes "match") head (i ∷ word good ∷ a ∷ word bad ∷ b ∷ []) at
-response_text head at good bad i a b es is = ap (λ (ts : List Tree). headed (codes "match") head (behind_first (λ e more. e ∷ word good ∷ behind_first (λ d last. d ∷ word bad ∷ last) more) ts) at) is
+pub response_text : (head at : Span) (good bad : Word) (i a b : Tree) (es : List Tree) → es ≡ i ∷ a ∷ b ∷ [] → headed (codes "match") head (response_branches good bad es) at ≡ headed (codes "match") head (response_branches good bad (i ∷ a ∷ b ∷ [])) at
+response_text head at good bad i a b es is = ap (λ (ts : List Tree). headed (codes "match") head (response_branches good bad ts) at) is
 
 -- ---- the items of a match
 

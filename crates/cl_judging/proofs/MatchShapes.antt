@@ -9,10 +9,9 @@ use Rattle.cl_sexpr.specs.declared.sexpr.Span.{Span}
 use Rattle.cl_sexpr.specs.declared.rule.Rule.{Rule}
 use Rattle.cl_sexpr.specs.declared.rule.Rule.TheVariants.{ArgumentKind, ShadowedName, BadBinding}
 use Rattle.cl_sexpr.specs.declared.rule.Break.{Break}
-use Rattle.cl_sexpr.specs.Tree.{Tree, LeafAt, Named, forest, forest_depth}
+use Rattle.cl_sexpr.specs.Tree.{Tree, forest, forest_depth}
 use Rattle.cl_forms.specs.Heads.{row_of}
 use Rattle.cl_forms.specs.declared.head.Head.TheVariants.{Match}
-use Rattle.cl_forms.specs.Items.{atom_of as atom_in}
 use Rattle.cl_rules.specs.Faults.{shape_rules, when}
 use Rattle.cl_rules.specs.Context.{Context, Names, Bound, bind, both, charge}
 use Rattle.cl_rules.specs.Verdicts.{Found, Verdict, sum_of, concluded}
@@ -20,7 +19,7 @@ use Rattle.cl_rules.specs.Shapes.{Shape, Plan, Ends, Part, Gives}
 use Rattle.cl_rules.specs.ControlShapes.{either, bound_branch, optional_plan, response_plan, optional_verdict, response_verdict, match_verdict, match_shape, is_shadowed, is_atom, atom_of}
 use Rattle.cl_rules.specs.Table.{head_shape}
 use Rattle.cl_code.specs.declared.op.Word.{Word}
-use Rattle.cl_code.specs.Expression.{word}
+use Rattle.cl_code.specs.Expression.{word, optional_branches, response_branches}
 use Rattle.cl_code.specs.Typed.{expression_of, type_of}
 use Rattle.cl_typing.specs.declared.concluding.Checked.{Checked}
 use Rattle.cl_typing.specs.declared.concluding.Concluded.{Concluded}
@@ -28,7 +27,7 @@ use Rattle.cl_typing.specs.Branches.{optional_row, response_row}
 use Rattle.cl_typing.specs.Verdicts.{Facts, facts, facts_of, first_rule, Concludes, ConcludesRow}
 use Rattle.cl_judging.specs.declared.context.Context.{Context as CodeContext}
 use Rattle.cl_judging.specs.Seen.{Shows, taken_in, shadowed_in}
-use Rattle.cl_judging.specs.Branching.{optional_part, response_parts, odd_rule}
+use Rattle.cl_judging.specs.Branching.{optional_part, response_parts, ChecksMatch, odd_rule}
 use Rattle.cl_judging.specs.Walking.{Checks, ChecksAs, ChecksHead, Finishes, Walked}
 use Rattle.cl_judging.proofs.Finishing.{finish_fails}
 use Rattle.cl_judging.proofs.Lets.{shadowed_is}
@@ -102,7 +101,7 @@ or_none false = refl
 
 module _ (c : CodeContext) (B : Names) (i : Tree) (w : Word) (a b : Tree) (at : Span) where
   abbrev items : List Tree
-  items = i ∷ word w ∷ a ∷ b ∷ []
+  items = optional_branches w (i ∷ a ∷ b ∷ [])
 
   abbrev deep : ℕ
   deep = forest_depth (forest items) + 1
@@ -164,7 +163,7 @@ module _ (c : CodeContext) (B : Names) (i : Tree) (w : Word) (a b : Tree) (at : 
 
 module _ (c : CodeContext) (B : Names) (i : Tree) (w : Word) (a : Tree) (w' : Word) (b : Tree) (at : Span) where
   abbrev both_items : List Tree
-  both_items = i ∷ word w ∷ a ∷ word w' ∷ b ∷ []
+  both_items = response_branches w w' (i ∷ a ∷ b ∷ [])
 
   abbrev both_deep : ℕ
   both_deep = forest_depth (forest both_items) + 1
@@ -219,15 +218,11 @@ module _ (c : CodeContext) (B : Names) (i : Tree) (w : Word) (a : Tree) (w' : Wo
               (subst (λ (cs : List Checked). Finishes cs concluded at result) three fin)
               (λ G fs shows same. response_judged x y z concluded (charge (row_of Match).cost 5) (subst (λ (cs : List Checked). ConcludesRow response_row 0 cs concluded) three judges) fs same)
 
-same_atom : (e : Tree) → atom_of e ≡ atom_in e
-same_atom (LeafAt (Named x) s) = refl
-same_atom e = refl
+pub odd_one : (e d : Tree) → atom_of e ≡ None → list_all is_atom (e ∷ d ∷ []) ≡ false
+odd_one e d h = ap (λ (o : Option (List ℕ)). is_some o && (is_atom d && true)) h
 
-pub odd_one : (e d : Tree) → atom_in e ≡ None → list_all is_atom (e ∷ d ∷ []) ≡ false
-odd_one e d h = ap (λ (o : Option (List ℕ)). is_some o && (is_atom d && true)) (same_atom e ∙ h)
-
-pub odd_other : (e d : Tree) → atom_in d ≡ None → list_all is_atom (e ∷ d ∷ []) ≡ false
-odd_other e d h = ap (λ (o : Option (List ℕ)). is_atom e && (is_some o && true)) (same_atom d ∙ h) ∙ never (is_atom e)
+pub odd_other : (e d : Tree) → atom_of d ≡ None → list_all is_atom (e ∷ d ∷ []) ≡ false
+odd_other e d h = ap (λ (o : Option (List ℕ)). is_atom e && (is_some o && true)) h ∙ never (is_atom e)
   where
     never : (b : Bool) → (b && false) ≡ false
     never true = refl
@@ -235,23 +230,23 @@ odd_other e d h = ap (λ (o : Option (List ℕ)). is_atom e && (is_some o && tru
 
 -- ---- shapes that have no names
 
-match_head : (c : CodeContext) (B : Names) (args : List Tree) (at : Span) (result : Result Checked (Fault Break)) → ChecksAs c (λ G. match_shape (row_of Match) G B args) at (forest_depth (forest args) + 1) result → ChecksHead c Match B args at result
+match_head : (c : CodeContext) (B : Names) (args : List Tree) (at : Span) (result : Result Checked (Fault Break)) → ChecksMatch c B args at result → ChecksHead c Match B args at result
 unfolding head_shape
 match_head c B args at result h = h
 
-pub match_whole : (c : CodeContext) (B : Names) (args items : List Tree) (at : Span) (result : Result Checked (Fault Break)) → args ≡ items → ChecksAs c (λ G. match_shape (row_of Match) G B items) at (forest_depth (forest items) + 1) result → ChecksHead c Match B args at result
+pub match_whole : (c : CodeContext) (B : Names) (args items : List Tree) (at : Span) (result : Result Checked (Fault Break)) → args ≡ items → ChecksMatch c B items at result → ChecksHead c Match B args at result
 match_whole c B args items at result is h = subst (λ (ts : List Tree). ChecksHead c Match B ts at result) (sym is) (match_head c B items at result h)
 
 -- a place for a name that holds no atom
 module _ (c : CodeContext) (B : Names) (at : Span) (r : Rule) (f : Fault Break) (fails : f ≡ Refused (record { rule = r; span = at })) where
-  pub optional_no_name : (i e a b : Tree) → atom_in e ≡ None → r ≡ BadBinding → ChecksAs c (λ G. match_shape (row_of Match) G B (i ∷ e ∷ a ∷ b ∷ [])) at (forest_depth (forest (i ∷ e ∷ a ∷ b ∷ [])) + 1) (Err f)
-  optional_no_name i e a b odd rule = shape_fails c (λ G. match_shape (row_of Match) G B (i ∷ e ∷ a ∷ b ∷ [])) at _ r f (λ G shows. none_rules G (atom_of e) (same_atom e ∙ odd) ∙ ap (λ (q : Rule). Some q) (sym rule)) fails
+  pub optional_no_name : (i e a b : Tree) → atom_of e ≡ None → r ≡ BadBinding → ChecksMatch c B (i ∷ e ∷ a ∷ b ∷ []) at (Err f)
+  optional_no_name i e a b odd rule = shape_fails c (λ G. match_shape (row_of Match) G B (i ∷ e ∷ a ∷ b ∷ [])) at _ r f (λ G shows. none_rules G (atom_of e) odd ∙ ap (λ (q : Rule). Some q) (sym rule)) fails
     where
       none_rules : (G : Context) (o : Option (List ℕ)) → o ≡ None → first_rule (when (is_shadowed G B (cons_option o [])) ShadowedName (when (not (is_some o && true)) BadBinding [])) ≡ Some BadBinding
       none_rules G None h = refl
       none_rules G (Some x) h = absurd cc
 
-  pub response_no_name : (i e a d b : Tree) → list_all is_atom (e ∷ d ∷ []) ≡ false → r ≡ odd_rule c B e d → ChecksAs c (λ G. match_shape (row_of Match) G B (i ∷ e ∷ a ∷ d ∷ b ∷ [])) at (forest_depth (forest (i ∷ e ∷ a ∷ d ∷ b ∷ [])) + 1) (Err f)
+  pub response_no_name : (i e a d b : Tree) → list_all is_atom (e ∷ d ∷ []) ≡ false → r ≡ odd_rule c B e d → ChecksMatch c B (i ∷ e ∷ a ∷ d ∷ b ∷ []) at (Err f)
   response_no_name i e a d b odd rule = shape_fails c (λ G. match_shape (row_of Match) G B (i ∷ e ∷ a ∷ d ∷ b ∷ [])) at _ r f (λ G shows.
       (λ j. first_rule (when (shadowed_is c G B (filter_map atom_of (e ∷ d ∷ [])) shows j) ShadowedName (when (not (odd j)) BadBinding [])))
       ∙ either_rule (shadowed_in c B (filter_map atom_of (e ∷ d ∷ []))) ∙ ap (λ (q : Rule). Some q) (sym rule)) fails
@@ -277,10 +272,10 @@ odd_first c B e d w r is odd rule =
     none_behind None h = refl
     none_behind (Some x) h = absurd cc
 
-pub odd_second : (c : CodeContext) (B : Names) (e d : Tree) (w : Word) (r : Rule) → atom_in e ≡ None → d ≡ word w → r ≡ (if taken_in c B w.name then ShadowedName else BadBinding) → r ≡ odd_rule c B e d
+pub odd_second : (c : CodeContext) (B : Names) (e d : Tree) (w : Word) (r : Rule) → atom_of e ≡ None → d ≡ word w → r ≡ (if taken_in c B w.name then ShadowedName else BadBinding) → r ≡ odd_rule c B e d
 odd_second c B e d w r none is rule =
-    rule ∙ by_taken (taken_in c B w.name) ∙ sym (ap (λ (t : Tree). odd_rule c B e t) is ∙ ap (λ (o : Option (List ℕ)). rule_of c B (cons_option o (w.name ∷ []))) (same_atom e ∙ none))
+    rule ∙ by_taken (taken_in c B w.name) ∙ sym (ap (λ (t : Tree). odd_rule c B e t) is ∙ ap (λ (o : Option (List ℕ)). rule_of c B (cons_option o (w.name ∷ []))) none)
 
-pub odd_neither : (c : CodeContext) (B : Names) (e d : Tree) (r : Rule) → atom_in e ≡ None → atom_in d ≡ None → r ≡ BadBinding → r ≡ odd_rule c B e d
+pub odd_neither : (c : CodeContext) (B : Names) (e d : Tree) (r : Rule) → atom_of e ≡ None → atom_of d ≡ None → r ≡ BadBinding → r ≡ odd_rule c B e d
 odd_neither c B e d r none neither rule =
-    rule ∙ sym ((λ i. rule_of c B (cons_option ((same_atom e ∙ none) i) (cons_option ((same_atom d ∙ neither) i) []))))
+    rule ∙ sym ((λ i. rule_of c B (cons_option (none i) (cons_option (neither i) []))))

@@ -13,7 +13,7 @@ use Rattle.cl_forms.specs.declared.head.Head.TheVariants.{Match}
 use Rattle.cl_rules.specs.Context.{Names}
 use Rattle.cl_rules.specs.ControlShapes.{atom_of, match_shape}
 use Rattle.cl_code.specs.declared.op.Word.{Word}
-use Rattle.cl_code.specs.Expression.{word}
+use Rattle.cl_code.specs.Expression.{optional_branches, response_branches}
 use Rattle.cl_code.specs.Typed.{expression_of}
 use Rattle.cl_typing.specs.declared.concluding.Checked.{Checked}
 use Rattle.cl_judging.specs.declared.context.Context.{Context as CodeContext}
@@ -30,12 +30,16 @@ abbrev pub response_parts : PlainType → Option (PlainType × PlainType)
 response_parts (ResponseType t e) = Some (t, e)
 response_parts t = None
 
+-- match with these items
+abbrev pub ChecksMatch : CodeContext → Names → List Tree → Span → Result Checked (Fault Break) → Type 0
+ChecksMatch c B items at result = ChecksAs c (λ G. match_shape (row_of Match) G B items) at (forest_depth (forest items) + 1) result
+
 -- a match of an optional, and of a response
 abbrev pub ChecksOptional : CodeContext → Names → Tree → Word → Tree → Tree → Span → Result Checked (Fault Break) → Type 0
-ChecksOptional c B i w a b at result = ChecksAs c (λ G. match_shape (row_of Match) G B (i ∷ word w ∷ a ∷ b ∷ [])) at (forest_depth (forest (i ∷ word w ∷ a ∷ b ∷ [])) + 1) result
+ChecksOptional c B i w a b at result = ChecksMatch c B (optional_branches w (i ∷ a ∷ b ∷ [])) at result
 
 abbrev pub ChecksResponse : CodeContext → Names → Tree → Word → Tree → Word → Tree → Span → Result Checked (Fault Break) → Type 0
-ChecksResponse c B i w a w' b at result = ChecksAs c (λ G. match_shape (row_of Match) G B (i ∷ word w ∷ a ∷ word w' ∷ b ∷ [])) at (forest_depth (forest (i ∷ word w ∷ a ∷ word w' ∷ b ∷ [])) + 1) result
+ChecksResponse c B i w a w' b at result = ChecksMatch c B (response_branches w w' (i ∷ a ∷ b ∷ [])) at result
 
 -- the rule that two items break of which not both are names
 abbrev pub odd_rule : CodeContext → Names → Tree → Tree → Rule

@@ -9,7 +9,7 @@ ghost use Rattle.cl_forms.specs.Shapes.{bindings_of};
 ghost use Rattle.cl_rules.specs.Context.{bind as bind_name, named_in};
 ghost use Rattle.cl_rules.specs.ControlShapes.{bound_name};
 ghost use Rattle.cl_rules.specs.Shapes.{parts as plan_parts};
-ghost use Rattle.cl_code.specs.Expression.{headed, word};
+ghost use Rattle.cl_code.specs.Expression.{headed, optional_branches, response_branches};
 ghost use Rattle.cl_code.specs.OpNames.{iteration_head, name_head};
 ghost use Rattle.cl_code.specs.Typed.{expression_of};
 ghost use Rattle.cl_typing.specs.Verdicts.{texts_of};
@@ -414,7 +414,7 @@ fn check_optional(
     requires third { Fits none.now }
     requires free { taken_in ctx.now scope.old.entries part.name ≡ false }
     ensures found { ChecksOptional ctx.now scope.old.entries input.now part some.now none.now span result }
-    ensures text { IfOk result (λ c. expression_of c.code ≡ headed (codes "match") head (input.now ∷ word part ∷ some.now ∷ none.now ∷ []) span) }
+    ensures text { IfOk result (λ c. expression_of c.code ≡ headed (codes "match") head (optional_branches part (input.now ∷ some.now ∷ none.now ∷ [])) span) }
     ensures kept { IfOk result (λ _. scope.new.entries ≡ scope.old.entries) }
 {
     let found = match check_expr(alloc, ctx, scope, input) {
@@ -487,7 +487,7 @@ fn check_response(
     requires three { Fits second.now }
     requires free { shadowed_in ctx.now scope.old.entries (good.name ∷ bad.name ∷ []) ≡ false }
     ensures found { ChecksResponse ctx.now scope.old.entries input.now good first.now bad second.now span result }
-    ensures text { IfOk result (λ c. expression_of c.code ≡ headed (codes "match") head (input.now ∷ word good ∷ first.now ∷ word bad ∷ second.now ∷ []) span) }
+    ensures text { IfOk result (λ c. expression_of c.code ≡ headed (codes "match") head (response_branches good bad (input.now ∷ first.now ∷ second.now ∷ [])) span) }
     ensures kept { IfOk result (λ _. scope.new.entries ≡ scope.old.entries) }
 {
     let found = match check_expr(alloc, ctx, scope, input) {

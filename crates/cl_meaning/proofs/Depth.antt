@@ -11,12 +11,12 @@ use Rattle.cl_forms.specs.declared.head.TokenNative.TheVariants.{MintFt, BurnFt,
 use Rattle.cl_forms.specs.declared.head.Head.{Head}
 use Rattle.cl_forms.specs.declared.head.Head.TheVariants.{OnValues, OnToken, TupleOf, AsMaxLen, Get, VarGet, VarSet, MapGet, MapSet, MapInsert, MapDelete, FtBalance, FtSupply, StxBalance, NftOwner, Print, If, Let, Begin, And, Or, Asserts, Unwrap, UnwrapErr, Try, Match, AsContract, Map, Filter, Fold, ContractCall}
 use Rattle.cl_forms.specs.Heads.{Row, native}
-use Rattle.cl_forms.specs.Shapes.{trees_of, binding_of, bindings_of, pairs_of}
+use Rattle.cl_forms.specs.Shapes.{trees_of, binding_of, bindings_of, pairs_of, MatchParts, OptionalMatch, ResponseMatch, match_of}
 use Rattle.cl_events.specs.State.{State}
 use Rattle.cl_meaning.specs.Answers.{Answer, Deeper}
 use Rattle.cl_meaning.specs.Deployed.{Function}
 use Rattle.cl_meaning.specs.Scope.{Scope, BoundValues, Callee, OwnFunction, ByName, Take, Enter, parts, binding, taken_with}
-use Rattle.cl_meaning.specs.Control.{if_form, begin_form, let_in, let_form, and_on, or_on, and_form, or_form, throwing, asserts_form, wanted_part, err_part, unwrap_form, unwrap_err_form, try_form, match_optional, match_response, match_form, as_contract_form}
+use Rattle.cl_meaning.specs.Control.{if_form, begin_form, let_in, let_form, and_on, or_on, and_form, or_form, throwing, asserts_form, wanted_part, err_part, unwrap_form, unwrap_err_form, try_form, match_optional, match_response, match_form, as_contract_form, match_taken}
 use Rattle.cl_meaning.specs.Values.{strict_form, tuple_form, get_form, as_max_len_form}
 use Rattle.cl_meaning.specs.Data.{var_set_form, map_get_form, map_set_form, map_insert_form, map_delete_form}
 use Rattle.cl_meaning.specs.Tokens.{ft_balance_form, stx_balance_form, nft_owner_form, act_form, named_act_form, token_form, print_form}
@@ -176,11 +176,14 @@ module _ (take deep : Take) (t : TakesBelow take deep) where
   response_below S x a y b (ListV vs) s = below_same _
   response_below S x a y b (TupleV es) s = below_same _
 
+  branches_below : (S : Scope) (m : Option MatchParts) (s : State) → Below (match_taken take S m s) (match_taken deep S m s)
+  branches_below S (Some (OptionalMatch e x a b)) s = below_charged _ _ (below_then (t S e s) (optional_below S x a b))
+  branches_below S (Some (ResponseMatch e x a y b)) s = below_charged _ _ (below_then (t S e s) (response_below S x a y b))
+  branches_below S None s = below_same _
+
   match_below : (S : Scope) (es : List Tree) (s : State) → Below (match_form take S es s) (match_form deep S es s)
   unfolding match_form
-  match_below S (e ∷ LeafAt (Named x) at ∷ a ∷ b ∷ []) s = below_charged _ _ (below_then (t S e s) (optional_below S x a b))
-  match_below S (e ∷ LeafAt (Named x) at ∷ a ∷ LeafAt (Named y) at' ∷ b ∷ []) s = below_charged _ _ (below_then (t S e s) (response_below S x a y b))
-  match_below S es s = below_same _
+  match_below S es s = branches_below S (match_of es) s
 
   as_contract_below : (S : Scope) (es : List Tree) (s : State) → Below (as_contract_form take S es s) (as_contract_form deep S es s)
   unfolding as_contract_form

@@ -1,10 +1,10 @@
 -- The natives that decide which of their parts are taken. Each is charged first, by the number of its arguments in the text.
-use Rattle.std.specs.Prelude.{ℕ, suc, true, false, List, [], ◌∷◌, length}
+use Rattle.std.specs.Prelude.{ℕ, suc, true, false, List, [], ◌∷◌, length, Option, Some, None}
 use Rattle.cl_shapes.specs.declared.name.CostName.TheVariants.{Control, Bind}
-use Rattle.cl_sexpr.specs.Tree.{Tree, LeafAt, ListAt, Named}
+use Rattle.cl_sexpr.specs.Tree.{Tree, ListAt}
 use Rattle.cl_values.specs.Tree.{Tree as Val, BoolV, NoneV, SomeV, ResponseV}
 use Rattle.cl_values.specs.Wire.{size_of}
-use Rattle.cl_forms.specs.Shapes.{trees_of, binding_of}
+use Rattle.cl_forms.specs.Shapes.{trees_of, binding_of, MatchParts, OptionalMatch, ResponseMatch, match_of}
 use Rattle.cl_events.specs.State.{State}
 use Rattle.cl_meaning.specs.Answers.{Answer, Thrown, stop, give, wrong, charged, and_then, with_known}
 use Rattle.cl_meaning.specs.Scope.{Scope, Take, parts, binding, in_frame, as_contract, taken_with}
@@ -115,10 +115,14 @@ match_response take S x a y b (ResponseV true v) s = taken_with take S x v a s
 match_response take S x a y b (ResponseV false v) s = taken_with take S y v b s
 match_response take S x a y b v s = wrong s
 
+-- charged by the number of items that its parts are
+abbrev pub match_taken : Take → Scope → Option MatchParts → State → Answer Val
+match_taken take S (Some (OptionalMatch e x a b)) s = charged Control 4 (and_then (take S e s) (match_optional take S x a b))
+match_taken take S (Some (ResponseMatch e x a y b)) s = charged Control 5 (and_then (take S e s) (match_response take S x a y b))
+match_taken take S None s = wrong s
+
 unfoldable pub match_form : Take → Scope → List Tree → State → Answer Val
-match_form take S (e ∷ LeafAt (Named x) at ∷ a ∷ b ∷ []) s = charged Control 4 (and_then (take S e s) (match_optional take S x a b))
-match_form take S (e ∷ LeafAt (Named x) at ∷ a ∷ LeafAt (Named y) at' ∷ b ∷ []) s = charged Control 5 (and_then (take S e s) (match_response take S x a y b))
-match_form take S es s = wrong s
+match_form take S es s = match_taken take S (match_of es) s
 
 -- its part is taken with sender and caller the contract itself
 unfoldable pub as_contract_form : Take → Scope → List Tree → State → Answer Val

@@ -11,7 +11,7 @@ use Rattle.cl_sexpr.specs.Tree.{Tree, Leaf}
 use Rattle.cl_forms.specs.Forms.{Form, FunctionForm}
 use Rattle.cl_forms.specs.Names.{same, name_at, Names as NamesAt, is_one_of}
 use Rattle.cl_forms.specs.Order.{is_in}
-use Rattle.cl_forms.specs.Writes.{Writes, has_writing_body}
+use Rattle.cl_forms.specs.Writes.{Writes, has_writing_body, has_write}
 use Rattle.cl_code.specs.Typed.{Typed, typeds, expression_of}
 use Rattle.cl_code.specs.Definitions.{form_defined, function_form}
 use Rattle.cl_code.specs.declared.definition.Function.{Function}
@@ -25,7 +25,7 @@ use Rattle.cl_contracts.specs.declared.checked.Checked.{Checked}
 use Rattle.cl_contracts.specs.Seen.{IsIndexed, forms_of, kind_at}
 use Rattle.cl_contracts.specs.Standing.{Stands, StandAll}
 use Rattle.cl_contracts.specs.Standings.{StandsAs, AllStand, StandsAfter}
-use Rattle.cl_readonly.specs.Writing.{AreFunctions, has_write}
+use Rattle.cl_readonly.specs.Writing.{AreFunctions}
 use Rattle.cl_readonly.specs.Functions.{HaveOwnNames, AreThoseThatWrite, BodyNames, with_form}
 use Rattle.cl_readonly.proofs.Walking.{Tells, rest_of}
 use Rattle.cl_readonly.proofs.Noting.{Noted, noted_past, noted_more, place_in, same_form, within}
@@ -70,7 +70,7 @@ pub function_with : (is_public : Leaf → List ℕ → Bool) (D : Defined) (f : 
 function_with is_public D f fs gs found b stands tells is =
     let one = one_part D.context f.params.items _ f.body found stands.trees in
     let told = tells f.params.items one.0 one.2 in
-    (chosen b (has_write fs is_public (expression_of f.body)) (insert_key same fs f.name) fs gs told.0 is, λ k. told.1 (told.0 ∙ k))
+    (chosen b (has_write (is_one_of fs) is_public (expression_of f.body)) (insert_key same fs f.name) fs gs told.0 is, λ k. told.1 (told.0 ∙ k))
 
 -- a definition that is no function
 abbrev pub is_function : Definition → Bool

@@ -1,6 +1,5 @@
 pub mod Heads
 pub mod InOrder
-pub mod Least
 pub mod WritesOfParts
 pub mod NodeNames
 pub mod Noting

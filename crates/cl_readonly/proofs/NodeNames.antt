@@ -14,7 +14,7 @@ use Rattle.cl_forms.specs.Heads.{Row, native, is_reserved}
 use Rattle.cl_forms.specs.HeadNames.{name_of}
 use Rattle.cl_forms.specs.Names.{same, Place, Plain, AtPairs, place_behind, next_place, is_one, first_at, atoms_in, atoms_of, atoms_of_pairs, is_one_of}
 use Rattle.cl_forms.specs.Shapes.{trees_of}
-use Rattle.cl_forms.specs.Writes.{applying_natives, Call, calls_in, calls_behind, calls_of_pairs}
+use Rattle.cl_forms.specs.Writes.{applying_natives, Call, calls_in, calls_behind, calls_of_pairs, gives_one}
 use Rattle.cl_rules.specs.Faults.{shape_rules}
 use Rattle.cl_rules.specs.Context.{Context, Names, Signature, bind, is_taken, is_top_level, is_named, signature_in}
 use Rattle.cl_rules.specs.ControlShapes.{is_shadowed, bound_name}
@@ -32,7 +32,7 @@ use Rattle.cl_code.specs.OpNames.{parts_head, name_head, iteration_head}
 use Rattle.cl_code.specs.Expression.{expression, headed, word, target, applied_name, binding, bound_items, keyed, behind_first}
 use Rattle.cl_code.specs.Nodes.{has_own_name}
 use Rattle.cl_code.specs.Typed.{Typed, expression_of}
-use Rattle.cl_readonly.specs.Naming.{gives_it, calls_it, IsNamed, AllNameUnknown}
+use Rattle.cl_readonly.specs.Naming.{calls_it, IsNamed, AllNameUnknown}
 use Rattle.cl_readonly.proofs.Tests.{either_is, both_are, differ}
 use Rattle.cl_forms.proofs.FreeNames.{no_native}
 use Rattle.cl_readonly.proofs.Heads.{applies_head, is_tuple, applies_name, tuple_name, is_native, no_applying, no_tuple}
@@ -87,7 +87,7 @@ module _ (x : List ℕ) where
     other head = not_true (same x (name_of head)) (λ h. is_native head (ap native (sym (keys_equal x (name_of head) h)) ∙ none))
 
     not_it : (head : Head) (es : Forest) → applies_head head ≡ false → calls_it x (record { operator = name_of head; parts = es }) ≡ false
-    not_it head es h i = other head i || ((applies_name head ∙ h) i && gives_it x es)
+    not_it head es h i = other head i || ((applies_name head ∙ h) i && gives_one (same x) es)
 
     native_named : (head : Head) (es : List Tree) (at at' : Span) → (is_tuple head ≡ false) × (applies_head head ≡ false) → AllNamed es → IsNamed x (headed (name_of head) at es at')
     native_named head es at at' h all = list_named (name_of head) es at at' all (tuple_name head ∙ h.0) (λ c p. absurd (differ _ c (not_it head (forest es) h.1)))
@@ -105,7 +105,7 @@ module _ (x : List ℕ) where
     plain_behind Filter = refl
     plain_behind Fold = refl
 
-    applied_there : (a : Applied) (es : Forest) (k : List ℕ) (front : List (List ℕ)) → place_behind k ≡ Plain → gives_it x (Then (applied_name a) es) ≡ true → written (front ++ atoms_of (place_behind k) (Then (applied_name a) es)) ≡ true
+    applied_there : (a : Applied) (es : Forest) (k : List ℕ) (front : List (List ℕ)) → place_behind k ≡ Plain → gives_one (same x) (Then (applied_name a) es) ≡ true → written (front ++ atoms_of (place_behind k) (Then (applied_name a) es)) ≡ true
     applied_there (Function f) es k front plain h = given_named f.name f.span es k front plain h
     applied_there (OnValuesBy n at) es k front plain h = given_named (name_of (heads.OnValues n)) at es k front plain h
     applied_there (AndBy at) es k front plain h = given_named (name_of heads.And) at es k front plain h
@@ -124,7 +124,7 @@ module _ (x : List ℕ) where
           | inl same_name ↦ absurd (differ _ same_name (other (iteration_head n)))
           | inr by_name ↦
               applied_there a (forest es) (name_of (iteration_head n)) (first_at p (is_one (Then (applied_name a) (forest es))) (name_of (iteration_head n))) (plain_behind n)
-              (both_are (is_one_of applying_natives (name_of (iteration_head n))) (gives_it x (Then (applied_name a) (forest es))) by_name).1
+              (both_are (is_one_of applying_natives (name_of (iteration_head n))) (gives_one (same x) (Then (applied_name a) (forest es))) by_name).1
         ])
 
     -- ---- tuples
@@ -159,7 +159,7 @@ module _ (x : List ℕ) where
           either (calls_it x (record { operator = y; parts = Then e Empty })) (called (calls_behind (same y (codes "tuple")) (Then e Empty))) (same x y) (written (atoms_of (place_behind y) (Then e Empty))) h
           (λ c. elim (either_is (same x y) _ c) [
             | inl same_name ↦ same_name
-            | inr by_name ↦ absurd (differ _ (both_are (is_one_of applying_natives y) (gives_it x (Then e Empty)) by_name).0 (no_applying y free))
+            | inr by_name ↦ absurd (differ _ (both_are (is_one_of applying_natives y) (gives_one (same x) (Then e Empty)) by_name).0 (no_applying y free))
           ])
           (λ c. behind_named (e ∷ []) (named, tt) (place_behind y) (ap (λ b. called (calls_behind b (Then e Empty))) (sym (no_tuple y free)) ∙ c))
 
@@ -212,7 +212,7 @@ module _ (x : List ℕ) where
           list_named y es head at all (no_tuple y free)
           (λ c p. elim (either_is (same x y) _ c) [
             | inl same_name ↦ absurd (undefined (native y) (signature_in y G.functions) B (trees_of (forest es)) free (ap (λ z. is_some (signature_in z G.functions)) (sym (keys_equal x y same_name)) ∙ unknown) rules)
-            | inr by_name ↦ absurd (differ _ (both_are (is_one_of applying_natives y) (gives_it x (forest es)) by_name).0 (no_applying y free))
+            | inr by_name ↦ absurd (differ _ (both_are (is_one_of applying_natives y) (gives_one (same x) (forest es)) by_name).0 (no_applying y free))
           ])
 
       pub node_named : (B : Names) (op : Op) (es : List Tree) (at : Span) → is_some (signature_in x G.functions) ≡ false → has_own_name op ≡ true → shape_rules (shape G B (expression op es at)).faults ≡ [] → AllNamed es → IsNamed x (expression op es at)

@@ -14,18 +14,12 @@ use Rattle.cl_forms.specs.Heads.{native}
 use Rattle.cl_forms.specs.Names.{same, Plain, atoms_in, atoms_of_form, atoms_of_expression, is_among, name_at, Names, is_one_of}
 use Rattle.cl_forms.specs.Forms.{expression_of}
 use Rattle.cl_forms.specs.Order.{is_in}
-use Rattle.cl_forms.specs.Writes.{writing_natives, applying_natives, Call, calls_in, Writes, WritesIn, has_writing_body, by_native, by_function, by_name, by_contract}
+use Rattle.cl_forms.specs.Writes.{calls_in, Writes, WritesIn, has_writing_body, by_native, by_function, by_name, by_contract, has_write}
+use Rattle.cl_forms.proofs.Writing.{any_there, native_there, function_there, name_there, contract_there, write_is}
 use Rattle.cl_rules.specs.Context.{Context, Signature, signature_in}
-use Rattle.cl_readonly.specs.Writing.{gives_one, call_writes, has_write}
 use Rattle.cl_readonly.specs.Naming.{calls_it, NamesUnknown}
 use Rattle.cl_readonly.specs.Functions.{HaveOwnNames}
-use Rattle.cl_readonly.proofs.Least.{call_there, write_there}
 use Rattle.cl_readonly.proofs.Tests.{either_is, differ}
-
-any_there : {A : Type 0} (test : A → Bool) (xs : List A) (x : A) → Contains xs x → test x ≡ true → list_any test xs ≡ true
-any_there test [] x (n, l, e) h = absurd (omega (arith, l))
-any_there test (y ∷ xs) x (zero, l, e) h = ap (λ b. b || list_any test xs) (ap test e ∙ h)
-any_there test (y ∷ xs) x (suc n, l, e) h = or_right (test y) (list_any test xs) (any_there test xs x (n, omega (arith, l), e) h)
 
 pub place_in : (xs : List Form) (form : Form) → Contains xs form → (n : ℕ) × (slice_get xs n ≡ Some form)
 place_in [] form (n, l, e) = absurd (omega (arith, l))
@@ -147,38 +141,29 @@ module _ (forms : List Form) (is_public : Leaf → List ℕ → Bool) where
         by true h = complete y w h
         by false h = absurd (differ (is_known G.functions y) (known y w (names y (natives y w) h Plain called)) h)
 
-    there_is : (c : Call) → Contains (calls_in e) c → call_writes fs is_public c ≡ true → has_write fs is_public e ≡ true
-    there_is c there h = any_there (call_writes fs is_public) (calls_in e) c there h
-
-    must_write : (has_write fs is_public e ≡ false → NamesUnknown G e) → WritesIn forms is_public e → has_write fs is_public e ≡ true
-    must_write names w = by (has_write fs is_public e) refl
+    must_write : (has_write (is_one_of fs) is_public e ≡ false → NamesUnknown G e) → WritesIn forms is_public e → has_write (is_one_of fs) is_public e ≡ true
+    must_write names w = by (has_write (is_one_of fs) is_public e) refl
       where
-        case : has_write fs is_public e ≡ false → WritesIn forms is_public e → has_write fs is_public e ≡ true
-        case k (by_native {x = x} {parts = parts} there h) = there_is (record { operator = x; parts = parts }) there (left_too (is_one_of writing_natives x) _ h)
+        case : has_write (is_one_of fs) is_public e ≡ false → WritesIn forms is_public e → has_write (is_one_of fs) is_public e ≡ true
+        case k (by_native {x = x} {parts = parts} there h) = native_there is_public (is_one_of fs) e x parts there h
         case k (by_function {x = x} {parts = parts} there w) =
-            let h = called_writes x w (names k) (any_there (calls_it x) (calls_in e) (record { operator = x; parts = parts }) there (left_too (same x x) _ (key_same x))) in
-            there_is (record { operator = x; parts = parts }) there (or_right (is_one_of writing_natives x) _ (left_too (is_one_of fs x) _ h))
+            function_there is_public (is_one_of fs) e x parts there
+            (called_writes x w (names k) (any_there (calls_it x) (calls_in e) (record { operator = x; parts = parts }) there (left_too (same x x) _ (key_same x))))
         case k (by_name {x = x} {f = f} {parts = parts} at there applies w) =
-            let c : Call = record { operator = x; parts = Then (LeafAt (Named f) at) parts } in
-            let h = called_writes f w (names k) (any_there (calls_it f) (calls_in e) c there (or_right (same f x) _ (ap (λ b. b && same f f) applies ∙ key_same f))) in
-            there_is c there (or_right (is_one_of writing_natives x) _ (or_right (is_one_of fs x) _ (left_too (is_one_of applying_natives x && is_one_of fs f) _ (ap (λ b. b && is_one_of fs f) applies ∙ h))))
-        case k (by_contract {x = x} {f = f} {contract = contract} {parts = parts} at at' there is h) =
-            let c : Call = record { operator = x; parts = Then (LeafAt contract at) (Then (LeafAt (Named f) at') parts) } in
-            there_is c there (or_right (is_one_of writing_natives x) _ (or_right (is_one_of fs x) _ (or_right (is_one_of applying_natives x && gives_one fs c.parts) _ (ap (λ b. b && is_public contract f) (ap (same x) (sym is) ∙ key_same x) ∙ h))))
+            name_there is_public (is_one_of fs) e x f at parts there applies
+            (called_writes f w (names k) (any_there (calls_it f) (calls_in e) (record { operator = x; parts = Then (LeafAt (Named f) at) parts }) there (or_right (same f x) _ (ap (λ b. b && same f f) applies ∙ key_same f))))
+        case k (by_contract {x = x} {f = f} {contract = contract} {parts = parts} at at' there is h) = contract_there is_public (is_one_of fs) e x f contract at at' parts there is h
 
-        by : (b : Bool) → has_write fs is_public e ≡ b → has_write fs is_public e ≡ true
+        by : (b : Bool) → has_write (is_one_of fs) is_public e ≡ b → has_write (is_one_of fs) is_public e ≡ true
         by true h = h
         by false h = case h w
 
-  writes_in : (fs : List (List ℕ)) (e : Tree) → ((x : List ℕ) → is_one_of fs x ≡ true → Writes forms is_public x) → has_write fs is_public e ≡ true → WritesIn forms is_public e
-  writes_in fs e each h = write_there forms is_public fs each e (call_there forms is_public fs (calls_in e) h)
-
   module _ (own : HaveOwnNames forms) (once : (x : List ℕ) (n m : ℕ) → name_at forms n ≡ Some x → name_at forms m ≡ Some x → n ≡ m) where
-    name_there : (n : ℕ) (form : Form) (x : List ℕ) → slice_get forms n ≡ Some form → form.name ≡ Some x → name_at forms n ≡ Some x
-    name_there n form x at named = ap (option_and_then (λ (f : Form). f.name)) at ∙ named
+    named_at : (n : ℕ) (form : Form) (x : List ℕ) → slice_get forms n ≡ Some form → form.name ≡ Some x → name_at forms n ≡ Some x
+    named_at n form x at named = ap (option_and_then (λ (f : Form). f.name)) at ∙ named
 
     own_natives : (y : List ℕ) → Writes forms is_public y → native y ≡ None
-    own_natives y (has_writing_body d w) = let p = place_in forms d.form d.there in own y p.0 (name_there p.0 d.form y p.1 d.named)
+    own_natives y (has_writing_body d w) = let p = place_in forms d.form d.there in own y p.0 (named_at p.0 d.form y p.1 d.named)
 
     module _ (G : Context) (fs : List (List ℕ)) (front : List ℕ) (n : ℕ) (form : Form) (name : List ℕ) (access : Access) (params : List (List ℕ × PlainType)) (body : Tree)
         (at : slice_get forms n ≡ Some form) (named : form.name ≡ Some name) (kind : form.kind ≡ FunctionForm access params body)
@@ -194,10 +179,10 @@ module _ (forms : List Form) (is_public : Leaf → List ℕ → Bool) where
       same_body : (k l : FormKind) (a b : Access) (ps qs : List (List ℕ × PlainType)) (c d : Tree) → k ≡ l → k ≡ FunctionForm a ps c → l ≡ FunctionForm b qs d → c ≡ d
       same_body k l a b ps qs c d e h g = cc
 
-      itself_writes : (has_write fs is_public body ≡ false → NamesUnknown G body) → Writes forms is_public name → has_write fs is_public body ≡ true
+      itself_writes : (has_write (is_one_of fs) is_public body ≡ false → NamesUnknown G body) → Writes forms is_public name → has_write (is_one_of fs) is_public body ≡ true
       itself_writes names (has_writing_body {body = other} d w) =
           let p = place_in forms d.form d.there in
-          let one : p.0 ≡ n = once name p.0 n (name_there p.0 d.form name p.1 d.named) (name_there n form name at named) in
+          let one : p.0 ≡ n = once name p.0 n (named_at p.0 d.form name p.1 d.named) (named_at n form name at named) in
           let forms_same : d.form ≡ form = same_form d.form form (sym p.1 ∙ ap (slice_get forms) one ∙ at) in
           let bodies : other ≡ body = same_body d.form.kind form.kind d.access access d.params params other body (ap (λ (f : Form). f.kind) forms_same) d.function kind in
           must_write G fs body own_natives noted.complete named_known names (subst (WritesIn forms is_public) bodies w)
@@ -211,8 +196,8 @@ module _ (forms : List Form) (is_public : Leaf → List ℕ → Bool) where
           same_name x y h = cc
 
       -- with one more function
-      pub noted_more : (s : Signature) (gs : List (List ℕ)) → s.name ≡ name → gs ≡ (if has_write fs is_public body then insert_key same fs name else fs) → (has_write fs is_public body ≡ false → NamesUnknown G body) → Noted (G.functions ++ s ∷ []) gs (front ++ n ∷ [])
-      noted_more s gs s_is gs_is names = subst (λ (gs : List (List ℕ)). Noted (G.functions ++ s ∷ []) gs (front ++ n ∷ [])) (sym gs_is) (by (has_write fs is_public body) refl)
+      pub noted_more : (s : Signature) (gs : List (List ℕ)) → s.name ≡ name → gs ≡ (if has_write (is_one_of fs) is_public body then insert_key same fs name else fs) → (has_write (is_one_of fs) is_public body ≡ false → NamesUnknown G body) → Noted (G.functions ++ s ∷ []) gs (front ++ n ∷ [])
+      noted_more s gs s_is gs_is names = subst (λ (gs : List (List ℕ)). Noted (G.functions ++ s ∷ []) gs (front ++ n ∷ [])) (sym gs_is) (by (has_write (is_one_of fs) is_public body) refl)
         where
           old_known : (x : List ℕ) → is_known G.functions x ≡ true → is_known (G.functions ++ s ∷ []) x ≡ true
           old_known x h = known_more G.functions s x ∙ left_too (is_known G.functions x) (same s.name x) h
@@ -232,15 +217,15 @@ module _ (forms : List Form) (is_public : Leaf → List ℕ → Bool) where
             | inr new ↦ new_known x (name_is m other x new at' named')
           ]
 
-          by : (b : Bool) → has_write fs is_public body ≡ b → Noted (G.functions ++ s ∷ []) (if b then insert_key same fs name else fs) (front ++ n ∷ [])
+          by : (b : Bool) → has_write (is_one_of fs) is_public body ≡ b → Noted (G.functions ++ s ∷ []) (if b then insert_key same fs name else fs) (front ++ n ∷ [])
           by true h = record {
             functions = λ x there. elim (inserted_is fs name x there) [
               | inl old ↦ ((noted.functions x old).0, old_known x (noted.functions x old).1)
-              | inr new ↦ (own x n (name_there n form x at (named ∙ ap (λ (y : List ℕ). Some y) new)), new_known x new)
+              | inr new ↦ (own x n (named_at n form x at (named ∙ ap (λ (y : List ℕ). Some y) new)), new_known x new)
             ];
             sound = λ x there. elim (inserted_is fs name x there) [
               | inl old ↦ noted.sound x old
-              | inr new ↦ subst (Writes forms is_public) new (has_writing_body (record { form = form; access = access; params = params; there = contained forms n form at; named = named; function = kind }) (writes_in fs body noted.sound h))
+              | inr new ↦ subst (Writes forms is_public) new (has_writing_body (record { form = form; access = access; params = params; there = contained forms n form at; named = named; function = kind }) (write_is is_public (is_one_of fs) body forms noted.sound h))
             ];
             complete = λ x w known. elim (known_is x known) [
               | inl old ↦ one_inserted fs name x (noted.complete x w old)
@@ -253,7 +238,7 @@ module _ (forms : List Form) (is_public : Leaf → List ℕ → Bool) where
             sound = noted.sound;
             complete = λ x w known. elim (known_is x known) [
               | inl old ↦ noted.complete x w old
-              | inr new ↦ absurd (differ (has_write fs is_public body) (itself_writes names (subst (Writes forms is_public) (sym new) w)) h)
+              | inr new ↦ absurd (differ (has_write (is_one_of fs) is_public body) (itself_writes names (subst (Writes forms is_public) (sym new) w)) h)
             ];
             known = all_known;
           }

@@ -16,7 +16,9 @@ use Rattle.cl_code.specs.Nodes.{has_own_name, has_parts}
 use Rattle.cl_code.specs.Expression.{expression}
 use Rattle.cl_code.specs.Typed.{Typed, TypedAs, typeds, expression_of, weight_of, weights_of}
 use Rattle.cl_contracts.specs.Standing.{Stands, StandAll}
-use Rattle.cl_readonly.specs.Writing.{has_write, node_writes, AreFunctions}
+use Rattle.cl_forms.specs.Names.{is_one_of}
+use Rattle.cl_forms.specs.Writes.{has_write}
+use Rattle.cl_readonly.specs.Writing.{node_writes, AreFunctions}
 use Rattle.cl_readonly.specs.Naming.{NamesUnknown, AllNameUnknown}
 use Rattle.cl_readonly.proofs.WritesOfParts.{node_has}
 use Rattle.cl_readonly.proofs.NodeNames.{node_named, all_named}
@@ -33,7 +35,7 @@ rest_of xs i x lt at =
 
 module _ (fs : List (List ℕ)) (is_public : Leaf → List ℕ → Bool) (G : Context) where
   abbrev pub any_of : List Typed → Bool
-  any_of qs = list_any (has_write fs is_public) (map expression_of qs)
+  any_of qs = list_any (has_write (is_one_of fs) is_public) (map expression_of qs)
 
   -- of parts that stand, those that are left decide
   abbrev pub LeftOf : List Typed → List Typed → Type 0
@@ -41,7 +43,7 @@ module _ (fs : List (List ℕ)) (is_public : Leaf → List ℕ → Bool) (G : Co
 
   -- This tells whether a tree has a call that writes; where it has none, the tree names what it calls.
   abbrev pub Tells : Typed → Bool → Type 0
-  Tells code b = (b ≡ has_write fs is_public (expression_of code)) × (b ≡ false → NamesUnknown G (expression_of code))
+  Tells code b = (b ≡ has_write (is_one_of fs) is_public (expression_of code)) × (b ≡ false → NamesUnknown G (expression_of code))
 
   -- so it is whatever stands for the tree
   abbrev pub TellsOf : Typed → Bool → Type 0
@@ -108,7 +110,7 @@ module _ (fs : List (List ℕ)) (is_public : Leaf → List ℕ → Bool) (G : Co
   tree_writes_here B f op qs at t code own named fit is stands here =
       let s : Stands G B (TypedAs (expression op (map expression_of qs) at) t (typeds qs)) f = subst (λ (q : Typed). Stands G B q f) (sym is) stands in
       let count : has_parts op (length (map expression_of qs)) ≡ true = ap (has_parts op) (length-map qs expression_of) ∙ fit in (
-        ap (λ b. b || any_of qs) here ∙ sym (node_has fs is_public G own B op (map expression_of qs) at named count s.1) ∙ ap (λ (q : Typed). has_write fs is_public (expression_of q)) is,
+        ap (λ b. b || any_of qs) here ∙ sym (node_has fs is_public G own B op (map expression_of qs) at named count s.1) ∙ ap (λ (q : Typed). has_write (is_one_of fs) is_public (expression_of q)) is,
         λ k. absurd (clash k),
       )
     where

@@ -15,7 +15,7 @@ use Rattle.cl_forms.specs.Heads.{native, is_reserved}
 use Rattle.cl_forms.specs.HeadNames.{name_of}
 use Rattle.cl_forms.specs.Shapes.{trees_of}
 use Rattle.cl_forms.specs.Names.{is_one_of}
-use Rattle.cl_forms.specs.Writes.{writing_natives, Call, calls_in, calls_of_list, calls_behind, calls_of_pairs}
+use Rattle.cl_forms.specs.Writes.{writing_natives, Call, calls_in, calls_of_list, calls_behind, calls_of_pairs, gives_one, crosses, call_writes, has_write}
 use Rattle.cl_rules.specs.Faults.{when, ShapeFaults, shape_rules}
 use Rattle.cl_rules.specs.Context.{Context, Names, bind, is_taken, is_top_level, is_named, signature_in}
 use Rattle.cl_rules.specs.ControlShapes.{is_shadowed, bound_name}
@@ -36,7 +36,7 @@ use Rattle.cl_code.specs.declared.op.Op.TheVariants.{Int, Uint, Buff, Ascii, Utf
 use Rattle.cl_code.specs.OpNames.{parts_head, name_head, iteration_head}
 use Rattle.cl_code.specs.Expression.{expression, headed, word, target, applied_name, bound_items, keyed, behind_first}
 use Rattle.cl_code.specs.Nodes.{has_own_name, has_parts}
-use Rattle.cl_readonly.specs.Writing.{gives_one, crosses, call_writes, has_write, applied_writes, target_leaf, node_writes, AreFunctions}
+use Rattle.cl_readonly.specs.Writing.{applied_writes, target_leaf, node_writes, AreFunctions}
 use Rattle.cl_forms.proofs.FreeNames.{no_native}
 use Rattle.cl_readonly.proofs.Heads.{writes_head, applies_head, crosses_head, is_tuple, writes_name, applies_name, crosses_name, tuple_name, is_native, no_writing, no_applying, no_crossing, no_tuple}
 
@@ -94,59 +94,59 @@ below m n h = omega (arith, ltb-true m n h)
 
 module _ (fs : List (List ℕ)) (is_public : Leaf → List ℕ → Bool) where
   abbrev pub any_call : List Call → Bool
-  any_call cs = list_any (call_writes fs is_public) cs
+  any_call cs = list_any (call_writes (is_one_of fs) is_public) cs
 
   abbrev pub any_part : List Tree → Bool
-  any_part es = list_any (has_write fs is_public) es
+  any_part es = list_any (has_write (is_one_of fs) is_public) es
 
   behind_plain : (es : List Tree) → any_call (calls_behind false (forest es)) ≡ any_part es
   behind_plain [] = refl
-  behind_plain (e ∷ es) = list_any-append (call_writes fs is_public) (calls_in e) (calls_behind false (forest es)) ∙ ap (λ b. has_write fs is_public e || b) (behind_plain es)
+  behind_plain (e ∷ es) = list_any-append (call_writes (is_one_of fs) is_public) (calls_in e) (calls_behind false (forest es)) ∙ ap (λ b. has_write (is_one_of fs) is_public e || b) (behind_plain es)
 
   -- a call of what is no native
-  call_of : (x : List ℕ) (es : Forest) → native x ≡ None → call_writes fs is_public (record { operator = x; parts = es }) ≡ is_one_of fs x
-  call_of x es h = (λ i. no_writing x h i || (is_one_of fs x || ((no_applying x h i && gives_one fs es) || (no_crossing x h i && crosses is_public es)))) ∙ or_none (is_one_of fs x)
+  call_of : (x : List ℕ) (es : Forest) → native x ≡ None → call_writes (is_one_of fs) is_public (record { operator = x; parts = es }) ≡ is_one_of fs x
+  call_of x es h = (λ i. no_writing x h i || (is_one_of fs x || ((no_applying x h i && gives_one (is_one_of fs) es) || (no_crossing x h i && crosses is_public es)))) ∙ or_none (is_one_of fs x)
 
   module _ (G : Context) (own : AreFunctions G fs) where
     no_own : (head : Head) → is_one_of fs (name_of head) ≡ false
     no_own head = not_true (is_one_of fs (name_of head)) (λ h. is_native head (own (name_of head) h).0)
 
-    native_call : (head : Head) (es : Forest) → call_writes fs is_public (record { operator = name_of head; parts = es }) ≡ (writes_head head || ((applies_head head && gives_one fs es) || (crosses_head head && crosses is_public es)))
-    native_call head es i = writes_name head i || (no_own head i || ((applies_name head i && gives_one fs es) || (crosses_name head i && crosses is_public es)))
+    native_call : (head : Head) (es : Forest) → call_writes (is_one_of fs) is_public (record { operator = name_of head; parts = es }) ≡ (writes_head head || ((applies_head head && gives_one (is_one_of fs) es) || (crosses_head head && crosses is_public es)))
+    native_call head es i = writes_name head i || (no_own head i || ((applies_name head i && gives_one (is_one_of fs) es) || (crosses_name head i && crosses is_public es)))
 
-    native_items : (head : Head) (es : List Tree) (at at' : Span) → is_tuple head ≡ false → has_write fs is_public (headed (name_of head) at es at') ≡ ((writes_head head || ((applies_head head && gives_one fs (forest es)) || (crosses_head head && crosses is_public (forest es)))) || any_part es)
+    native_items : (head : Head) (es : List Tree) (at at' : Span) → is_tuple head ≡ false → has_write (is_one_of fs) is_public (headed (name_of head) at es at') ≡ ((writes_head head || ((applies_head head && gives_one (is_one_of fs) (forest es)) || (crosses_head head && crosses is_public (forest es)))) || any_part es)
     native_items head es at at' h =
         (λ i. native_call head (forest es) i || any_call (calls_behind ((tuple_name head ∙ h) i) (forest es)))
-        ∙ ap (λ b. (writes_head head || ((applies_head head && gives_one fs (forest es)) || (crosses_head head && crosses is_public (forest es)))) || b) (behind_plain es)
+        ∙ ap (λ b. (writes_head head || ((applies_head head && gives_one (is_one_of fs) (forest es)) || (crosses_head head && crosses is_public (forest es)))) || b) (behind_plain es)
 
-    plain_items : (head : Head) (es : List Tree) (at at' : Span) → (is_tuple head ≡ false) × (applies_head head ≡ false) × (crosses_head head ≡ false) → has_write fs is_public (headed (name_of head) at es at') ≡ (is_one_of writing_natives (name_of head) || any_part es)
+    plain_items : (head : Head) (es : List Tree) (at at' : Span) → (is_tuple head ≡ false) × (applies_head head ≡ false) × (crosses_head head ≡ false) → has_write (is_one_of fs) is_public (headed (name_of head) at es at') ≡ (is_one_of writing_natives (name_of head) || any_part es)
     plain_items head es at at' h =
         native_items head es at at' h.0
-        ∙ (λ i. (sym (writes_name head) i || ((h.1 i && gives_one fs (forest es)) || (h.2 i && crosses is_public (forest es)))) || any_part es)
+        ∙ (λ i. (sym (writes_name head) i || ((h.1 i && gives_one (is_one_of fs) (forest es)) || (h.2 i && crosses is_public (forest es)))) || any_part es)
         ∙ ap (λ b. b || any_part es) (or_none (is_one_of writing_natives (name_of head)))
 
     -- ---- each kind of node
 
-    given : (a : Applied) (es : Forest) → gives_one fs (Then (applied_name a) es) ≡ applied_writes fs a
+    given : (a : Applied) (es : Forest) → gives_one (is_one_of fs) (Then (applied_name a) es) ≡ applied_writes fs a
     given (Function f) es = refl
     given (OnValuesBy native at) es = no_own (heads.OnValues native)
     given (AndBy at) es = no_own heads.And
     given (OrBy at) es = no_own heads.Or
 
-    given_plain : (a : Applied) → has_write fs is_public (applied_name a) ≡ false
+    given_plain : (a : Applied) → has_write (is_one_of fs) is_public (applied_name a) ≡ false
     given_plain (Function f) = refl
     given_plain (OnValuesBy native at) = refl
     given_plain (AndBy at) = refl
     given_plain (OrBy at) = refl
 
-    iterate_has : (n : Iteration) (a : Applied) (es : List Tree) (at at' : Span) → has_write fs is_public (headed (name_of (iteration_head n)) at (applied_name a ∷ es) at') ≡ (applied_writes fs a || any_part es)
+    iterate_has : (n : Iteration) (a : Applied) (es : List Tree) (at at' : Span) → has_write (is_one_of fs) is_public (headed (name_of (iteration_head n)) at (applied_name a ∷ es) at') ≡ (applied_writes fs a || any_part es)
     iterate_has n a es at at' =
         let plain = iteration_plain n in
         native_items (iteration_head n) (applied_name a ∷ es) at at' plain.3
         ∙ (λ i. (plain.0 i || ((plain.1 i && given a (forest es) i) || (plain.2 i && crosses is_public (forest (applied_name a ∷ es))))) || (given_plain a i || any_part es))
         ∙ ap (λ b. b || any_part es) (or_none (applied_writes fs a))
 
-    target_plain : (c : Target) → has_write fs is_public (target c) ≡ false
+    target_plain : (c : Target) → has_write (is_one_of fs) is_public (target c) ≡ false
     target_plain (StandingAt p at) = refl
     target_plain (LocalAt c at) = refl
 
@@ -154,7 +154,7 @@ module _ (fs : List (List ℕ)) (is_public : Leaf → List ℕ → Bool) where
     target_crosses (StandingAt p at') f at es = refl
     target_crosses (LocalAt c at') f at es = refl
 
-    across_has : (c : Target) (f : List ℕ) (at' : Span) (es : List Tree) (head at : Span) → has_write fs is_public (headed (name_of heads.ContractCall) head (target c ∷ LeafAt (Named f) at' ∷ es) at) ≡ (is_public (target_leaf c) f || any_part es)
+    across_has : (c : Target) (f : List ℕ) (at' : Span) (es : List Tree) (head at : Span) → has_write (is_one_of fs) is_public (headed (name_of heads.ContractCall) head (target c ∷ LeafAt (Named f) at' ∷ es) at) ≡ (is_public (target_leaf c) f || any_part es)
     across_has c f at' es head at =
         native_items heads.ContractCall (target c ∷ LeafAt (Named f) at' ∷ es) head at refl
         ∙ (λ i. target_crosses c f at' (forest es) i || (target_plain c i || any_part es))
@@ -163,15 +163,15 @@ module _ (fs : List (List ℕ)) (is_public : Leaf → List ℕ → Bool) where
     keyed_has [] [] h = refl
     keyed_has (k ∷ ks) [] h = refl
     keyed_has [] (e ∷ es) h = absurd (omega (arith, h))
-    keyed_has (k ∷ ks) (e ∷ es) h = list_any-append (call_writes fs is_public) (calls_in e) (calls_of_pairs (keyed ks es)) ∙ ap (λ b. has_write fs is_public e || b) (keyed_has ks es (omega (arith, h)))
+    keyed_has (k ∷ ks) (e ∷ es) h = list_any-append (call_writes (is_one_of fs) is_public) (calls_in e) (calls_of_pairs (keyed ks es)) ∙ ap (λ b. has_write (is_one_of fs) is_public e || b) (keyed_has ks es (omega (arith, h)))
 
     pairs_has : (bs : List Binding) (es : List Tree) → length es ≡ length bs → any_call (calls_behind true (forest (bound_items bs es))) ≡ any_part es
     pairs_has [] [] h = refl
     pairs_has (b ∷ bs) [] h = refl
     pairs_has [] (e ∷ es) h = absurd (omega (arith, h))
-    pairs_has (b ∷ bs) (e ∷ es) h = list_any-append (call_writes fs is_public) (calls_in e) (calls_behind true (forest (bound_items bs es))) ∙ ap (λ c. has_write fs is_public e || c) (pairs_has bs es (omega (arith, h)))
+    pairs_has (b ∷ bs) (e ∷ es) h = list_any-append (call_writes (is_one_of fs) is_public) (calls_in e) (calls_behind true (forest (bound_items bs es))) ∙ ap (λ c. has_write (is_one_of fs) is_public e || c) (pairs_has bs es (omega (arith, h)))
 
-    tuple_has : (bs : List Binding) (es : List Tree) (head at : Span) → length es ≡ length bs → has_write fs is_public (headed (name_of heads.TupleOf) head (bound_items bs es) at) ≡ any_part es
+    tuple_has : (bs : List Binding) (es : List Tree) (head at : Span) → length es ≡ length bs → has_write (is_one_of fs) is_public (headed (name_of heads.TupleOf) head (bound_items bs es) at) ≡ any_part es
     tuple_has bs es head at h =
         (λ i. native_call heads.TupleOf (forest (bound_items bs es)) i || any_call (calls_behind (tuple_name heads.TupleOf i) (forest (bound_items bs es)))) ∙ pairs_has bs es h
 
@@ -181,10 +181,10 @@ module _ (fs : List (List ℕ)) (is_public : Leaf → List ℕ → Bool) where
 
     -- ---- let
 
-    binding_has : (x : List ℕ) (e : Tree) (at at' : Span) → native x ≡ None → is_one_of fs x ≡ false → has_write fs is_public (ListAt (Then (LeafAt (Named x) at) (Then e Empty)) at') ≡ has_write fs is_public e
+    binding_has : (x : List ℕ) (e : Tree) (at at' : Span) → native x ≡ None → is_one_of fs x ≡ false → has_write (is_one_of fs) is_public (ListAt (Then (LeafAt (Named x) at) (Then e Empty)) at') ≡ has_write (is_one_of fs) is_public e
     binding_has x e at at' none h =
         (λ i. (call_of x (Then e Empty) none ∙ h) i || any_call (calls_behind (no_tuple x none i) (Then e Empty)))
-        ∙ list_any-append (call_writes fs is_public) (calls_in e) [] ∙ or_none (has_write fs is_public e)
+        ∙ list_any-append (call_writes (is_one_of fs) is_public) (calls_in e) [] ∙ or_none (has_write (is_one_of fs) is_public e)
 
     free_name : (C : Names) (x : List ℕ) → is_taken G C x ≡ false → (native x ≡ None) × (is_one_of fs x ≡ false)
     free_name C x h =
@@ -203,8 +203,8 @@ module _ (fs : List (List ℕ)) (is_public : Leaf → List ℕ → Bool) where
         let both = or_parts (is_taken G C b.word.name) (is_shadowed G (bind b.word.name NoType C) (filter_map bound_name (trees_of (forest (bound_items bs es))))) free in
         let one = free_name C b.word.name both.0 in
         ap (λ c. (c || any_part (bound_items bs es)) || any_part (drop (length bs) es)) (binding_has b.word.name e b.word.span b.span one.0 one.1)
-        ∙ or_left_of (has_write fs is_public e) (any_part (bound_items bs es)) (any_part (drop (length bs) es))
-        ∙ ap (λ c. has_write fs is_public e || c) (bound_has bs es (bind b.word.name NoType C) (omega (arith, h)) both.1)
+        ∙ or_left_of (has_write (is_one_of fs) is_public e) (any_part (bound_items bs es)) (any_part (drop (length bs) es))
+        ∙ ap (λ c. has_write (is_one_of fs) is_public e || c) (bound_has bs es (bind b.word.name NoType C) (omega (arith, h)) both.1)
 
     bracket_has : (bs : List Binding) (es : List Tree) → any_call (calls_of_list (forest (bound_items bs es))) ≡ any_part (bound_items bs es)
     bracket_has [] es = refl
@@ -212,31 +212,31 @@ module _ (fs : List (List ℕ)) (is_public : Leaf → List ℕ → Bool) where
     bracket_has (b ∷ bs) (e ∷ es) = behind_plain (bound_items (b ∷ bs) (e ∷ es))
 
     let_has : (B : Names) (head brackets at : Span) (bs : List Binding) (es : List Tree) → length bs ≤ length es → is_shadowed G B (filter_map bound_name (trees_of (forest (bound_items bs es)))) ≡ false →
-        has_write fs is_public (headed (name_of heads.Let) head (ListAt (forest (bound_items bs es)) brackets ∷ drop (length bs) es) at) ≡ any_part es
+        has_write (is_one_of fs) is_public (headed (name_of heads.Let) head (ListAt (forest (bound_items bs es)) brackets ∷ drop (length bs) es) at) ≡ any_part es
     let_has B head brackets at bs es h free =
         native_items heads.Let (ListAt (forest (bound_items bs es)) brackets ∷ drop (length bs) es) head at refl
         ∙ ap (λ c. c || any_part (drop (length bs) es)) (bracket_has bs es) ∙ bound_has bs es B h free
 
     -- ---- match
 
-    optional_has : (es : List Tree) (x : Tree) (head at : Span) → has_write fs is_public x ≡ false → has_write fs is_public (headed (name_of heads.Match) head (behind_first (λ e more. e ∷ x ∷ more) es) at) ≡ any_part es
+    optional_has : (es : List Tree) (x : Tree) (head at : Span) → has_write (is_one_of fs) is_public x ≡ false → has_write (is_one_of fs) is_public (headed (name_of heads.Match) head (behind_first (λ e more. e ∷ x ∷ more) es) at) ≡ any_part es
     optional_has [] x head at h = native_items heads.Match [] head at refl
-    optional_has (e ∷ es) x head at h = native_items heads.Match (e ∷ x ∷ es) head at refl ∙ ap (λ c. has_write fs is_public e || (c || any_part es)) h
+    optional_has (e ∷ es) x head at h = native_items heads.Match (e ∷ x ∷ es) head at refl ∙ ap (λ c. has_write (is_one_of fs) is_public e || (c || any_part es)) h
 
-    response_has : (es : List Tree) (x y : Tree) (head at : Span) → has_write fs is_public x ≡ false → has_write fs is_public y ≡ false → has_write fs is_public (headed (name_of heads.Match) head (behind_first (λ e more. e ∷ x ∷ behind_first (λ d last. d ∷ y ∷ last) more) es) at) ≡ any_part es
+    response_has : (es : List Tree) (x y : Tree) (head at : Span) → has_write (is_one_of fs) is_public x ≡ false → has_write (is_one_of fs) is_public y ≡ false → has_write (is_one_of fs) is_public (headed (name_of heads.Match) head (behind_first (λ e more. e ∷ x ∷ behind_first (λ d last. d ∷ y ∷ last) more) es) at) ≡ any_part es
     response_has [] x y head at h k = native_items heads.Match [] head at refl
-    response_has (e ∷ []) x y head at h k = native_items heads.Match (e ∷ x ∷ []) head at refl ∙ ap (λ c. has_write fs is_public e || (c || false)) h
-    response_has (e ∷ d ∷ es) x y head at h k = native_items heads.Match (e ∷ x ∷ d ∷ y ∷ es) head at refl ∙ (λ i. has_write fs is_public e || (h i || (has_write fs is_public d || (k i || any_part es))))
+    response_has (e ∷ []) x y head at h k = native_items heads.Match (e ∷ x ∷ []) head at refl ∙ ap (λ c. has_write (is_one_of fs) is_public e || (c || false)) h
+    response_has (e ∷ d ∷ es) x y head at h k = native_items heads.Match (e ∷ x ∷ d ∷ y ∷ es) head at refl ∙ (λ i. has_write (is_one_of fs) is_public e || (h i || (has_write (is_one_of fs) is_public d || (k i || any_part es))))
 
-    max_has : (es : List Tree) (x : Tree) (head at : Span) → has_write fs is_public x ≡ false → has_write fs is_public (headed (name_of heads.AsMaxLen) head (behind_first (λ e more. e ∷ x ∷ more) es) at) ≡ any_part es
+    max_has : (es : List Tree) (x : Tree) (head at : Span) → has_write (is_one_of fs) is_public x ≡ false → has_write (is_one_of fs) is_public (headed (name_of heads.AsMaxLen) head (behind_first (λ e more. e ∷ x ∷ more) es) at) ≡ any_part es
     max_has [] x head at h = native_items heads.AsMaxLen [] head at refl
-    max_has (e ∷ es) x head at h = native_items heads.AsMaxLen (e ∷ x ∷ es) head at refl ∙ ap (λ c. has_write fs is_public e || (c || any_part es)) h
+    max_has (e ∷ es) x head at h = native_items heads.AsMaxLen (e ∷ x ∷ es) head at refl ∙ ap (λ c. has_write (is_one_of fs) is_public e || (c || any_part es)) h
 
-    call_has : (x : List ℕ) (es : List Tree) (head at : Span) → native x ≡ None → has_write fs is_public (headed x head es at) ≡ (is_one_of fs x || any_part es)
+    call_has : (x : List ℕ) (es : List Tree) (head at : Span) → native x ≡ None → has_write (is_one_of fs) is_public (headed x head es at) ≡ (is_one_of fs x || any_part es)
     call_has x es head at none =
         (λ i. call_of x (forest es) none i || any_call (calls_behind (no_tuple x none i) (forest es))) ∙ ap (λ b. is_one_of fs x || b) (behind_plain es)
 
-    pub node_has : (B : Names) (op : Op) (es : List Tree) (at : Span) → has_own_name op ≡ true → has_parts op (length es) ≡ true → shape_rules (shape G B (expression op es at)).faults ≡ [] → has_write fs is_public (expression op es at) ≡ (node_writes fs is_public op || any_part es)
+    pub node_has : (B : Names) (op : Op) (es : List Tree) (at : Span) → has_own_name op ≡ true → has_parts op (length es) ≡ true → shape_rules (shape G B (expression op es at)).faults ≡ [] → has_write (is_one_of fs) is_public (expression op es at) ≡ (node_writes fs is_public op || any_part es)
     unfolding has_own_name
     node_has B (Int z) es at named fit rules = none_there es fit
     node_has B (Uint n) es at named fit rules = none_there es fit

@@ -7,17 +7,16 @@ use Rattle.cl_sexpr.specs.Tree.{Leaf}
 use Rattle.cl_forms.specs.Forms.{Form, FormKind, FunctionForm}
 use Rattle.cl_forms.specs.Heads.{native}
 use Rattle.cl_forms.specs.Names.{same, name_at, is_one_of}
-use Rattle.cl_forms.specs.Writes.{Writes}
+use Rattle.cl_forms.specs.Writes.{Writes, has_write}
 use Rattle.cl_rules.specs.Context.{Context}
 use Rattle.cl_readonly.specs.Naming.{NamesUnknown}
-use Rattle.cl_readonly.specs.Writing.{has_write}
 
 -- no form has the name of a native
 abbrev pub HaveOwnNames : List Form → Type 0
 HaveOwnNames forms = (x : List ℕ) (n : ℕ) → name_at forms n ≡ Some x → native x ≡ None
 
 abbrev pub with_kind : (Leaf → List ℕ → Bool) → List (List ℕ) → FormKind → List ℕ → List (List ℕ)
-with_kind is_public functions (FunctionForm access params body) x = if has_write functions is_public body then insert_key same functions x else functions
+with_kind is_public functions (FunctionForm access params body) x = if has_write (is_one_of functions) is_public body then insert_key same functions x else functions
 with_kind is_public functions kind x = functions
 
 -- with one more form, if it is a function that writes where these do
@@ -26,7 +25,7 @@ with_form is_public functions form = with_kind is_public functions form.kind (un
 
 -- a function without a call that writes names what it calls, unless that is defined already
 abbrev pub BodyNames : Context → (Leaf → List ℕ → Bool) → List (List ℕ) → FormKind → Type 0
-BodyNames G is_public functions (FunctionForm access params body) = has_write functions is_public body ≡ false → NamesUnknown G body
+BodyNames G is_public functions (FunctionForm access params body) = has_write (is_one_of functions) is_public body ≡ false → NamesUnknown G body
 BodyNames G is_public functions kind = Unit {0}
 
 -- these are just the functions that write

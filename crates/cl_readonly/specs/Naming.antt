@@ -1,21 +1,16 @@
 -- Whether an expression names what it calls.
 use Rattle.std.specs.Prelude.{◌≡◌, ℕ, Bool, true, false, ◌||◌, ◌&&◌, List, [], ◌∷◌, is_some, None}
 use Rattle.std.specs.List.{list_any}
-use Rattle.cl_sexpr.specs.Tree.{Tree, LeafAt, Named, Forest, Then}
+use Rattle.cl_sexpr.specs.Tree.{Tree}
 use Rattle.cl_forms.specs.Heads.{native}
 use Rattle.cl_forms.specs.Names.{same, Place, atoms_in, is_one_of}
-use Rattle.cl_forms.specs.Writes.{applying_natives, Call, calls_in}
+use Rattle.cl_forms.specs.Writes.{applying_natives, Call, calls_in, gives_one}
 use Rattle.cl_rules.specs.Context.{Context, signature_in}
 use Rattle.cl_code.specs.Typed.{Typed, expression_of}
 
--- the first item is this name
-abbrev pub gives_it : List ℕ → Forest → Bool
-gives_it x (Then (LeafAt (Named f) at) es) = same x f
-gives_it x es = false
-
 -- a call of a function, or of what applies it by its name
 abbrev pub calls_it : List ℕ → Call → Bool
-calls_it x c = same x c.operator || (is_one_of applying_natives c.operator && gives_it x c.parts)
+calls_it x c = same x c.operator || (is_one_of applying_natives c.operator && gives_one (same x) c.parts)
 
 -- where an expression calls this, it names it, at whatever place it stands
 abbrev pub IsNamed : List ℕ → Tree → Type 0

@@ -1,11 +1,10 @@
--- Whether an expression has a call that writes, where it is told which functions of the contract write.
-use Rattle.std.specs.Prelude.{◌≡◌, ℕ, Bool, true, false, ◌||◌, ◌&&◌, List, codes, is_some, None}
-use Rattle.std.specs.List.{list_any}
-use Rattle.cl_sexpr.specs.Tree.{Tree, LeafAt, Leaf, Named, Standing, Local, Forest, Then}
+-- Whether a node by itself calls what writes, where it is told which functions of the contract write.
+use Rattle.std.specs.Prelude.{◌≡◌, ℕ, Bool, true, false, List, is_some, None}
+use Rattle.cl_sexpr.specs.Tree.{Leaf, Standing, Local}
 use Rattle.cl_forms.specs.Heads.{native}
 use Rattle.cl_forms.specs.HeadNames.{name_of}
-use Rattle.cl_forms.specs.Names.{same, is_one_of}
-use Rattle.cl_forms.specs.Writes.{writing_natives, applying_natives, Call, calls_in}
+use Rattle.cl_forms.specs.Names.{is_one_of}
+use Rattle.cl_forms.specs.Writes.{writing_natives}
 use Rattle.cl_rules.specs.Context.{Context, signature_in}
 use Rattle.cl_code.specs.declared.op.Applied.{Applied}
 use Rattle.cl_code.specs.declared.op.Applied.TheVariants.{Function}
@@ -14,30 +13,6 @@ use Rattle.cl_code.specs.declared.op.Target.TheVariants.{Standing as StandingAt,
 use Rattle.cl_code.specs.declared.op.Op.{Op}
 use Rattle.cl_code.specs.declared.op.Op.TheVariants.{OnParts, OnName, Iterate, Call as CallOp, ContractCall}
 use Rattle.cl_code.specs.OpNames.{parts_head, name_head}
-
--- ---- a call
-
--- the first item is the name of such a function
-abbrev pub gives_one : List (List ℕ) → Forest → Bool
-gives_one functions (Then (LeafAt (Named f) at) es) = is_one_of functions f
-gives_one functions es = false
-
--- the first two items stand for a public function of another contract
-abbrev pub crosses : (Leaf → List ℕ → Bool) → Forest → Bool
-crosses is_public (Then (LeafAt contract at) (Then (LeafAt (Named f) at') es)) = is_public contract f
-crosses is_public es = false
-
--- a call writes where these functions do
-abbrev pub call_writes : List (List ℕ) → (Leaf → List ℕ → Bool) → Call → Bool
-call_writes functions is_public c =
-    is_one_of writing_natives c.operator
-    || (is_one_of functions c.operator
-    || ((is_one_of applying_natives c.operator && gives_one functions c.parts)
-    || (same c.operator (codes "contract-call?") && crosses is_public c.parts)))
-
--- an expression has a call that writes where these functions do
-abbrev pub has_write : List (List ℕ) → (Leaf → List ℕ → Bool) → Tree → Bool
-has_write functions is_public e = list_any (call_writes functions is_public) (calls_in e)
 
 -- ---- a node by itself
 

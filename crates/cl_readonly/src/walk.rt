@@ -1,6 +1,8 @@
 //! Whether a call in an expression writes.
 ghost use Rattle.std.specs.Prelude.{◌≡◌, List, map, false};
 ghost use Rattle.std.specs.List.{list_any};
+ghost use Rattle.cl_forms.specs.Names.{is_one_of};
+ghost use Rattle.cl_forms.specs.Writes.{has_write};
 ghost use Rattle.cl_rules.specs.Acceptance.{calls_public};
 ghost use Rattle.cl_rules.specs.Context.{Context, Known, Names};
 ghost use Rattle.cl_rules.specs.Shapes.{Plan};
@@ -10,7 +12,7 @@ ghost use Rattle.cl_contracts.specs.Seen.{AreIndexed};
 ghost use Rattle.cl_contracts.specs.Standing.{StandAll, Stands};
 ghost use Rattle.cl_contracts.specs.Standings.{Knows};
 ghost use Rattle.cl_readonly.specs.Naming.{AllNameUnknown, NamesUnknown};
-ghost use Rattle.cl_readonly.specs.Writing.{AreFunctions, has_write};
+ghost use Rattle.cl_readonly.specs.Writing.{AreFunctions};
 
 use crate::nodes::node_writes;
 use cl_c32::Principal;
@@ -29,7 +31,7 @@ pub(crate) fn tree_writes(
 ) -> bool
     requires { AreIndexed deployed.now }
     ensures { (known : List Known) (G : Context) (B : Names) (f : Found) → Knows deployed.now known → AreFunctions G writing.now.keys → Stands G B code.now f →
-        (result ≡ has_write writing.now.keys (calls_public known own.now) (expression_of code.now)) × (result ≡ false → NamesUnknown G (expression_of code.now)) }
+        (result ≡ has_write (is_one_of writing.now.keys) (calls_public known own.now) (expression_of code.now)) × (result ≡ false → NamesUnknown G (expression_of code.now)) }
 {
     if node_writes(deployed, own, writing, &code.op) {
         return true;
@@ -47,7 +49,7 @@ fn any_writes(
 ) -> bool
     requires { AreIndexed deployed.now }
     ensures { (known : List Known) (G : Context) (p : Plan) (fs : List Found) → Knows deployed.now known → AreFunctions G writing.now.keys → StandAll G p (typeds parts.now) fs →
-        (result ≡ list_any (has_write writing.now.keys (calls_public known own.now)) (map expression_of parts.now)) × (result ≡ false → AllNameUnknown G parts.now) }
+        (result ≡ list_any (has_write (is_one_of writing.now.keys) (calls_public known own.now)) (map expression_of parts.now)) × (result ≡ false → AllNameUnknown G parts.now) }
 {
     for part in parts {
         if tree_writes(deployed, own, writing, part) {

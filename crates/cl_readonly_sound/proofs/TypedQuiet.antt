@@ -1,6 +1,6 @@
 -- A typed expression is quiet where no call in it writes: each kind of expression, and the induction.
-use Rattle.std.proofs.Common.{◌≡◌, ◌⊎◌, inl, inr, ℕ, Bool, true, false, List, [], ◌∷◌, length, map, Option, Some, None, refl, sym, ap, subst, ◌∙◌, arith, eqb-true}
-use Rattle.std.specs.Prelude.{codes, is_some, not, nat_eq, ◌||◌}
+use Rattle.std.proofs.Common.{◌≡◌, ℕ, true, false, List, [], ◌∷◌, map, Option, Some, None, refl, sym, ap, subst, ◌∙◌}
+use Rattle.std.specs.Prelude.{codes, is_some}
 use Rattle.std.specs.List.{list_any}
 use Rattle.cl_types.specs.Types.{PlainType, OptionalType, ResponseType}
 use Rattle.cl_c32.specs.declared.principal.Principal.{Principal}
@@ -12,7 +12,7 @@ use Rattle.cl_forms.specs.declared.head.Head.TheVariants.{OnToken, TupleOf, AsMa
 use Rattle.cl_forms.specs.Heads.{Row, row_of, native}
 use Rattle.cl_forms.specs.HeadNames.{name_of, head_of_row}
 use Rattle.cl_forms.specs.Names.{same}
-use Rattle.cl_forms.specs.Shapes.{trees_of, bindings_of, pairs_of}
+use Rattle.cl_forms.specs.Shapes.{trees_of, bindings_of, pairs_of, match_of}
 use Rattle.cl_forms.specs.Writes.{Call, calls_in, calls_behind, calls_of_pairs}
 use Rattle.cl_forms.proofs.Found.{is_row, named_alone}
 use Rattle.cl_meaning.specs.Deployed.{Deployed, Function}
@@ -24,32 +24,11 @@ use Rattle.cl_rules.specs.ControlShapes.{let_with, let_shape, optional_plan, res
 use Rattle.cl_rules.specs.DataShapes.{if_fungible}
 use Rattle.cl_rules.specs.CallShapes.{call_shape}
 use Rattle.cl_rules.specs.Table.{head_shape, operator_shape, shape}
+use Rattle.cl_rules.proofs.Matches.{match_is_read}
 use Rattle.cl_rules.specs.Typing.{Typed, typed, Follows, ends, part, gives, broken_shape, broken_types}
 use Rattle.cl_expression_sound.proofs.Rules.{fine_shape, not_false}
 use Rattle.cl_readonly_sound.proofs.Quiet.{Plain, AtBindings, way_of_head, way_of, IsQuietHead, IsQuietCall, IsQuiet, AreQuietBehind, AreQuietPairs, AllQuiet}
 use Rattle.cl_readonly_sound.proofs.Calling.{is_tuple, tuple_alone, tuple_is_native, AllCalls, all_front, all_back, EachCalls, behind_each, list_each, CallsAreQuiet, PlanQuiet, parts_quiet, plain_quiet, pairs_quiet, named_quiet, used_quiet, max_len_quiet, across_quiet, tuple_quiet, let_quiet}
-
-four_or_five : (P : List Tree → Type 0) → ((a b c d : Tree) → P (a ∷ b ∷ c ∷ d ∷ [])) → ((a b c d e : Tree) → P (a ∷ b ∷ c ∷ d ∷ e ∷ [])) → (es : List Tree) → (length es ≡ 4) ⊎ (length es ≡ 5) → P es
-four_or_five P h k (a ∷ b ∷ c ∷ d ∷ []) o = h a b c d
-four_or_five P h k (a ∷ b ∷ c ∷ d ∷ e ∷ []) o = k a b c d e
-four_or_five P h k [] (inl e) = absurd (omega (arith, e))
-four_or_five P h k [] (inr e) = absurd (omega (arith, e))
-four_or_five P h k (a ∷ []) (inl e) = absurd (omega (arith, e))
-four_or_five P h k (a ∷ []) (inr e) = absurd (omega (arith, e))
-four_or_five P h k (a ∷ b ∷ []) (inl e) = absurd (omega (arith, e))
-four_or_five P h k (a ∷ b ∷ []) (inr e) = absurd (omega (arith, e))
-four_or_five P h k (a ∷ b ∷ c ∷ []) (inl e) = absurd (omega (arith, e))
-four_or_five P h k (a ∷ b ∷ c ∷ []) (inr e) = absurd (omega (arith, e))
-four_or_five P h k (a ∷ b ∷ c ∷ d ∷ e ∷ f ∷ es) (inl g) = absurd (omega (arith, g))
-four_or_five P h k (a ∷ b ∷ c ∷ d ∷ e ∷ f ∷ es) (inr g) = absurd (omega (arith, g))
-
-either_count : (n : ℕ) → not (nat_eq n 4 || nat_eq n 5) ≡ false → (n ≡ 4) ⊎ (n ≡ 5)
-either_count n h = by (nat_eq n 4) (nat_eq n 5) refl refl (not_false (nat_eq n 4 || nat_eq n 5) h)
-  where
-    by : (b c : Bool) → nat_eq n 4 ≡ b → nat_eq n 5 ≡ c → (b || c) ≡ true → (n ≡ 4) ⊎ (n ≡ 5)
-    by true c e g h = inl (eqb-true n 4 e)
-    by false true e g h = inr (eqb-true n 5 g)
-    by false false e g h = absurd cc
 
 module _ (W : Deployed) (Q : Principal → Function → Type 0) (p : Principal) (G : Context) (Apart : Call → Type 0) where
   -- ---- match
@@ -77,34 +56,24 @@ module _ (W : Deployed) (Q : Principal → Function → Type 0) (p : Principal) 
   response_quiet B x a y b own f t is (fb ∷ fs) q types h k = absurd q
 
   abbrev IsMatchQuiet : Names → List Tree → Type 0
-  IsMatchQuiet B es = (fs : List Found) → shape_rules (match_shape (row_of Match) G B es).faults ≡ [] → type_rules ((match_shape (row_of Match) G B es).verdict fs).faults ≡ [] → PlanQuiet W Q p G Apart (match_plan B es) fs → EachCalls Apart es → AllQuiet W Q p es
+  IsMatchQuiet B es = (fs : List Found) → shape_rules (match_shape (row_of Match) G B es).faults ≡ [] → type_rules ((match_shape (row_of Match) G B es).verdict fs).faults ≡ [] → PlanQuiet W Q p G Apart (match_plan B (match_of es)) fs → EachCalls Apart es → AllQuiet W Q p es
 
-  four_named : (B : Names) (i : Tree) (x : List ℕ) (at : Span) (a b : Tree) → IsMatchQuiet B (i ∷ LeafAt (Named x) at ∷ a ∷ b ∷ [])
-  four_named B i x at a b [] rules types q h = absurd q
-  four_named B i x at a b (f ∷ fs) rules types q h =
+  optional_named : (B : Names) (i : Tree) (x : List ℕ) (at : Span) (a b : Tree) → IsMatchQuiet B (i ∷ LeafAt (Named x) at ∷ a ∷ b ∷ [])
+  optional_named B i x at a b [] rules types q h = absurd q
+  optional_named B i x at a b (f ∷ fs) rules types q h =
       let both = optional_quiet B x a b _ f f.type refl fs q.1 types h.1.1.0 h.1.1.1.0 in
       (q.0 h.0, (tt, (both.0, (both.1, tt))))
 
-  match_four : (B : Names) (i x a b : Tree) → IsMatchQuiet B (i ∷ x ∷ a ∷ b ∷ [])
-  match_four B i (LeafAt (Named x) at) a b = four_named B i x at a b
-  match_four B i x a b = λ fs rules types q h. let bad = (fine_shape (match_shape (row_of Match) G B (i ∷ x ∷ a ∷ b ∷ [])).faults rules).bad_binding in absurd cc
-
-  five_named : (B : Names) (i : Tree) (x : List ℕ) (at : Span) (a : Tree) (y : List ℕ) (at' : Span) (b : Tree) → IsMatchQuiet B (i ∷ LeafAt (Named x) at ∷ a ∷ LeafAt (Named y) at' ∷ b ∷ [])
-  five_named B i x at a y at' b [] rules types q h = absurd q
-  five_named B i x at a y at' b (f ∷ fs) rules types q h =
+  response_named : (B : Names) (i : Tree) (x : List ℕ) (at : Span) (a : Tree) (y : List ℕ) (at' : Span) (b : Tree) → IsMatchQuiet B (i ∷ LeafAt (Named x) at ∷ a ∷ LeafAt (Named y) at' ∷ b ∷ [])
+  response_named B i x at a y at' b [] rules types q h = absurd q
+  response_named B i x at a y at' b (f ∷ fs) rules types q h =
       let both = response_quiet B x a y b _ f f.type refl fs q.1 types h.1.1.0 h.1.1.1.1.0 in
       (q.0 h.0, (tt, (both.0, (tt, (both.1, tt)))))
 
-  five_second : (B : Names) (i : Tree) (x : List ℕ) (at : Span) (a y b : Tree) → IsMatchQuiet B (i ∷ LeafAt (Named x) at ∷ a ∷ y ∷ b ∷ [])
-  five_second B i x at a (LeafAt (Named y) at') b = five_named B i x at a y at' b
-  five_second B i x at a y b = λ fs rules types q h. let bad = (fine_shape (match_shape (row_of Match) G B (i ∷ LeafAt (Named x) at ∷ a ∷ y ∷ b ∷ [])).faults rules).bad_binding in absurd cc
-
-  match_five : (B : Names) (i x a y b : Tree) → IsMatchQuiet B (i ∷ x ∷ a ∷ y ∷ b ∷ [])
-  match_five B i (LeafAt (Named x) at) a y b = five_second B i x at a y b
-  match_five B i x a y b = λ fs rules types q h. let bad = (fine_shape (match_shape (row_of Match) G B (i ∷ x ∷ a ∷ y ∷ b ∷ [])).faults rules).bad_binding in absurd cc
-
   match_quiet : (B : Names) (es : List Tree) → IsMatchQuiet B es
-  match_quiet B es fs rules = four_or_five (IsMatchQuiet B) (match_four B) (match_five B) es (either_count (length es) (fine_shape (match_shape (row_of Match) G B es).faults rules).argument_count) fs rules
+  match_quiet B es fs rules =
+      let fine = fine_shape (match_shape (row_of Match) G B es).faults rules in
+      match_is_read (IsMatchQuiet B) (optional_named B) (response_named B) es fine.argument_count fine.bad_binding fs rules
 
   -- ---- let
 

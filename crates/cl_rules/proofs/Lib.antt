@@ -15,3 +15,4 @@ mod FormRulesOnce
 mod OneUnordered
 mod OneFirst
 pub mod BoundStops
+pub mod Matches

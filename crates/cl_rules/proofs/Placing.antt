@@ -10,7 +10,7 @@ use Rattle.cl_forms.specs.declared.head.Head.{Head}
 use Rattle.cl_forms.specs.declared.head.Head.TheVariants.{OnValues, OnToken, TupleOf, AsMaxLen, Get, VarGet, VarSet, MapGet, MapSet, MapInsert, MapDelete, FtBalance, FtSupply, StxBalance, NftOwner, Print, If, Let, Begin, And, Or, Asserts, Unwrap, UnwrapErr, Try, Match, AsContract, Map, Filter, Fold, ContractCall}
 use Rattle.cl_forms.specs.declared.head.TokenNative.{TokenNative}
 use Rattle.cl_forms.specs.declared.head.TokenNative.TheVariants.{MintFt, BurnFt, SendFt, MintNft, BurnNft, SendNft, SendStx, BurnStx}
-use Rattle.cl_forms.specs.Shapes.{trees_of, pairs_of, binding_of}
+use Rattle.cl_forms.specs.Shapes.{trees_of, pairs_of, binding_of, match_of}
 use Rattle.cl_rules.specs.Context.{Context, Names, Signature, bind, named_in, is_no_value, signature_in}
 use Rattle.cl_rules.specs.Verdicts.{Found}
 use Rattle.cl_rules.specs.Shapes.{Plan, Ends, Part, Gives, Shape, parts}
@@ -135,7 +135,7 @@ response_placed B x y low high n a m b (ResponseType t e) p =
     (q.0, row_room (span_of a).end high (m ∷ b ∷ []) q.2, q.1, (r.0, r.2, r.1, tt))
 response_placed B x y low high n a m b t p = tt
 
-match_placed : (B : Names) (low high : ℕ) (es : List Tree) → RowPlaced low high es → PlanPlaced low high (match_plan B es)
+match_placed : (B : Names) (low high : ℕ) (es : List Tree) → RowPlaced low high es → PlanPlaced low high (match_plan B (match_of es))
 match_placed B low high (i ∷ LeafAt (Named x) at ∷ a ∷ b ∷ []) p =
     (p.0, row_room (span_of i).end high (LeafAt (Named x) at ∷ a ∷ b ∷ []) p.2, p.1, λ f. optional_placed B x (span_of i).end high (LeafAt (Named x) at) a b f.type p.2)
 match_placed B low high (i ∷ LeafAt (Named x) at ∷ a ∷ LeafAt (Named y) at' ∷ b ∷ []) p =

@@ -9,7 +9,7 @@ use Rattle.cl_forms.specs.declared.keyword.Keyword.{Keyword}
 use Rattle.cl_forms.specs.Keywords.{keyword_of, keyword_cost}
 use Rattle.cl_forms.specs.Heads.{Row}
 pub use Rattle.cl_forms.specs.Items.{atom_of}
-use Rattle.cl_forms.specs.Shapes.{trees_of, binding_of, bindings_of}
+use Rattle.cl_forms.specs.Shapes.{trees_of, binding_of, bindings_of, MatchParts, OptionalMatch, ResponseMatch, match_of, name_places}
 use Rattle.cl_rules.specs.Faults.{sound_shape, sound_types}
 use Rattle.cl_types.specs.TypeKinds.{is_bool, is_response, is_undetermined}
 use Rattle.cl_rules.specs.NativeTypes.{Ruled, fine, of_kind, if_kind, wrong_kind, made, lubbed, part_row, err_row}
@@ -137,12 +137,6 @@ let_shape row G B (e ∷ body) = unlooked (record sound_shape { argument_count =
 abbrev pub is_atom : Tree → Bool
 is_atom e = is_some (atom_of e)
 
--- what stands where match has names: the second argument, and of five the fourth
-abbrev pub name_places : List Tree → List Tree
-name_places (i ∷ x ∷ a ∷ y ∷ b ∷ []) = x ∷ y ∷ []
-name_places (i ∷ x ∷ es) = x ∷ []
-name_places es = []
-
 -- The branch of an optional's part has that part's name; where the input is no optional it isn't looked at, and the branch of
 -- none is.
 abbrev pub optional_plan : Names → List ℕ → Tree → Tree → PlainType → Plan
@@ -154,10 +148,10 @@ abbrev pub response_plan : Names → List ℕ → Tree → List ℕ → Tree →
 response_plan B x a y b (ResponseType t e) = Part (bind x t B) a (Part (bind y e B) b Ends)
 response_plan B x a y b t = Ends
 
-abbrev pub match_plan : Names → List Tree → Plan
-match_plan B (i ∷ LeafAt (Named x) at ∷ a ∷ b ∷ []) = Gives B i (λ f. optional_plan B x a b f.type)
-match_plan B (i ∷ LeafAt (Named x) at ∷ a ∷ LeafAt (Named y) at' ∷ b ∷ []) = Gives B i (λ f. response_plan B x a y b f.type)
-match_plan B es = Ends
+abbrev pub match_plan : Names → Option MatchParts → Plan
+match_plan B (Some (OptionalMatch i x a b)) = Gives B i (λ f. optional_plan B x a b f.type)
+match_plan B (Some (ResponseMatch i x a y b)) = Gives B i (λ f. response_plan B x a y b f.type)
+match_plan B None = Ends
 
 -- a branch that binds a name begins with that bind
 abbrev pub bound_branch : PlainType → Found → Bound
@@ -186,6 +180,6 @@ match_verdict optional own fs = summed wrong_kind own fs
 abbrev pub match_shape : Row → Context → Names → List Tree → Shape
 match_shape row G B es = record {
   faults = record sound_shape { argument_count = is_miscounted row es; shadowed_name = is_shadowed G B (filter_map atom_of (name_places es)); bad_binding = not (list_all is_atom (name_places es)) };
-  plan = match_plan B es;
+  plan = match_plan B (match_of es);
   verdict = match_verdict (nat_eq (length es) 4) (charge row.cost (length es));
 }
