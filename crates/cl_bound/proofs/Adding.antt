@@ -3,12 +3,12 @@ use Rattle.std.proofs.Common.{◌≡◌, ℕ, zero, suc, ◌+◌, ◌<◌, ◌�
 use Rattle.std.proofs.lemmas.List.{drop_all, length-map, take-map}
 use Rattle.std.specs.Prelude.{◌-◌, take}
 use Rattle.cl_shapes.specs.declared.name.CostName.TheVariants.{Control}
-use Rattle.cl_rules.specs.Context.{both}
+use Rattle.cl_rules.specs.Bills.{Charge, Both, cost_under}
 use Rattle.cl_types.specs.Types.{PlainType, size_of}
 use Rattle.cl_shapes.specs.declared.cost.Cost5.{Cost5}
 use Rattle.cl_shapes.specs.declared.name.CostName.TheVariants.{Bind}
 use Rattle.cl_shapes.specs.Costs.{plus, zero_cost}
-use Rattle.cl_rules.specs.Context.{CostTable, charge}
+use Rattle.cl_rules.specs.Context.{CostTable}
 use Rattle.cl_rules.specs.ControlShapes.{binds}
 use Rattle.cl_code.specs.Typed.{Typed, type_of}
 use Rattle.cl_bound.specs.declared.sum.Sum.{Sum}
@@ -70,36 +70,36 @@ rest_of xs i x lt at =
     let next : i + 1 ≡ suc i = omega arith in
     rw next (drop-cons xs i x lt ∙ ap (λ y. y ∷ drop (suc i) xs) at)
 
-pub binds_turn : (table : CostTable) (whole : Cost5) (parts : List Typed) (i : ℕ) (p : Typed) (ty : PlainType) (s u : Sum) → i < length parts → get_or parts i p ≡ p → type_of p ≡ ty → Increases s u (charge Bind (size_of ty) table) → Adds whole (binds (map type_of (drop i parts)) table) s → Adds whole (binds (map type_of (drop (i + 1) parts)) table) u
+pub binds_turn : (table : CostTable) (whole : Cost5) (parts : List Typed) (i : ℕ) (p : Typed) (ty : PlainType) (s u : Sum) → i < length parts → get_or parts i p ≡ p → type_of p ≡ ty → Increases s u (cost_under table (Charge Bind (size_of ty))) → Adds whole (cost_under table (binds (map type_of (drop i parts)))) s → Adds whole (cost_under table (binds (map type_of (drop (i + 1) parts)))) u
 binds_turn table whole parts i p ty s u lt at type more adds =
-    adds_more whole (charge Bind (size_of (type_of p)) table) (binds (map type_of (drop (i + 1) parts)) table) s u
-    (subst (λ (qs : List Typed). Adds whole (binds (map type_of qs) table) s) (rest_of parts i p lt at) adds)
-    (subst (λ (v : PlainType). Increases s u (charge Bind (size_of v) table)) (sym type) more)
+    adds_more whole (cost_under table (Charge Bind (size_of (type_of p)))) (cost_under table (binds (map type_of (drop (i + 1) parts)))) s u
+    (subst (λ (qs : List Typed). Adds whole (cost_under table (binds (map type_of qs))) s) (rest_of parts i p lt at) adds)
+    (subst (λ (v : PlainType). Increases s u (cost_under table (Charge Bind (size_of v)))) (sym type) more)
 
-pub binds_end : (table : CostTable) (whole : Cost5) (parts : List Typed) (i : ℕ) (s : Sum) → length parts ≤ i → Adds whole (binds (map type_of (drop i parts)) table) s → s ≡ told whole
-binds_end table whole parts i s far adds = adds_end whole s (subst (λ (qs : List Typed). Adds whole (binds (map type_of qs) table) s) (drop_all i parts far) adds)
+pub binds_end : (table : CostTable) (whole : Cost5) (parts : List Typed) (i : ℕ) (s : Sum) → length parts ≤ i → Adds whole (cost_under table (binds (map type_of (drop i parts)))) s → s ≡ told whole
+binds_end table whole parts i s far adds = adds_end whole s (subst (λ (qs : List Typed). Adds whole (cost_under table (binds (map type_of qs))) s) (drop_all i parts far) adds)
 
 -- a let with so many bindings
-pub let_sum : (table : CostTable) (parts front : List Typed) (n bodies : ℕ) (s t u : Sum) → front ≡ take n parts → bodies ≡ length parts - n → Increases s t (charge Control (bodies + 1) table) → Increases t u (binds (map type_of front) table) → Increases s u (both (charge Control (suc (length (map type_of parts) - n))) (binds (take n (map type_of parts))) table)
+pub let_sum : (table : CostTable) (parts front : List Typed) (n bodies : ℕ) (s t u : Sum) → front ≡ take n parts → bodies ≡ length parts - n → Increases s t (cost_under table (Charge Control (bodies + 1))) → Increases t u (cost_under table (binds (map type_of front))) → Increases s u (cost_under table (Both (Charge Control (suc (length (map type_of parts) - n))) (binds (take n (map type_of parts)))))
 let_sum table parts front n bodies s t u front_is bodies_is controls binding =
     let count : bodies + 1 ≡ suc (length (map type_of parts) - n) = omega (arith, bodies_is, length-map parts type_of) in
-    both_more s t u (charge Control (suc (length (map type_of parts) - n)) table) (binds (take n (map type_of parts)) table)
-    (subst (λ (m : ℕ). Increases s t (charge Control m table)) count controls)
-    (subst (λ (ts : List PlainType). Increases t u (binds ts table)) (ap (map type_of) front_is ∙ sym (take-map type_of n parts)) binding)
+    both_more s t u (cost_under table (Charge Control (suc (length (map type_of parts) - n)))) (cost_under table (binds (take n (map type_of parts))))
+    (subst (λ (m : ℕ). Increases s t (cost_under table (Charge Control m))) count controls)
+    (subst (λ (ts : List PlainType). Increases t u (cost_under table (binds ts))) (ap (map type_of) front_is ∙ sym (take-map type_of n parts)) binding)
 
 -- ---- parameters one by one
 
 abbrev pub types_at : List (List ℕ × PlainType) → List PlainType
 types_at ps = map (λ (p : List ℕ × PlainType). p.1) ps
 
-pub params_turn : (table : CostTable) (whole : Cost5) (ps : List (List ℕ × PlainType)) (i n : ℕ) (p : List ℕ × PlainType) (s u : Sum) → i < length ps → get_or ps i p ≡ p → n ≡ size_of p.1 → Increases s u (charge Bind n table) → Adds whole (binds (types_at (drop i ps)) table) s → Adds whole (binds (types_at (drop (i + 1) ps)) table) u
+pub params_turn : (table : CostTable) (whole : Cost5) (ps : List (List ℕ × PlainType)) (i n : ℕ) (p : List ℕ × PlainType) (s u : Sum) → i < length ps → get_or ps i p ≡ p → n ≡ size_of p.1 → Increases s u (cost_under table (Charge Bind n)) → Adds whole (cost_under table (binds (types_at (drop i ps)))) s → Adds whole (cost_under table (binds (types_at (drop (i + 1) ps)))) u
 params_turn table whole ps i n p s u lt at size more adds =
-    adds_more whole (charge Bind (size_of p.1) table) (binds (types_at (drop (i + 1) ps)) table) s u
-    (subst (λ (qs : List (List ℕ × PlainType)). Adds whole (binds (types_at qs) table) s) (rest_of ps i p lt at) adds)
-    (subst (λ (m : ℕ). Increases s u (charge Bind m table)) size more)
+    adds_more whole (cost_under table (Charge Bind (size_of p.1))) (cost_under table (binds (types_at (drop (i + 1) ps)))) s u
+    (subst (λ (qs : List (List ℕ × PlainType)). Adds whole (cost_under table (binds (types_at qs))) s) (rest_of ps i p lt at) adds)
+    (subst (λ (m : ℕ). Increases s u (cost_under table (Charge Bind m))) size more)
 
-pub params_end : (table : CostTable) (whole : Cost5) (ps : List (List ℕ × PlainType)) (i : ℕ) (s : Sum) → length ps ≤ i → Adds whole (binds (types_at (drop i ps)) table) s → s ≡ told whole
-params_end table whole ps i s far adds = adds_end whole s (subst (λ (qs : List (List ℕ × PlainType)). Adds whole (binds (types_at qs) table) s) (drop_all i ps far) adds)
+pub params_end : (table : CostTable) (whole : Cost5) (ps : List (List ℕ × PlainType)) (i : ℕ) (s : Sum) → length ps ≤ i → Adds whole (cost_under table (binds (types_at (drop i ps)))) s → s ≡ told whole
+params_end table whole ps i s far adds = adds_end whole s (subst (λ (qs : List (List ℕ × PlainType)). Adds whole (cost_under table (binds (types_at qs))) s) (drop_all i ps far) adds)
 
 pub again : {A : Type 0} (xs : List A) (i : ℕ) (d : A) → i < length xs → get_or xs i (get_or xs i d) ≡ get_or xs i d
 again [] i d lt = absurd (omega (arith, lt))

@@ -16,6 +16,7 @@ use Rattle.cl_code.specs.Definitions.{form_defined, function_form}
 use Rattle.cl_code.specs.declared.definition.Function.{Function}
 use Rattle.cl_code.specs.declared.definition.Definition.{Definition}
 use Rattle.cl_code.specs.declared.definition.Definition.TheVariants.{Function as AFunction}
+use Rattle.cl_rules.specs.Bills.{cost_under}
 use Rattle.cl_rules.specs.Context.{Context, Names, CostTable, Known, Signature, same, signature_in}
 use Rattle.cl_rules.specs.Verdicts.{Found}
 use Rattle.cl_rules.specs.Shapes.{Ends, Part}
@@ -68,7 +69,7 @@ one_function table fs s a before after shows is kept x =
 
 pub defined_shows : (c n : Prices) (D : Defined) (fs : List Found) (f : Function) (a : Application) →
     ((x : List ℕ) → lookup (pointwise nat_eq x) n.functions.entries ≡ option_or (lookup (pointwise nat_eq x) c.functions.entries) (if pointwise nat_eq x f.name then Some a else None)) →
-    a.access ≡ f.access → ((g : Found) → Stands D.context f.params.items f.body g → a.bound ≡ told (application f.params.items g (function_of c.costs))) →
+    a.access ≡ f.access → ((g : Found) → Stands D.context f.params.items f.body g → a.bound ≡ told (cost_under (function_of c.costs) (application f.params.items g))) →
     ShowsPrices c D.context → StandsAs D (AFunction f) fs → ShowsPrices (record c { functions = n.functions }) (defined_after D (function_form f) fs).context
 defined_shows c n D fs f a kept access bound shows stands =
     let one = one_part D.context f.params.items _ f.body fs stands.trees in
@@ -91,9 +92,9 @@ at_places checked places = filter_map (slice_get checked.definitions.items) plac
 abbrev pub Walked : Prices → Checked → List Definition → Prices → Sum → Type 0
 Walked c checked rest n sum =
     (known : List Known) (principal : Principal) (E : Defined) → ShowsPrices c (nothing_defined known principal checked.source_length).context → AllStand (nothing_defined known principal checked.source_length) (definitions_in_order checked) E →
-    (D : Defined) × ShowsPrices n D.context × AllStand D rest E × (sum ≡ told (D.deploy (function_of c.costs)))
+    (D : Defined) × ShowsPrices n D.context × AllStand D rest E × (sum ≡ told (cost_under (function_of c.costs) D.deploy))
 
-pub walked_none : (c : Prices) (checked : Checked) (sum : Sum) → ((known : List Known) (principal : Principal) → sum ≡ told ((nothing_defined known principal checked.source_length).deploy (function_of c.costs))) → Walked c checked (at_places checked checked.order.items) c sum
+pub walked_none : (c : Prices) (checked : Checked) (sum : Sum) → ((known : List Known) (principal : Principal) → sum ≡ told (cost_under (function_of c.costs) (nothing_defined known principal checked.source_length).deploy)) → Walked c checked (at_places checked checked.order.items) c sum
 walked_none c checked sum is known principal E shows stand = (nothing_defined known principal checked.source_length, shows, stand, is known principal)
 
 -- a definition is taken in
@@ -116,7 +117,7 @@ pub walked_past : (c n : Prices) (checked : Checked) (i place : ℕ) (sum : Sum)
 walked_past c n checked i place sum lt at is walked = subst (λ (ds : List Definition). Walked c checked ds n sum) (next_place checked i place None lt at is) walked
 
 pub walked_more : (c n m : Prices) (checked : Checked) (i place : ℕ) (d : Definition) (s t u : Sum) → i < length checked.order.items → get_or checked.order.items i place ≡ place → slice_get checked.definitions.items place ≡ Some d → n.costs ≡ c.costs →
-    ((D : Defined) (fs : List Found) → ShowsPrices n D.context → StandsAs D d fs → t ≡ told (form_charges (kind_at d) fs (function_of n.costs))) →
+    ((D : Defined) (fs : List Found) → ShowsPrices n D.context → StandsAs D d fs → t ≡ told (cost_under (function_of n.costs) (form_charges (kind_at d) fs))) →
     ShowsAfter n m d → ((a b : Cost5) → s ≡ told a → t ≡ told b → u ≡ told (plus a b)) →
     Walked c checked (at_places checked (drop i checked.order.items)) n s → Walked c checked (at_places checked (drop (i + 1) checked.order.items)) m u
 walked_more c n m checked i place d s t u lt at is costs charged shown add walked known principal E shows stand =
@@ -125,12 +126,12 @@ walked_more c n m checked i place d s t u lt at is costs charged shown add walke
       defined_after here.0 (form_defined d) rest.0,
       shown here.0 rest.0 here.1 rest.1,
       rest.2,
-      add (here.0.deploy (function_of c.costs)) (form_charges (kind_at d) rest.0 (function_of c.costs)) here.3 (charged here.0 rest.0 here.1 rest.1 ∙ ap (λ (costs : _). told (form_charges (kind_at d) rest.0 (function_of costs))) costs),
+      add (cost_under (function_of c.costs) here.0.deploy) (cost_under (function_of c.costs) (form_charges (kind_at d) rest.0)) here.3 (charged here.0 rest.0 here.1 rest.1 ∙ ap (λ (costs : _). told (cost_under (function_of costs) (form_charges (kind_at d) rest.0))) costs),
     )
 
 pub walked_all : (c n : Prices) (checked : Checked) (i : ℕ) (sum : Sum) → length checked.order.items ≤ i → Walked c checked (at_places checked (drop i checked.order.items)) n sum →
-    (known : List Known) (principal : Principal) (E : Defined) → ShowsPrices c (nothing_defined known principal checked.source_length).context → AllStand (nothing_defined known principal checked.source_length) (definitions_in_order checked) E → ShowsPrices n E.context × (sum ≡ told (E.deploy (function_of c.costs)))
+    (known : List Known) (principal : Principal) (E : Defined) → ShowsPrices c (nothing_defined known principal checked.source_length).context → AllStand (nothing_defined known principal checked.source_length) (definitions_in_order checked) E → ShowsPrices n E.context × (sum ≡ told (cost_under (function_of c.costs) E.deploy))
 walked_all c n checked i sum far walked known principal E shows stand =
     let here = walked known principal E shows stand in
     let same_one : here.0 ≡ E = subst (λ (ps : List ℕ). AllStand here.0 (at_places checked ps) E) (drop_all i checked.order.items far) here.2 in
-    (subst (λ (D : Defined). ShowsPrices n D.context) same_one here.1, here.3 ∙ ap (λ (D : Defined). told (D.deploy (function_of c.costs))) same_one)
+    (subst (λ (D : Defined). ShowsPrices n D.context) same_one here.1, here.3 ∙ ap (λ (D : Defined). told (cost_under (function_of c.costs) D.deploy)) same_one)

@@ -8,7 +8,8 @@ use Rattle.cl_shapes.specs.declared.cost.Cost5.{Cost5}
 use Rattle.cl_shapes.specs.Costs.{first_above}
 use Rattle.cl_code.specs.Definitions.{form_defined}
 use Rattle.cl_code.specs.declared.definition.Definition.{Definition}
-use Rattle.cl_rules.specs.Context.{CostTable, Bound, Signature}
+use Rattle.cl_rules.specs.Bills.{Bill, cost_under}
+use Rattle.cl_rules.specs.Context.{CostTable, Signature}
 use Rattle.cl_rules.specs.FormRules.{Defined}
 use Rattle.cl_rules.specs.Acceptance.{Bounded, most_cost, bound_at}
 use Rattle.cl_contracts.specs.declared.checked.Checked.{Checked}
@@ -22,14 +23,14 @@ use Rattle.cl_bound.proofs.Adding.{rest_of}
 -- ---- one line
 
 -- the line of a function, by what is kept of it
-pub line_some : (table : CostTable) (name : List ℕ) (a : Application) (f : Option Signature) (cost : Cost5) → Some a ≡ option_map (application_of table) f → ((b : Bound) → bound_at f ≡ Some b → first_above most_cost (b table) ≡ None) →
-    ((b : Cost5) → a.bound ≡ told b → first_above most_cost b ≡ None → cost ≡ b) → Some (name, cost) ≡ option_map {U = List ℕ × Cost5} (λ (bound : Bound). (name, bound table)) (bound_at f)
+pub line_some : (table : CostTable) (name : List ℕ) (a : Application) (f : Option Signature) (cost : Cost5) → Some a ≡ option_map (application_of table) f → ((b : Bill) → bound_at f ≡ Some b → first_above most_cost (cost_under table b) ≡ None) →
+    ((b : Cost5) → a.bound ≡ told b → first_above most_cost b ≡ None → cost ≡ b) → Some (name, cost) ≡ option_map {U = List ℕ × Cost5} (λ (bound : Bill). (name, cost_under table bound)) (bound_at f)
 line_some table name a None cost h within is = absurd cc
 line_some table name a (Some f) cost h within is =
     let same : a ≡ application_of table f = cc in
-    ap (λ (b : Cost5). Some (name, b)) (is (f.bound table) (ap (λ (b : Application). b.bound) same) (within f.bound refl))
+    ap (λ (b : Cost5). Some (name, b)) (is (cost_under table f.bound) (ap (λ (b : Application). b.bound) same) (within f.bound refl))
 
-pub line_none : (table : CostTable) (name : List ℕ) (f : Option Signature) → None ≡ option_map (application_of table) f → None ≡ option_map {U = List ℕ × Cost5} (λ (bound : Bound). (name, bound table)) (bound_at f)
+pub line_none : (table : CostTable) (name : List ℕ) (f : Option Signature) → None ≡ option_map (application_of table) f → None ≡ option_map {U = List ℕ × Cost5} (λ (bound : Bill). (name, cost_under table bound)) (bound_at f)
 line_none table name None h = refl
 line_none table name (Some f) h = absurd cc
 

@@ -6,7 +6,6 @@ use Rattle.std.specs.Global.{Vec}
 use Rattle.std.proofs.lemmas.List.{length-drop, length-map, take-map}
 use Rattle.cl_types.specs.Types.{PlainType, NoType, IntType, UintType, BoolType, PrincipalType, BuffType, AsciiType, Utf8Type, ListType, TupleType, OptionalType, ResponseType, size_of}
 use Rattle.cl_shapes.specs.declared.name.CostName.TheVariants.{Control, Lookup, ContractCall as ContractCallCost}
-use Rattle.cl_shapes.specs.Costs.{plus, greater}
 use Rattle.cl_sexpr.specs.declared.sexpr.Span.{Span}
 use Rattle.cl_sexpr.specs.declared.rule.Rule.{Rule}
 use Rattle.cl_sexpr.specs.declared.rule.Rule.TheVariants.{ArgumentCount}
@@ -18,7 +17,8 @@ use Rattle.cl_forms.specs.HeadNames.{name_of}
 use Rattle.cl_forms.specs.Shapes.{trees_of}
 use Rattle.cl_c32.specs.declared.principal.Principal.{Principal}
 use Rattle.cl_rules.specs.Faults.{sound_shape, type_rules, when}
-use Rattle.cl_rules.specs.Context.{Context, Names, Bound, CostTable, Signature, Known, charge, both, signature_in, if_callable, target_at, named_in, is_no_value}
+use Rattle.cl_rules.specs.Bills.{Bill, Charge, Both, Greater}
+use Rattle.cl_rules.specs.Context.{Context, Names, Signature, Known, signature_in, if_callable, target_at, named_in, is_no_value}
 use Rattle.cl_rules.specs.Verdicts.{Found, type_at, types_of, sum_of}
 use Rattle.cl_rules.specs.ControlShapes.{name_shape, keyword_or, value_or, no_value_shape, let_verdict, match_verdict, binds, bound_branch, optional_verdict, response_verdict}
 use Rattle.cl_rules.specs.CallShapes.{call_shape, target_or_not, contract_literal, call_verdict, is_unlike_function, length_at, function_of}
@@ -46,7 +46,7 @@ use Rattle.cl_bound.proofs.Heads.{headed_shape, trees_forest, when_more, when_no
 use Rattle.cl_bound.proofs.NativeCharges.{values_charges, parts_charges}
 use Rattle.cl_bound.proofs.NamedCharges.{named_charges, applied_charges}
 
-by_head : (h : Head) (head at : Span) (args : List Tree) (G : Context) (B : Names) (n : ℕ) (own : PlainType → List PlainType → Bound) (inside : List Found → Bound) → Charges (head_shape h (row_of h) G B args) n own inside → Charges (shape G B (headed (name_of h) head args at)) n own inside
+by_head : (h : Head) (head at : Span) (args : List Tree) (G : Context) (B : Names) (n : ℕ) (own : PlainType → List PlainType → Bill) (inside : List Found → Bill) → Charges (head_shape h (row_of h) G B args) n own inside → Charges (shape G B (headed (name_of h) head args at)) n own inside
 by_head h head at args G B n own inside law = subst (λ (s : Shape). Charges s n own inside) (sym (headed_shape h head at args G B)) law
 
 -- ---- let
@@ -64,11 +64,11 @@ let_more n r rs h =
       | inr some ↦ omega (arith, some)
     ]
 
-let_bound : (G : Context) (head at : Span) (bs : Vec Binding) (k b : ℕ) (fs : List Found) (table : CostTable) → k ≡ length bs.items → b ≡ length fs - length bs.items → (let_verdict k (charge Control (suc b)) fs).found.bound table ≡ plus (own G (ops.Let head at bs) (let_verdict k (charge Control (suc b)) fs).found.type (types_of fs) table) (sum_of fs table)
-let_bound G head at bs k b fs table count rest =
-    ap (λ (m : ℕ). plus (both (charge Control (suc b)) (binds (types_of (take m fs))) table) (sum_of fs table)) count
-    ∙ ap (λ (m : ℕ). plus (both (charge Control (suc m)) (binds (types_of (take (length bs.items) fs))) table) (sum_of fs table)) (rest ∙ ap (λ (m : ℕ). m - length bs.items) (sym (length-map fs type_at)))
-    ∙ ap (λ (ts : List PlainType). plus (both (charge Control (suc (length (types_of fs) - length bs.items))) (binds ts) table) (sum_of fs table)) (sym (take-map type_at (length bs.items) fs))
+let_bound : (G : Context) (head at : Span) (bs : Vec Binding) (k b : ℕ) (fs : List Found) → k ≡ length bs.items → b ≡ length fs - length bs.items → (let_verdict k (Charge Control (suc b)) fs).found.bound ≡ Both (own G (ops.Let head at bs) (let_verdict k (Charge Control (suc b)) fs).found.type (types_of fs)) (sum_of fs)
+let_bound G head at bs k b fs count rest =
+    ap (λ (m : ℕ). Both (Both (Charge Control (suc b)) (binds (types_of (take m fs)))) (sum_of fs)) count
+    ∙ ap (λ (m : ℕ). Both (Both (Charge Control (suc m)) (binds (types_of (take (length bs.items) fs)))) (sum_of fs)) (rest ∙ ap (λ (m : ℕ). m - length bs.items) (sym (length-map fs type_at)))
+    ∙ ap (λ (ts : List PlainType). Both (Both (Charge Control (suc (length (types_of fs) - length bs.items))) (binds ts)) (sum_of fs)) (sym (take-map type_at (length bs.items) fs))
 
 -- ---- names
 
@@ -76,15 +76,15 @@ not_true : (b : Bool) → not b ≡ true → b ≡ false
 not_true true h = absurd cc
 not_true false h = refl
 
-found_charges : (n : ℕ) (o p : Option PlainType) (known : Bool) → Charges (value_or o (value_or p (no_value_shape known))) n (λ t ts. charge Lookup (size_of t)) sum_of
-found_charges n None None true fs table sound count fine = absurd cc
-found_charges n None None false fs table sound count fine = absurd cc
-found_charges n None (Some t) known fs table sound count fine = refl
-found_charges n (Some t) p known fs table sound count fine = refl
+found_charges : (n : ℕ) (o p : Option PlainType) (known : Bool) → Charges (value_or o (value_or p (no_value_shape known))) n (λ t ts. Charge Lookup (size_of t)) sum_of
+found_charges n None None true fs sound count fine = absurd cc
+found_charges n None None false fs sound count fine = absurd cc
+found_charges n None (Some t) known fs sound count fine = refl
+found_charges n (Some t) p known fs sound count fine = refl
 
 -- ---- match
 
-odd_match : (b : Bool) (own : Bound) (fs : List Found) → length fs ≢ 3 → type_rules (match_verdict b own fs).faults ≡ [] → ⊥
+odd_match : (b : Bool) (own : Bill) (fs : List Found) → length fs ≢ 3 → type_rules (match_verdict b own fs).faults ≡ [] → ⊥
 odd_match true own [] odd fine = cc
 odd_match false own [] odd fine = cc
 odd_match true own (i ∷ []) odd fine = cc
@@ -95,60 +95,60 @@ odd_match b own (i ∷ a ∷ c ∷ []) odd fine = odd refl
 odd_match true own (i ∷ a ∷ c ∷ d ∷ fs) odd fine = cc
 odd_match false own (i ∷ a ∷ c ∷ d ∷ fs) odd fine = cc
 
-optional_bound : (own : Bound) (i a b : Found) (t : PlainType) (table : CostTable) → type_rules (optional_verdict own i a b t).faults ≡ [] → (optional_verdict own i a b t).found.bound table ≡ plus (own table) (plus (i.bound table) (greater (bound_branch (good_part t) a table) (b.bound table)))
-optional_bound own i a b NoType table fine = absurd cc
-optional_bound own i a b IntType table fine = absurd cc
-optional_bound own i a b UintType table fine = absurd cc
-optional_bound own i a b BoolType table fine = absurd cc
-optional_bound own i a b PrincipalType table fine = absurd cc
-optional_bound own i a b (BuffType n) table fine = absurd cc
-optional_bound own i a b (AsciiType n) table fine = absurd cc
-optional_bound own i a b (Utf8Type n) table fine = absurd cc
-optional_bound own i a b (ListType n t) table fine = absurd cc
-optional_bound own i a b (TupleType ks) table fine = absurd cc
-optional_bound own i a b (OptionalType t) table fine = refl
-optional_bound own i a b (ResponseType t e) table fine = absurd cc
+optional_bound : (own : Bill) (i a b : Found) (t : PlainType) → type_rules (optional_verdict own i a b t).faults ≡ [] → (optional_verdict own i a b t).found.bound ≡ Both own (Both i.bound (Greater (bound_branch (good_part t) a) b.bound))
+optional_bound own i a b NoType fine = absurd cc
+optional_bound own i a b IntType fine = absurd cc
+optional_bound own i a b UintType fine = absurd cc
+optional_bound own i a b BoolType fine = absurd cc
+optional_bound own i a b PrincipalType fine = absurd cc
+optional_bound own i a b (BuffType n) fine = absurd cc
+optional_bound own i a b (AsciiType n) fine = absurd cc
+optional_bound own i a b (Utf8Type n) fine = absurd cc
+optional_bound own i a b (ListType n t) fine = absurd cc
+optional_bound own i a b (TupleType ks) fine = absurd cc
+optional_bound own i a b (OptionalType t) fine = refl
+optional_bound own i a b (ResponseType t e) fine = absurd cc
 
-response_bound : (own : Bound) (i a b : Found) (t : PlainType) (table : CostTable) → type_rules (response_verdict own i a b t).faults ≡ [] → (response_verdict own i a b t).found.bound table ≡ plus (own table) (plus (i.bound table) (greater (bound_branch (good_part t) a table) (bound_branch (bad_part t) b table)))
-response_bound own i a b NoType table fine = absurd cc
-response_bound own i a b IntType table fine = absurd cc
-response_bound own i a b UintType table fine = absurd cc
-response_bound own i a b BoolType table fine = absurd cc
-response_bound own i a b PrincipalType table fine = absurd cc
-response_bound own i a b (BuffType n) table fine = absurd cc
-response_bound own i a b (AsciiType n) table fine = absurd cc
-response_bound own i a b (Utf8Type n) table fine = absurd cc
-response_bound own i a b (ListType n t) table fine = absurd cc
-response_bound own i a b (TupleType ks) table fine = absurd cc
-response_bound own i a b (OptionalType t) table fine = absurd cc
-response_bound own i a b (ResponseType t e) table fine = refl
+response_bound : (own : Bill) (i a b : Found) (t : PlainType) → type_rules (response_verdict own i a b t).faults ≡ [] → (response_verdict own i a b t).found.bound ≡ Both own (Both i.bound (Greater (bound_branch (good_part t) a) (bound_branch (bad_part t) b)))
+response_bound own i a b NoType fine = absurd cc
+response_bound own i a b IntType fine = absurd cc
+response_bound own i a b UintType fine = absurd cc
+response_bound own i a b BoolType fine = absurd cc
+response_bound own i a b PrincipalType fine = absurd cc
+response_bound own i a b (BuffType n) fine = absurd cc
+response_bound own i a b (AsciiType n) fine = absurd cc
+response_bound own i a b (Utf8Type n) fine = absurd cc
+response_bound own i a b (ListType n t) fine = absurd cc
+response_bound own i a b (TupleType ks) fine = absurd cc
+response_bound own i a b (OptionalType t) fine = absurd cc
+response_bound own i a b (ResponseType t e) fine = refl
 
-match_optional : (n : ℕ) (fs : List Found) (table : CostTable) → n ≡ length fs + 1 → type_rules (match_verdict (nat_eq n 4) (charge Control n) fs).faults ≡ [] → (match_verdict (nat_eq n 4) (charge Control n) fs).found.bound table ≡ plus (charge Control 4 table) (of_branches (branch_by Good) (branch_by Plain) fs table)
-match_optional n [] table count fine = absurd (odd_match _ _ [] (λ h. omega (arith, h)) fine)
-match_optional n (i ∷ []) table count fine = absurd (odd_match _ _ (i ∷ []) (λ h. omega (arith, h)) fine)
-match_optional n (i ∷ a ∷ []) table count fine = absurd (odd_match _ _ (i ∷ a ∷ []) (λ h. omega (arith, h)) fine)
-match_optional n (i ∷ a ∷ b ∷ []) table count fine =
-    subst (λ (m : ℕ). type_rules (match_verdict (nat_eq m 4) (charge Control m) (i ∷ a ∷ b ∷ [])).faults ≡ [] → (match_verdict (nat_eq m 4) (charge Control m) (i ∷ a ∷ b ∷ [])).found.bound table ≡ plus (charge Control 4 table) (of_branches (branch_by Good) (branch_by Plain) (i ∷ a ∷ b ∷ []) table))
-    (sym count) (λ fine. optional_bound (charge Control 4) i a b i.type table fine) fine
-match_optional n (i ∷ a ∷ b ∷ d ∷ fs) table count fine = absurd (odd_match _ _ (i ∷ a ∷ b ∷ d ∷ fs) (λ h. omega (arith, h)) fine)
+match_optional : (n : ℕ) (fs : List Found) → n ≡ length fs + 1 → type_rules (match_verdict (nat_eq n 4) (Charge Control n) fs).faults ≡ [] → (match_verdict (nat_eq n 4) (Charge Control n) fs).found.bound ≡ Both (Charge Control 4) (of_branches (branch_by Good) (branch_by Plain) fs)
+match_optional n [] count fine = absurd (odd_match _ _ [] (λ h. omega (arith, h)) fine)
+match_optional n (i ∷ []) count fine = absurd (odd_match _ _ (i ∷ []) (λ h. omega (arith, h)) fine)
+match_optional n (i ∷ a ∷ []) count fine = absurd (odd_match _ _ (i ∷ a ∷ []) (λ h. omega (arith, h)) fine)
+match_optional n (i ∷ a ∷ b ∷ []) count fine =
+    subst (λ (m : ℕ). type_rules (match_verdict (nat_eq m 4) (Charge Control m) (i ∷ a ∷ b ∷ [])).faults ≡ [] → (match_verdict (nat_eq m 4) (Charge Control m) (i ∷ a ∷ b ∷ [])).found.bound ≡ Both (Charge Control 4) (of_branches (branch_by Good) (branch_by Plain) (i ∷ a ∷ b ∷ [])))
+    (sym count) (λ fine. optional_bound (Charge Control 4) i a b i.type fine) fine
+match_optional n (i ∷ a ∷ b ∷ d ∷ fs) count fine = absurd (odd_match _ _ (i ∷ a ∷ b ∷ d ∷ fs) (λ h. omega (arith, h)) fine)
 
-match_response : (n : ℕ) (fs : List Found) (table : CostTable) → n ≡ length fs + 2 → type_rules (match_verdict (nat_eq n 4) (charge Control n) fs).faults ≡ [] → (match_verdict (nat_eq n 4) (charge Control n) fs).found.bound table ≡ plus (charge Control 5 table) (of_branches (branch_by Good) (branch_by Bad) fs table)
-match_response n [] table count fine = absurd (odd_match _ _ [] (λ h. omega (arith, h)) fine)
-match_response n (i ∷ []) table count fine = absurd (odd_match _ _ (i ∷ []) (λ h. omega (arith, h)) fine)
-match_response n (i ∷ a ∷ []) table count fine = absurd (odd_match _ _ (i ∷ a ∷ []) (λ h. omega (arith, h)) fine)
-match_response n (i ∷ a ∷ b ∷ []) table count fine =
-    subst (λ (m : ℕ). type_rules (match_verdict (nat_eq m 4) (charge Control m) (i ∷ a ∷ b ∷ [])).faults ≡ [] → (match_verdict (nat_eq m 4) (charge Control m) (i ∷ a ∷ b ∷ [])).found.bound table ≡ plus (charge Control 5 table) (of_branches (branch_by Good) (branch_by Bad) (i ∷ a ∷ b ∷ []) table))
-    (sym count) (λ fine. response_bound (charge Control 5) i a b i.type table fine) fine
-match_response n (i ∷ a ∷ b ∷ d ∷ fs) table count fine = absurd (odd_match _ _ (i ∷ a ∷ b ∷ d ∷ fs) (λ h. omega (arith, h)) fine)
+match_response : (n : ℕ) (fs : List Found) → n ≡ length fs + 2 → type_rules (match_verdict (nat_eq n 4) (Charge Control n) fs).faults ≡ [] → (match_verdict (nat_eq n 4) (Charge Control n) fs).found.bound ≡ Both (Charge Control 5) (of_branches (branch_by Good) (branch_by Bad) fs)
+match_response n [] count fine = absurd (odd_match _ _ [] (λ h. omega (arith, h)) fine)
+match_response n (i ∷ []) count fine = absurd (odd_match _ _ (i ∷ []) (λ h. omega (arith, h)) fine)
+match_response n (i ∷ a ∷ []) count fine = absurd (odd_match _ _ (i ∷ a ∷ []) (λ h. omega (arith, h)) fine)
+match_response n (i ∷ a ∷ b ∷ []) count fine =
+    subst (λ (m : ℕ). type_rules (match_verdict (nat_eq m 4) (Charge Control m) (i ∷ a ∷ b ∷ [])).faults ≡ [] → (match_verdict (nat_eq m 4) (Charge Control m) (i ∷ a ∷ b ∷ [])).found.bound ≡ Both (Charge Control 5) (of_branches (branch_by Good) (branch_by Bad) (i ∷ a ∷ b ∷ [])))
+    (sym count) (λ fine. response_bound (Charge Control 5) i a b i.type fine) fine
+match_response n (i ∷ a ∷ b ∷ d ∷ fs) count fine = absurd (odd_match _ _ (i ∷ a ∷ b ∷ d ∷ fs) (λ h. omega (arith, h)) fine)
 
 module _ (G : Context) (B : Names) (es : List Tree) where
   let_charges : (head at : Span) (bs : Vec Binding) → Charges (head_shape heads.Let (row_of heads.Let) G B (ListAt (forest (bound_items bs.items es)) at ∷ drop (length bs.items) es)) (length es) (own G (ops.Let head at bs)) (inside (ops.Let head at bs))
   unfolding head_shape
-  let_charges head at bs fs table sound count fine =
+  let_charges head at bs fs sound count fine =
       let body : 0 < length (drop (length bs.items) es) = let_more (length (drop (length bs.items) es)) ArgumentCount _ sound in
       let drops = length-drop (length bs.items) es in
       let few : length bs.items ≤ length es = omega (arith, body, drops) in
-      let_bound G head at bs (length (trees_of (forest (bound_items bs.items es)))) (length (drop (length bs.items) es)) fs table
+      let_bound G head at bs (length (trees_of (forest (bound_items bs.items es)))) (length (drop (length bs.items) es)) fs
       (ap length (trees_forest (bound_items bs.items es)) ∙ bound_length bs.items es few)
       (drops ∙ ap (λ (m : ℕ). m - length bs.items) (sym count))
 
@@ -156,42 +156,42 @@ module _ (G : Context) (B : Names) (es : List Tree) where
 
   keyword_charges : (k : Keyword) (at : Span) → Charges (shape G B (expression (ops.Keyword k) es at)) (length es) (own G (ops.Keyword k)) sum_of
   unfolding shape
-  keyword_charges keys.True at fs table sound count fine = refl
-  keyword_charges keys.False at fs table sound count fine = refl
-  keyword_charges keys.None at fs table sound count fine = refl
-  keyword_charges keys.TxSender at fs table sound count fine = refl
-  keyword_charges keys.ContractCaller at fs table sound count fine = refl
-  keyword_charges keys.BlockHeight at fs table sound count fine = refl
+  keyword_charges keys.True at fs sound count fine = refl
+  keyword_charges keys.False at fs sound count fine = refl
+  keyword_charges keys.None at fs sound count fine = refl
+  keyword_charges keys.TxSender at fs sound count fine = refl
+  keyword_charges keys.ContractCaller at fs sound count fine = refl
+  keyword_charges keys.BlockHeight at fs sound count fine = refl
 
-  name_charges : (x : List ℕ) → keyword_of x ≡ None → Charges (name_shape G B x) (length es) (λ t ts. charge Lookup (size_of t)) sum_of
-  name_charges x own_name = subst (λ (o : Option Keyword). Charges (keyword_or o (value_or (named_in x B) (value_or (named_in x G.constants) (no_value_shape (is_no_value G x))))) (length es) (λ t ts. charge Lookup (size_of t)) sum_of) (sym own_name) (found_charges (length es) (named_in x B) (named_in x G.constants) (is_no_value G x))
+  name_charges : (x : List ℕ) → keyword_of x ≡ None → Charges (name_shape G B x) (length es) (λ t ts. Charge Lookup (size_of t)) sum_of
+  name_charges x own_name = subst (λ (o : Option Keyword). Charges (keyword_or o (value_or (named_in x B) (value_or (named_in x G.constants) (no_value_shape (is_no_value G x))))) (length es) (λ t ts. Charge Lookup (size_of t)) sum_of) (sym own_name) (found_charges (length es) (named_in x B) (named_in x G.constants) (is_no_value G x))
 
   -- ---- functions
 
   call_charges : (o : Option Signature) → Charges (call_shape o B es) (length es) (λ t ts. applied o) sum_of
-  call_charges None fs table sound count fine = absurd cc
-  call_charges (Some f) fs table sound count fine = refl
+  call_charges None fs sound count fine = absurd cc
+  call_charges (Some f) fs sound count fine = refl
 
 module _ (G : Context) (B : Names) where
   optional_charges : (es : List Tree) (head : Span) (part : Word) → Charges (head_shape heads.Match (row_of heads.Match) G B (optional_branches part es)) (length es) (own G (ops.MatchOptional head part)) (inside (ops.MatchOptional head part))
   unfolding head_shape
-  optional_charges [] head part fs table sound count fine = absurd cc
-  optional_charges (e ∷ more) head part fs table sound count fine = match_optional (length (e ∷ word part ∷ more)) fs table (omega (arith, count)) fine
+  optional_charges [] head part fs sound count fine = absurd cc
+  optional_charges (e ∷ more) head part fs sound count fine = match_optional (length (e ∷ word part ∷ more)) fs (omega (arith, count)) fine
 
   response_charges : (es : List Tree) (head : Span) (good bad : Word) → Charges (head_shape heads.Match (row_of heads.Match) G B (response_branches good bad es)) (length es) (own G (ops.MatchResponse head good bad)) (inside (ops.MatchResponse head good bad))
   unfolding head_shape
-  response_charges [] head good bad fs table sound count fine = absurd cc
-  response_charges (e ∷ []) head good bad fs table sound count fine = absurd cc
-  response_charges (e ∷ d ∷ last) head good bad fs table sound count fine = match_response (length (e ∷ word good ∷ d ∷ word bad ∷ last)) fs table (omega (arith, count)) fine
+  response_charges [] head good bad fs sound count fine = absurd cc
+  response_charges (e ∷ []) head good bad fs sound count fine = absurd cc
+  response_charges (e ∷ d ∷ last) head good bad fs sound count fine = match_response (length (e ∷ word good ∷ d ∷ word bad ∷ last)) fs (omega (arith, count)) fine
 
   pairs_charges : (es : List Tree) (head : Span) (pairs : Vec Binding) → Charges (head_shape heads.TupleOf (row_of heads.TupleOf) G B (bound_items pairs.items es)) (length es) (own G (ops.TupleOf head pairs)) sum_of
   unfolding head_shape
-  pairs_charges es head pairs fs table sound count fine = refl
+  pairs_charges es head pairs fs sound count fine = refl
 
   length_charges : (es : List Tree) (head at : Span) (most : ℕ) → Charges (head_shape heads.AsMaxLen (row_of heads.AsMaxLen) G B (behind_first (λ e more. e ∷ LeafAt (Unsigned most) at ∷ more) es)) (length es) (own G (ops.AsMaxLen head most at)) sum_of
   unfolding head_shape
-  length_charges [] head at most fs table sound count fine = absurd cc
-  length_charges (e ∷ more) head at most fs table sound count fine = refl
+  length_charges [] head at most fs sound count fine = absurd cc
+  length_charges (e ∷ more) head at most fs sound count fine = refl
 
 -- ---- calls
 
@@ -215,21 +215,21 @@ module _ (G : Context) (B : Names) (es : List Tree) where
       bad_binding = is_no_name function;
     };
     plan = parts B es;
-    verdict = at_first function (λ f. call_verdict f (both (charge ContractCallCost (length_at target)) f.bound));
+    verdict = at_first function (λ f. call_verdict f (Both (Charge ContractCallCost (length_at target)) f.bound));
   }
 
-  function_charges : (k : Known) (short : Bool) (o : Option Signature) → Charges (abroad (There k) (there_or_not o) short) (length es) (λ t ts. both (charge ContractCallCost k.length) (applied o)) sum_of
-  function_charges k short None fs table sound count fine = absurd (when_more _ _ _ _ sound)
-  function_charges k short (Some f) fs table sound count fine = refl
+  function_charges : (k : Known) (short : Bool) (o : Option Signature) → Charges (abroad (There k) (there_or_not o) short) (length es) (λ t ts. Both (Charge ContractCallCost k.length) (applied o)) sum_of
+  function_charges k short None fs sound count fine = absurd (when_more _ _ _ _ sound)
+  function_charges k short (Some f) fs sound count fine = refl
 
   -- the target by its look-up
   target_charges : (w : Word) (t : Tree) (short : Bool) (o : Option Known) → Charges (abroad (there_or_not o) (function_of (there_or_not o) (t ∷ word w ∷ es)) short) (length es) (λ _ ts. called_at (there_or_not o) w.name) sum_of
-  target_charges w t short None fs table sound count fine = absurd (when_more _ _ _ _ sound)
-  target_charges w t short (Some k) fs table sound count fine = function_charges k short (if_callable (signature_in w.name k.functions)) fs table sound count fine
+  target_charges w t short None fs sound count fine = absurd (when_more _ _ _ _ sound)
+  target_charges w t short (Some k) fs sound count fine = function_charges k short (if_callable (signature_in w.name k.functions)) fs sound count fine
 
   literal_charges : (w : Word) (t : Tree) (short : Bool) (o : Option Principal) → Charges (abroad (target_or_not G o) (function_of (target_or_not G o) (t ∷ word w ∷ es)) short) (length es) (λ _ ts. called_at (target_or_not G o) w.name) sum_of
-  literal_charges w t short None fs table sound count fine = absurd (when_more _ _ _ _ sound)
-  literal_charges w t short (Some p) fs table sound count fine = target_charges w t short (target_at G p) fs table sound count fine
+  literal_charges w t short None fs sound count fine = absurd (when_more _ _ _ _ sound)
+  literal_charges w t short (Some p) fs sound count fine = target_charges w t short (target_at G p) fs sound count fine
 
   contract_charges : (head : Span) (c : Target) (w : Word) (callee : Callee) → Charges (head_shape heads.ContractCall (row_of heads.ContractCall) G B (target c ∷ word w ∷ es)) (length es) (own G (ops.ContractCall head c w callee)) sum_of
   unfolding head_shape
@@ -240,13 +240,13 @@ module _ (G : Context) (B : Names) (es : List Tree) where
 
 pub op_charges : (G : Context) (B : Names) (op : Op) (es : List Tree) (at : Span) → has_own_name op ≡ true → Charges (shape G B (expression op es at)) (length es) (own G op) (inside op)
 unfolding shape has_own_name
-op_charges G B (ops.Int z) es at named = λ fs table sound count fine. refl
-op_charges G B (ops.Uint n) es at named = λ fs table sound count fine. refl
-op_charges G B (ops.Buff bytes) es at named = λ fs table sound count fine. refl
-op_charges G B (ops.Ascii text) es at named = λ fs table sound count fine. refl
-op_charges G B (ops.Utf8 text) es at named = λ fs table sound count fine. refl
-op_charges G B (ops.Standing p) es at named = λ fs table sound count fine. refl
-op_charges G B (ops.Local c) es at named = λ fs table sound count fine. refl
+op_charges G B (ops.Int z) es at named = λ fs sound count fine. refl
+op_charges G B (ops.Uint n) es at named = λ fs sound count fine. refl
+op_charges G B (ops.Buff bytes) es at named = λ fs sound count fine. refl
+op_charges G B (ops.Ascii text) es at named = λ fs sound count fine. refl
+op_charges G B (ops.Utf8 text) es at named = λ fs sound count fine. refl
+op_charges G B (ops.Standing p) es at named = λ fs sound count fine. refl
+op_charges G B (ops.Local c) es at named = λ fs sound count fine. refl
 op_charges G B (ops.Keyword k) es at named = keyword_charges G B es k at
 op_charges G B (ops.Bound x) es at named = name_charges G B es x (keyless x (not_true (is_one_of keywords x) named))
 op_charges G B (ops.Constant x) es at named = name_charges G B es x (keyless x (not_true (is_one_of keywords x) named))
@@ -255,7 +255,7 @@ op_charges G B (ops.OnParts n head) es at named = by_head (parts_head n) head at
 op_charges G B (ops.OnName n head w) es at named = by_head (name_head n) head at (word w ∷ es) G B (length es) (own G (ops.OnName n head w)) (inside (ops.OnName n head w)) (named_charges G B w head es n)
 op_charges G B (ops.Iterate k head a) es at named = by_head (iteration_head k) head at (applied_name a ∷ es) G B (length es) (own G (ops.Iterate k head a)) (inside (ops.Iterate k head a)) (applied_charges G B es k a named)
 op_charges G B (ops.AsMaxLen head most lit) es at named = by_head heads.AsMaxLen head at (behind_first (λ e more. e ∷ LeafAt (Unsigned most) lit ∷ more) es) G B (length es) (own G (ops.AsMaxLen head most lit)) (inside (ops.AsMaxLen head most lit)) (length_charges G B es head lit most)
-op_charges G B (ops.Tuple names) es at named = λ fs table sound count fine. refl
+op_charges G B (ops.Tuple names) es at named = λ fs sound count fine. refl
 op_charges G B (ops.TupleOf head pairs) es at named = by_head heads.TupleOf head at (bound_items pairs.items es) G B (length es) (own G (ops.TupleOf head pairs)) (inside (ops.TupleOf head pairs)) (pairs_charges G B es head pairs)
 op_charges G B (ops.Let head brackets bs) es at named = by_head heads.Let head at (ListAt (forest (bound_items bs.items es)) brackets ∷ drop (length bs.items) es) G B (length es) (own G (ops.Let head brackets bs)) (inside (ops.Let head brackets bs)) (let_charges G B es head brackets bs)
 op_charges G B (ops.MatchOptional head part) es at named = by_head heads.Match head at (optional_branches part es) G B (length es) (own G (ops.MatchOptional head part)) (inside (ops.MatchOptional head part)) (optional_charges G B es head part)

@@ -11,6 +11,7 @@ use Rattle.cl_shapes.specs.Costs.{counted, first_above}
 use Rattle.cl_forms.specs.Forms.{Form}
 use Rattle.cl_code.specs.Definitions.{form_defined}
 use Rattle.cl_code.specs.declared.definition.Definition.{Definition}
+use Rattle.cl_rules.specs.Bills.{cost_under}
 use Rattle.cl_rules.specs.Context.{CostTable, Signature}
 use Rattle.cl_rules.specs.FormRules.{Defined}
 use Rattle.cl_rules.specs.Acceptance.{most_cost, bound_at, bound_of, forms_at, nowhere}
@@ -45,7 +46,7 @@ pub over_some : (table : CostTable) (span : Span) (a : Application) (f : Option 
 over_some table span a None o h above = absurd cc
 over_some table span a (Some f) o h above =
     let same : a ≡ application_of table f = cc in
-    ap (option_map {U = Dimension × Span} (λ (d : Dimension). (d, span))) (above (f.bound table) (ap (λ (b : Application). b.bound) same))
+    ap (option_map {U = Dimension × Span} (λ (d : Dimension). (d, span))) (above (cost_under table f.bound) (ap (λ (b : Application). b.bound) same))
 
 pub over_none : (table : CostTable) (span : Span) (f : Option Signature) → None ≡ option_map (application_of table) f → None ≡ above_at span table (bound_at f)
 over_none table span None h = refl
@@ -73,6 +74,6 @@ module _ (checked : Checked) (table : CostTable) (D : Defined) where
       stop_of checked.order.items ≡ stop_of (drop i checked.order.items) → stop_of checked.order.items ≡ or_later o (stop_of (drop (i + 1) checked.order.items))
   next_stop i place o lt at here left = left ∙ ap stop_of (rest_of checked.order.items i place lt at) ∙ here (drop (i + 1) checked.order.items)
 
-  pub last_stop : (i : ℕ) (o : Option Dimension) → length checked.order.items ≤ i → o ≡ first_above most_cost (D.deploy table) → stop_of checked.order.items ≡ stop_of (drop i checked.order.items) → option_map {U = Dimension × Span} (λ (d : Dimension). (d, nowhere)) o ≡ stop_of checked.order.items
+  pub last_stop : (i : ℕ) (o : Option Dimension) → length checked.order.items ≤ i → o ≡ first_above most_cost (cost_under table D.deploy) → stop_of checked.order.items ≡ stop_of (drop i checked.order.items) → option_map {U = Dimension × Span} (λ (d : Dimension). (d, nowhere)) o ≡ stop_of checked.order.items
   last_stop i o far is left =
       ap (option_map {U = Dimension × Span} (λ (d : Dimension). (d, nowhere))) is ∙ sym (left ∙ ap stop_of (drop_all i checked.order.items far))

@@ -10,10 +10,11 @@ use Rattle.cl_forms.specs.Keywords.{keyword_cost}
 use Rattle.cl_forms.specs.Heads.{row_of}
 use Rattle.cl_types.specs.TypeKinds.{entry_of}
 use Rattle.cl_rules.specs.NativeTypes.{first_of}
-use Rattle.cl_rules.specs.Context.{Context, Bound, Signature, Known, charge, free, both, signature_in, if_callable}
+use Rattle.cl_rules.specs.Bills.{Bill, Free, Charge, Both, Greater, Times}
+use Rattle.cl_rules.specs.Context.{Context, Signature, Known, signature_in, if_callable}
 use Rattle.cl_rules.specs.Verdicts.{Found, number_at, sizes_of, sum_of}
-use Rattle.cl_rules.specs.ControlShapes.{binds, either, bound_branch}
-use Rattle.cl_rules.specs.CallShapes.{Usable, ANative, use_bound, usable_function, repeated, least_length, target_or_not, contract_literal}
+use Rattle.cl_rules.specs.ControlShapes.{binds, bound_branch}
+use Rattle.cl_rules.specs.CallShapes.{Usable, ANative, use_bound, usable_function, least_length, target_or_not, contract_literal}
 use Rattle.cl_rules.specs.Shapes.{First, There}
 use Rattle.cl_sexpr.specs.Tree.{Leaf, Standing as Standing_leaf, Local as Local_leaf}
 use Rattle.cl_code.specs.declared.op.Target.{Target}
@@ -46,22 +47,22 @@ name_cost native = (row_of (name_head native)).cost
 -- ---- the expression itself
 
 -- a charge for values of these types
-abbrev pub counted : CostName → List PlainType → Bound
-counted name ts = charge name (number_at name ts)
+abbrev pub counted : CostName → List PlainType → Bill
+counted name ts = Charge name (number_at name ts)
 
 -- one application of a function
-abbrev pub applied : Option Signature → Bound
-applied None = free
+abbrev pub applied : Option Signature → Bill
+applied None = Free
 applied (Some f) = f.bound
 
 -- one application of what is given by name, to values of these types
-abbrev pub applied_to : Option Usable → List PlainType → Bound
-applied_to None ts = free
+abbrev pub applied_to : Option Usable → List PlainType → Bill
+applied_to None ts = Free
 applied_to (Some u) ts = use_bound u ts
 
 -- the iteration over these arguments, and so many applications to values of these types
-abbrev pub iterated : Option Usable → List PlainType → ℕ → List PlainType → Bound
-iterated u arguments n values = both (charge Iterate (sizes_of arguments)) (repeated n (applied_to u values))
+abbrev pub iterated : Option Usable → List PlainType → ℕ → List PlainType → Bill
+iterated u arguments n values = Both (Charge Iterate (sizes_of arguments)) (Times n (applied_to u values))
 
 -- what is given by name
 abbrev pub given : Context → Applied → Option Usable
@@ -71,13 +72,13 @@ given G (AndBy at) = Some (ANative (row_of heads.And))
 given G (OrBy at) = Some (ANative (row_of heads.Or))
 
 -- a native with a leading name, of this type and with arguments of these types
-abbrev pub named : NameNative → PlainType → List PlainType → Bound
-named VarGet t ts = charge ReadVar (size_of t)
-named MapGet t ts = charge ReadMap (sizes_of ts + size_of t)
+abbrev pub named : NameNative → PlainType → List PlainType → Bill
+named VarGet t ts = Charge ReadVar (size_of t)
+named MapGet t ts = Charge ReadMap (sizes_of ts + size_of t)
 named native t ts = counted (name_cost native) ts
 
 -- the iteration over arguments of these types that applies this, of this type
-abbrev pub iteration : Iteration → Option Usable → PlainType → List PlainType → Bound
+abbrev pub iteration : Iteration → Option Usable → PlainType → List PlainType → Bill
 iteration Map u t ts = iterated u ts (least_length ts) (map entry_of ts)
 iteration Filter u t ts = iterated u ts (length_of (first_of ts)) (entry_of (first_of ts) ∷ [])
 iteration Fold u t ts = iterated u ts (length_of (first_of ts)) (entry_of (first_of ts) ∷ t ∷ [])
@@ -88,15 +89,15 @@ leaf_of (StandingAt p at) = Standing_leaf p
 leaf_of (LocalAt c at) = Local_leaf c
 
 -- a function of another contract: the charge with the length of that contract's text, and the application
-abbrev pub called_at : First Known → List ℕ → Bound
-called_at (There k) x = both (charge ContractCallCost k.length) (applied (if_callable (signature_in x k.functions)))
-called_at target x = free
+abbrev pub called_at : First Known → List ℕ → Bill
+called_at (There k) x = Both (Charge ContractCallCost k.length) (applied (if_callable (signature_in x k.functions)))
+called_at target x = Free
 
 -- an expression of this type with parts of these types
-abbrev pub own : Context → Op → PlainType → List PlainType → Bound
-own G (KeywordOp k) t ts = charge (keyword_cost k) (size_of t)
-own G (BoundOp x) t ts = charge Lookup (size_of t)
-own G (Constant x) t ts = charge Lookup (size_of t)
+abbrev pub own : Context → Op → PlainType → List PlainType → Bill
+own G (KeywordOp k) t ts = Charge (keyword_cost k) (size_of t)
+own G (BoundOp x) t ts = Charge Lookup (size_of t)
+own G (Constant x) t ts = Charge Lookup (size_of t)
 own G (OnValues native head) t ts = counted (values_cost native) ts
 own G (OnParts native head) t ts = counted (parts_cost native) ts
 own G (OnName native head name) t ts = named native t ts
@@ -104,12 +105,12 @@ own G (IterateOp kind head what) t ts = iteration kind (given G what) t ts
 own G (AsMaxLen head most at) t ts = counted Make ts
 own G (Tuple keys) t ts = counted Make ts
 own G (TupleOf head pairs) t ts = counted Make ts
-own G (Let head at bindings) t ts = both (charge Control (suc (length ts - length bindings.items))) (binds (take (length bindings.items) ts))
-own G (MatchOptional head part) t ts = charge Control 4
-own G (MatchResponse head good bad) t ts = charge Control 5
+own G (Let head at bindings) t ts = Both (Charge Control (suc (length ts - length bindings.items))) (binds (take (length bindings.items) ts))
+own G (MatchOptional head part) t ts = Charge Control 4
+own G (MatchResponse head good bad) t ts = Charge Control 5
 own G (Call f) t ts = applied (signature_in f.name G.functions)
 own G (ContractCall head target function callee) t ts = called_at (target_or_not G (contract_literal G.principal (leaf_of target))) function.name
-own G op t ts = charge Literal (size_of t)
+own G op t ts = Charge Literal (size_of t)
 
 -- ---- the parts
 
@@ -124,12 +125,12 @@ bad_part (ResponseType t e) = e
 bad_part t = NoType
 
 -- a part that is always evaluated, and the greater of two
-abbrev pub of_branches : (PlainType → Found → Bound) → (PlainType → Found → Bound) → List Found → Bound
-of_branches first second (i ∷ a ∷ b ∷ []) = both i.bound (either (first i.type a) (second i.type b))
-of_branches first second fs = free
+abbrev pub of_branches : (PlainType → Found → Bill) → (PlainType → Found → Bill) → List Found → Bill
+of_branches first second (i ∷ a ∷ b ∷ []) = Both i.bound (Greater (first i.type a) (second i.type b))
+of_branches first second fs = Free
 
 -- a branch as it counts, where the input has this type
-abbrev pub branch_by : Branch → PlainType → Found → Bound
+abbrev pub branch_by : Branch → PlainType → Found → Bill
 branch_by Plain t f = f.bound
 branch_by Good t f = bound_branch (good_part t) f
 branch_by Bad t f = bound_branch (bad_part t) f
@@ -141,11 +142,11 @@ branches_of (MatchOptional head part) = Some (Good, Plain)
 branches_of (MatchResponse head good bad) = Some (Good, Bad)
 branches_of op = None
 
-abbrev pub inside_by : Option (Branch × Branch) → List Found → Bound
+abbrev pub inside_by : Option (Branch × Branch) → List Found → Bill
 inside_by None fs = sum_of fs
 inside_by (Some b) fs = of_branches (branch_by b.0) (branch_by b.1) fs
 
-abbrev pub inside : Op → List Found → Bound
+abbrev pub inside : Op → List Found → Bill
 inside op fs = inside_by (branches_of op) fs
 
 -- the least of a length and of others

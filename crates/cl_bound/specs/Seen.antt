@@ -6,7 +6,8 @@ use Rattle.cl_shapes.specs.Costs.{first_above}
 use Rattle.cl_forms.specs.Forms.{Form}
 use Rattle.cl_rules.specs.FormRules.{Defined}
 use Rattle.cl_rules.specs.Acceptance.{most_cost, bound_of}
-use Rattle.cl_rules.specs.Context.{CostTable, Bound, Signature, Known, Context, named_in, signature_in, same_principal, known_at}
+use Rattle.cl_rules.specs.Bills.{Bill, cost_under}
+use Rattle.cl_rules.specs.Context.{CostTable, Signature, Known, Context, named_in, signature_in, same_principal, known_at}
 use Rattle.cl_bound.specs.Sums.{told}
 use Rattle.cl_bound.specs.declared.prices.Application.{Application}
 use Rattle.cl_bound.specs.declared.prices.Prices.{Prices}
@@ -14,7 +15,7 @@ use Rattle.cl_bound.specs.declared.known.ContractBounds.{ContractBounds}
 
 -- an application of a function, with its bound under a table
 abbrev pub application_of : CostTable → Signature → Application
-application_of table f = record { access = f.access; bound = told (f.bound table) }
+application_of table f = record { access = f.access; bound = told (cost_under table f.bound) }
 
 -- under each name stands the first function of that name
 abbrev pub ShowFunctions : CostTable → List Signature → List (List ℕ × Application) → Type 0
@@ -43,4 +44,4 @@ pub record ShowsPrices (c : Prices) (G : Context) : Type 0 where
 
 -- the bound of a form that is a function isn't above the limit
 abbrev pub IsWithin : Defined → Form → CostTable → Type 0
-IsWithin D form table = (bound : Bound) → bound_of D form ≡ Some bound → first_above most_cost (bound table) ≡ None
+IsWithin D form table = (bound : Bill) → bound_of D form ≡ Some bound → first_above most_cost (cost_under table bound) ≡ None

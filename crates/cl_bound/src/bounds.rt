@@ -7,7 +7,8 @@ ghost use Rattle.cl_sexpr.specs.declared.rule.Rule.TheVariants.{BoundTooLarge};
 ghost use Rattle.cl_costs.specs.Tables.{function_of};
 ghost use Rattle.cl_rules.specs.Acceptance.{Bounded, bound_at, most_cost};
 ghost use Rattle.cl_shapes.specs.Costs.{first_above};
-ghost use Rattle.cl_rules.specs.Context.{Bound, Known, signature_in};
+ghost use Rattle.cl_rules.specs.Bills.{Bill, cost_under};
+ghost use Rattle.cl_rules.specs.Context.{Known, signature_in};
 ghost use Rattle.cl_rules.specs.FormRules.{Defined};
 ghost use Rattle.cl_rules.specs.Laws.{IsFirstAboveLimit};
 ghost use Rattle.cl_contracts.specs.Seen.{forms_of};
@@ -34,8 +35,8 @@ use std::alloc::Global;
 
 /// A name with the bound of its function, where that isn't above the limit.
 fn function_line(prices: &Prices, name: &Name) -> Option<(Name, Cost5)>
-    ensures { (D : Defined) → ShowsPrices prices.now D.context → ((b : Bound) → bound_at (signature_in name.now D.context.functions) ≡ Some b → first_above most_cost (b (function_of prices.now.costs)) ≡ None) →
-        result ≡ option_map (λ (b : Bound). (name.now, b (function_of prices.now.costs))) (bound_at (signature_in name.now D.context.functions)) }
+    ensures { (D : Defined) → ShowsPrices prices.now D.context → ((b : Bill) → bound_at (signature_in name.now D.context.functions) ≡ Some b → first_above most_cost (cost_under (function_of prices.now.costs) b) ≡ None) →
+        result ≡ option_map (λ (b : Bill). (name.now, cost_under (function_of prices.now.costs) b)) (bound_at (signature_in name.now D.context.functions)) }
 {
     match prices.functions.get(name) {
         Some(application) => Some((*name, application.bound.saturated())),

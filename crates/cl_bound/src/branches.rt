@@ -1,6 +1,7 @@
 //! Branches, of which the greater counts.
 ghost use Rattle.std.specs.Prelude.{◌≡◌};
 ghost use Rattle.cl_costs.specs.Tables.{function_of};
+ghost use Rattle.cl_rules.specs.Bills.{cost_under};
 ghost use Rattle.cl_rules.specs.Verdicts.{Found};
 ghost use Rattle.cl_bound.specs.Sums.{told};
 ghost use Rattle.cl_bound.specs.Own.{branch_by, branches_of};
@@ -37,7 +38,7 @@ pub(crate) fn branches_of(op: &Op) -> Option<(Branch, Branch)>
 
 /// A branch as it counts, with the bound of what is evaluated there, where the input has this type.
 pub(crate) fn counted_branch(prices: &Prices, branch: Branch, input: &SizedTy, inside: &Sum) -> Sum
-    ensures { (f : Found) → inside.now ≡ told (f.bound (function_of prices.now.costs)) → result ≡ told (branch_by branch input.now f (function_of prices.now.costs)) }
+    ensures { (f : Found) → inside.now ≡ told (cost_under (function_of prices.now.costs) f.bound) → result ≡ told (cost_under (function_of prices.now.costs) (branch_by branch input.now f)) }
 {
     match branch {
         Branch::Plain => *inside,

@@ -7,6 +7,7 @@ ghost use Rattle.cl_c32.specs.declared.principal.Principal.{Principal};
 ghost use Rattle.cl_costs.specs.Tables.{function_of};
 ghost use Rattle.cl_code.specs.Definitions.{form_defined, function_form};
 ghost use Rattle.cl_code.specs.declared.definition.Definition.TheVariants.{Function as AFunction};
+ghost use Rattle.cl_rules.specs.Bills.{cost_under};
 ghost use Rattle.cl_rules.specs.Context.{Known};
 ghost use Rattle.cl_rules.specs.Verdicts.{Found};
 ghost use Rattle.cl_rules.specs.FormRules.{Defined, defined_after, form_charges, nothing_defined};
@@ -61,7 +62,7 @@ fn define(prices: &mut Prices, function: &Function) -> Result<(), NoMemory>
 /// Takes in a definition. Gives what it is charged when it is deployed.
 fn take_in(prices: &mut Prices, definition: &Definition) -> Result<Sum, NoMemory>
     ensures costs { prices.new.costs ≡ prices.old.costs }
-    ensures charged { IfOk result (λ sum. (D : Defined) (fs : List Found) → ShowsPrices prices.old D.context → StandsAs D definition.now fs → sum ≡ told (form_charges (kind_at definition.now) fs (function_of prices.old.costs))) }
+    ensures charged { IfOk result (λ sum. (D : Defined) (fs : List Found) → ShowsPrices prices.old D.context → StandsAs D definition.now fs → sum ≡ told (cost_under (function_of prices.old.costs) (form_charges (kind_at definition.now) fs))) }
     ensures shown { OnOk result ((D : Defined) (fs : List Found) → ShowsPrices prices.old D.context → StandsAs D definition.now fs → ShowsPrices prices.new (defined_after D (form_defined definition.now) fs).context) }
 {
     let sum = charges(prices, definition);
@@ -75,7 +76,7 @@ fn take_in(prices: &mut Prices, definition: &Definition) -> Result<Sum, NoMemory
 pub(crate) fn deployment(prices: &mut Prices, checked: &Checked) -> Result<Sum, NoMemory>
     ensures costs { prices.new.costs ≡ prices.old.costs }
     ensures defined { IfOk result (λ sum. (known : List Known) (principal : Principal) (E : Defined) → ShowsPrices prices.old (nothing_defined known principal checked.now.source_length).context →
-        AllStand (nothing_defined known principal checked.now.source_length) (definitions_in_order checked.now) E → ShowsPrices prices.new E.context × (sum ≡ told (E.deploy (function_of prices.old.costs)))) }
+        AllStand (nothing_defined known principal checked.now.source_length) (definitions_in_order checked.now) E → ShowsPrices prices.new E.context × (sum ≡ told (cost_under (function_of prices.old.costs) E.deploy))) }
 {
     let mut sum = prices.charge_length(CostName::Deploy, checked.source_length);
     for place in &checked.order {

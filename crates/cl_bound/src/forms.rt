@@ -3,7 +3,8 @@ ghost use Rattle.std.specs.Prelude.{◌≡◌, ℕ, List, [], map};
 ghost use Rattle.cl_types.specs.Types.{PlainType, UintType, size_of};
 ghost use Rattle.cl_shapes.specs.declared.name.CostName.TheVariants.{Define};
 ghost use Rattle.cl_costs.specs.Tables.{function_of};
-ghost use Rattle.cl_rules.specs.Context.{Context, both, charge};
+ghost use Rattle.cl_rules.specs.Bills.{Charge, Both, cost_under};
+ghost use Rattle.cl_rules.specs.Context.{Context};
 ghost use Rattle.cl_rules.specs.ControlShapes.{binds};
 ghost use Rattle.cl_rules.specs.FormRules.{Defined, application, form_charges};
 ghost use Rattle.cl_rules.specs.Verdicts.{Found};
@@ -22,7 +23,7 @@ use cl_types::{Name, SizedTy, size};
 
 /// Adds a bind for each parameter.
 fn add_binds(prices: &Prices, params: &[(Name, SizedTy)], sum: &mut Sum)
-    ensures { Increases sum.old sum.new (binds (map (λ (p : List ℕ × PlainType). p.1) params.now) (function_of prices.now.costs)) }
+    ensures { Increases sum.old sum.new (cost_under (function_of prices.now.costs) (binds (map (λ (p : List ℕ × PlainType). p.1) params.now))) }
 {
     for param in params {
         prices.add_charge(CostName::Bind, u64::from(size(&param.1)), sum);
@@ -31,7 +32,7 @@ fn add_binds(prices: &Prices, params: &[(Name, SizedTy)], sum: &mut Sum)
 
 /// The bound of one application of a function with these parameters and this body.
 pub(crate) fn application(prices: &Prices, params: &[(Name, SizedTy)], body: &Code) -> Sum
-    ensures { (G : Context) (f : Found) → ShowsPrices prices.now G → Stands G params.now body.now f → result ≡ told (application params.now f (function_of prices.now.costs)) }
+    ensures { (G : Context) (f : Found) → ShowsPrices prices.now G → Stands G params.now body.now f → result ≡ told (cost_under (function_of prices.now.costs) (application params.now f)) }
 {
     let mut sum = prices.charge_count(CostName::Call, params.len());
     add_binds(prices, params, &mut sum);
@@ -41,7 +42,7 @@ pub(crate) fn application(prices: &Prices, params: &[(Name, SizedTy)], body: &Co
 
 /// An expression, and the definition of its value.
 fn value_charges(prices: &Prices, code: &Code) -> Sum
-    ensures { (G : Context) (f : Found) → ShowsPrices prices.now G → Stands G [] code.now f → result ≡ told (both f.bound (charge Define (size_of f.type)) (function_of prices.now.costs)) }
+    ensures { (G : Context) (f : Found) → ShowsPrices prices.now G → Stands G [] code.now f → result ≡ told (cost_under (function_of prices.now.costs) (Both f.bound (Charge Define (size_of f.type)))) }
 {
     let mut sum = tree_bound(prices, code);
     prices.add_charge(CostName::Define, u64::from(size(&code.ty)), &mut sum);
@@ -50,7 +51,7 @@ fn value_charges(prices: &Prices, code: &Code) -> Sum
 
 /// The expression of a greatest supply, and its definition.
 fn supply_charges(prices: &Prices, code: &Code) -> Sum
-    ensures { (G : Context) (f : Found) → ShowsPrices prices.now G → Stands G [] code.now f → result ≡ told (both f.bound (charge Define (size_of UintType)) (function_of prices.now.costs)) }
+    ensures { (G : Context) (f : Found) → ShowsPrices prices.now G → Stands G [] code.now f → result ≡ told (cost_under (function_of prices.now.costs) (Both f.bound (Charge Define (size_of UintType)))) }
 {
     let mut sum = tree_bound(prices, code);
     prices.add_charge(CostName::Define, 17, &mut sum);
@@ -59,7 +60,7 @@ fn supply_charges(prices: &Prices, code: &Code) -> Sum
 
 /// What a definition is charged when it is deployed.
 pub(crate) fn charges(prices: &Prices, definition: &Definition) -> Sum
-    ensures { (D : Defined) (fs : List Found) → ShowsPrices prices.now D.context → StandsAs D definition.now fs → result ≡ told (form_charges (kind_at definition.now) fs (function_of prices.now.costs)) }
+    ensures { (D : Defined) (fs : List Found) → ShowsPrices prices.now D.context → StandsAs D definition.now fs → result ≡ told (cost_under (function_of prices.now.costs) (form_charges (kind_at definition.now) fs)) }
 {
     match definition {
         Definition::Constant(constant) => value_charges(prices, &constant.value),

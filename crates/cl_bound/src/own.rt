@@ -2,7 +2,8 @@
 ghost use Rattle.std.specs.Prelude.{◌≡◌, true, suc, ◌-◌, ◌<◌, length, map, take};
 ghost use Rattle.cl_shapes.specs.declared.name.CostName.TheVariants.{Bind, Control};
 ghost use Rattle.cl_costs.specs.Tables.{function_of};
-ghost use Rattle.cl_rules.specs.Context.{Context, charge, both};
+ghost use Rattle.cl_rules.specs.Bills.{Charge, Both, cost_under};
+ghost use Rattle.cl_rules.specs.Context.{Context};
 ghost use Rattle.cl_rules.specs.ControlShapes.{binds};
 ghost use Rattle.cl_types.specs.Types.{size_of};
 ghost use Rattle.cl_code.specs.Typed.{type_of};
@@ -24,7 +25,7 @@ use cl_types::{SizedTy, size};
 
 /// Adds a charge by the size of a type.
 fn add_sized(prices: &Prices, name: CostName, ty: &SizedTy, sum: &mut Sum)
-    ensures { Increases sum.old sum.new (charge name (size_of ty.now) (function_of prices.now.costs)) }
+    ensures { Increases sum.old sum.new (cost_under (function_of prices.now.costs) (Charge name (size_of ty.now))) }
 {
     prices.add_charge(name, u64::from(size(ty)), sum);
 }
@@ -32,14 +33,14 @@ fn add_sized(prices: &Prices, name: CostName, ty: &SizedTy, sum: &mut Sum)
 /// Adds a charge for the values of the parts.
 fn add_counted(prices: &Prices, name: CostName, parts: &[Code], sum: &mut Sum)
     requires { length parts.now < 1048576 }
-    ensures { Increases sum.old sum.new (counted name (map type_of parts.now) (function_of prices.now.costs)) }
+    ensures { Increases sum.old sum.new (cost_under (function_of prices.now.costs) (counted name (map type_of parts.now))) }
 {
     prices.add_charge(name, number(name, parts), sum);
 }
 
 /// Adds a bind for each part.
 fn add_binds(prices: &Prices, parts: &[Code], sum: &mut Sum)
-    ensures { Increases sum.old sum.new (binds (map type_of parts.now) (function_of prices.now.costs)) }
+    ensures { Increases sum.old sum.new (cost_under (function_of prices.now.costs) (binds (map type_of parts.now))) }
 {
     for part in parts {
         add_sized(prices, CostName::Bind, &part.ty, sum);
@@ -59,7 +60,7 @@ fn front(parts: &[Code], count: usize) -> &[Code]
 /// Adds a let with so many bindings, which are its first parts.
 fn add_binding(prices: &Prices, bindings: usize, parts: &[Code], sum: &mut Sum)
     requires { length parts.now < 1048576 }
-    ensures { Increases sum.old sum.new (both (charge Control (suc (length (map type_of parts.now) - bindings))) (binds (take bindings (map type_of parts.now))) (function_of prices.now.costs)) }
+    ensures { Increases sum.old sum.new (cost_under (function_of prices.now.costs) (Both (Charge Control (suc (length (map type_of parts.now) - bindings))) (binds (take bindings (map type_of parts.now))))) }
 {
     let bodies = parts.len().saturating_sub(bindings) as u64;
     prices.add_charge(CostName::Control, bodies + 1, sum);
@@ -75,7 +76,7 @@ fn iteration(
     parts: &[Code],
 ) -> Sum
     requires { length parts.now < 1048576 }
-    ensures { (G : Context) → ShowsPrices prices.now G → result ≡ told (iteration kind (given G applied.now) ty.now (map type_of parts.now) (function_of prices.now.costs)) }
+    ensures { (G : Context) → ShowsPrices prices.now G → result ≡ told (cost_under (function_of prices.now.costs) (iteration kind (given G applied.now) ty.now (map type_of parts.now))) }
 {
     let (length, entry) = first_sequence(parts);
     match kind {
@@ -107,7 +108,7 @@ fn iteration(
 fn add_named(prices: &Prices, native: NameNative, ty: &SizedTy, parts: &[Code], sum: &mut Sum)
     requires few { length parts.now < 1048576 }
     requires fit { takes (row_of (name_head native)).arity (suc (length parts.now)) ≡ true }
-    ensures { Increases sum.old sum.new (named native ty.now (map type_of parts.now) (function_of prices.now.costs)) }
+    ensures { Increases sum.old sum.new (cost_under (function_of prices.now.costs) (named native ty.now (map type_of parts.now))) }
 {
     match native {
         NameNative::VarGet => add_sized(prices, CostName::ReadVar, ty, sum),
@@ -124,7 +125,7 @@ fn add_named(prices: &Prices, native: NameNative, ty: &SizedTy, parts: &[Code], 
 pub(crate) fn add_own(prices: &Prices, op: &Op, ty: &SizedTy, parts: &[Code], sum: &mut Sum)
     requires few { length parts.now < 1048576 }
     requires fit { has_parts op.now (length parts.now) ≡ true }
-    ensures { (G : Context) → ShowsPrices prices.now G → Increases sum.old sum.new (own G op.now ty.now (map type_of parts.now) (function_of prices.now.costs)) }
+    ensures { (G : Context) → ShowsPrices prices.now G → Increases sum.old sum.new (cost_under (function_of prices.now.costs) (own G op.now ty.now (map type_of parts.now))) }
 {
     match op {
         Op::Keyword(keyword) => add_sized(prices, keyword_cost(*keyword), ty, sum),

@@ -2,7 +2,8 @@
 ghost use Rattle.std.specs.Prelude.{◌≡◌, ℕ, ◌<◌, ◌^◌, List};
 ghost use Rattle.cl_costs.specs.Tables.{function_of};
 ghost use Rattle.cl_shapes.specs.Functions.{cost_at, shape_at, log2};
-ghost use Rattle.cl_rules.specs.Context.{Context, Known, Signature, CostTable as Table, charge, signature_in, if_callable, target_at};
+ghost use Rattle.cl_rules.specs.Bills.{Charge, cost_under};
+ghost use Rattle.cl_rules.specs.Context.{Context, Known, Signature, CostTable as Table, signature_in, if_callable, target_at};
 ghost use Rattle.cl_rules.specs.FormRules.{nothing_defined};
 ghost use Rattle.cl_rules.specs.CallShapes.{target_or_not, contract_literal};
 ghost use Rattle.cl_rules.specs.Shapes.{there_or_not};
@@ -38,7 +39,7 @@ pub(crate) struct Prices<'a> {
 
 /// One application of a function that other contracts may call.
 fn callable(functions: &IndexMap<Name, Application>, name: &Name) -> Sum
-    ensures { (table : Table) (fs : List Signature) → ShowFunctions table fs functions.now.entries → result ≡ told (applied (if_callable (signature_in name.now fs)) table) }
+    ensures { (table : Table) (fs : List Signature) → ShowFunctions table fs functions.now.entries → result ≡ told (cost_under table (applied (if_callable (signature_in name.now fs)))) }
 {
     match functions.get(name) {
         Some(application) => match application.access {
@@ -121,7 +122,7 @@ impl<'a> Prices<'a> {
     /// One charge.
     pub(crate) fn charge(&self, name: CostName, n: u64) -> Sum
         requires { n < 2 ^ 40 }
-        ensures { result ≡ told (charge name n (function_of self.now.costs)) }
+        ensures { result ≡ told (cost_under (function_of self.now.costs) (Charge name n)) }
     {
         Sum::of(self.costs.of(name).at(n))
     }
@@ -129,21 +130,21 @@ impl<'a> Prices<'a> {
     /// Adds one charge to a sum.
     pub(crate) fn add_charge(&self, name: CostName, n: u64, sum: &mut Sum)
         requires { n < 2 ^ 40 }
-        ensures { Increases sum.old sum.new (charge name n (function_of self.now.costs)) }
+        ensures { Increases sum.old sum.new (cost_under (function_of self.now.costs) (Charge name n)) }
     {
         sum.charge(&self.costs.of(name).at(n));
     }
 
     /// One charge with the length of a text, in bytes.
     pub(crate) fn charge_length(&self, name: CostName, length: u32) -> Sum
-        ensures { result ≡ told (charge name length (function_of self.now.costs)) }
+        ensures { result ≡ told (cost_under (function_of self.now.costs) (Charge name length)) }
     {
         self.charge(name, u64::from(length))
     }
 
     /// One charge with a number of things, however many.
     pub(crate) fn charge_count(&self, name: CostName, count: usize) -> Sum
-        ensures { result ≡ told (charge name count (function_of self.now.costs)) }
+        ensures { result ≡ told (cost_under (function_of self.now.costs) (Charge name count)) }
     {
         Sum::of(cost_at(self.costs.of(name), count as u64))
     }
@@ -151,7 +152,7 @@ impl<'a> Prices<'a> {
     /// The bound of one application of a function of the contract.
     #[tactic(auto, using(crate::proofs::Lookups::applied_is, crate::proofs::Lookups::applied_none))]
     pub(crate) fn function(&self, name: &Name) -> Sum
-        ensures { (G : Context) → ShowsPrices self.now G → result ≡ told (applied (signature_in name.now G.functions) (function_of self.now.costs)) }
+        ensures { (G : Context) → ShowsPrices self.now G → result ≡ told (cost_under (function_of self.now.costs) (applied (signature_in name.now G.functions))) }
     {
         match self.functions.get(name) {
             Some(application) => application.bound,
@@ -161,7 +162,7 @@ impl<'a> Prices<'a> {
 
     /// A call of a function of another contract, if there is such a one.
     fn call_at(&self, principal: &Principal, name: &Name) -> Sum
-        ensures { (G : Context) → ShowsPrices self.now G → result ≡ told (called_at (there_or_not (target_at G principal.now)) name.now (function_of self.now.costs)) }
+        ensures { (G : Context) → ShowsPrices self.now G → result ≡ told (cost_under (function_of self.now.costs) (called_at (there_or_not (target_at G principal.now)) name.now)) }
     {
         if *principal == self.principal {
             return Sum::ZERO;
@@ -177,7 +178,7 @@ impl<'a> Prices<'a> {
 
     /// A call of a function of the contract that a literal stands for.
     pub(crate) fn abroad(&self, target: &Target, name: &Name) -> Sum
-        ensures { (G : Context) → ShowsPrices self.now G → result ≡ told (called_at (target_or_not G (contract_literal G.principal (leaf_of target.now))) name.now (function_of self.now.costs)) }
+        ensures { (G : Context) → ShowsPrices self.now G → result ≡ told (cost_under (function_of self.now.costs) (called_at (target_or_not G (contract_literal G.principal (leaf_of target.now))) name.now)) }
     {
         match literal(&self.principal, target) {
             Some(principal) => self.call_at(&principal, name),

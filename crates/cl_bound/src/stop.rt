@@ -7,6 +7,7 @@ ghost use Rattle.cl_code.specs.Definitions.{form_defined};
 ghost use Rattle.cl_rules.specs.Acceptance.{most_cost, bound_at, bound_of, forms_at};
 ghost use Rattle.cl_rules.specs.FormRules.{Defined};
 ghost use Rattle.cl_rules.specs.PlainProgram.{above_at, bound_stop, or_later};
+ghost use Rattle.cl_rules.specs.Bills.{cost_under};
 ghost use Rattle.cl_rules.specs.Context.{signature_in};
 ghost use Rattle.cl_contracts.specs.Seen.{forms_of};
 ghost use Rattle.cl_bound.specs.Sums.{told};
@@ -71,7 +72,7 @@ pub(crate) fn first_stop(
     checked: &Checked,
     deployment: &Sum,
 ) -> Option<(Dimension, Span)>
-    ensures { (D : Defined) → ShowsPrices prices.now D.context → deployment.now ≡ told (D.deploy (function_of prices.now.costs)) → result ≡ bound_stop (function_of prices.now.costs) D (forms_at (forms_of checked.now) checked.now.order.items) }
+    ensures { (D : Defined) → ShowsPrices prices.now D.context → deployment.now ≡ told (cost_under (function_of prices.now.costs) D.deploy) → result ≡ bound_stop (function_of prices.now.costs) D (forms_at (forms_of checked.now) checked.now.order.items) }
 {
     for place in &checked.order {
         if let Some(stop) = stop_at(prices, checked, *place) {

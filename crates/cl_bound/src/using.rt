@@ -2,6 +2,7 @@
 ghost use Rattle.std.specs.Prelude.{◌≡◌, ℕ, ◌<◌, ◌^◌, List, length, map};
 ghost use Rattle.cl_types.specs.Types.{PlainType};
 ghost use Rattle.cl_costs.specs.Tables.{function_of};
+ghost use Rattle.cl_rules.specs.Bills.{cost_under};
 ghost use Rattle.cl_rules.specs.Context.{Context};
 ghost use Rattle.cl_rules.specs.Verdicts.{number_at, sizes_of};
 ghost use Rattle.cl_code.specs.Typed.{type_of};
@@ -38,7 +39,7 @@ fn number_of(name: CostName, values: Values) -> u64
 #[tactic(auto, using(crate::proofs::ByNames::native_sum, crate::proofs::ByNames::function_sum))]
 fn applied_to(prices: &Prices, applied: &Applied, values: Values) -> Sum
     requires { (values.count < 2 ^ 40) × (values.sizes < 2 ^ 40) }
-    ensures { (G : Context) (ts : List PlainType) → ShowsPrices prices.now G → values.count ≡ length ts → values.sizes ≡ sizes_of ts → result ≡ told (applied_to (given G applied.now) ts (function_of prices.now.costs)) }
+    ensures { (G : Context) (ts : List PlainType) → ShowsPrices prices.now G → values.count ≡ length ts → values.sizes ≡ sizes_of ts → result ≡ told (cost_under (function_of prices.now.costs) (applied_to (given G applied.now) ts)) }
 {
     match applied {
         Applied::Function(function) => prices.function(&function.name),
@@ -59,7 +60,7 @@ pub(crate) fn iterated(
     values: Values,
 ) -> Sum
     requires { (length parts.now < 1048576) × (values.count < 2 ^ 40) × (values.sizes < 2 ^ 40) }
-    ensures { (G : Context) (ts : List PlainType) → ShowsPrices prices.now G → values.count ≡ length ts → values.sizes ≡ sizes_of ts → result ≡ told (iterated (given G applied.now) (map type_of parts.now) times ts (function_of prices.now.costs)) }
+    ensures { (G : Context) (ts : List PlainType) → ShowsPrices prices.now G → values.count ≡ length ts → values.sizes ≡ sizes_of ts → result ≡ told (cost_under (function_of prices.now.costs) (iterated (given G applied.now) (map type_of parts.now) times ts)) }
 {
     let iteration = prices.charge(CostName::Iterate, sizes(parts));
     let one = applied_to(prices, applied, values);

@@ -1,6 +1,7 @@
 //! Bounds of typed trees.
 ghost use Rattle.std.specs.Prelude.{◌≡◌, List};
 ghost use Rattle.cl_costs.specs.Tables.{function_of};
+ghost use Rattle.cl_rules.specs.Bills.{cost_under};
 ghost use Rattle.cl_rules.specs.Context.{Context, Names};
 ghost use Rattle.cl_rules.specs.Verdicts.{Found, sum_of};
 ghost use Rattle.cl_rules.specs.Shapes.{Plan};
@@ -18,7 +19,7 @@ use cl_code::Code;
 
 /// The bound of the expression that a tree stands for.
 pub(crate) fn tree_bound(prices: &Prices, code: &Code) -> Sum
-    ensures { (G : Context) (B : Names) (f : Found) → ShowsPrices prices.now G → Stands G B code.now f → result ≡ told (f.bound (function_of prices.now.costs)) }
+    ensures { (G : Context) (B : Names) (f : Found) → ShowsPrices prices.now G → Stands G B code.now f → result ≡ told (cost_under (function_of prices.now.costs) f.bound) }
 {
     let mut sum = Sum::ZERO;
     add_bound(prices, code, &mut sum);
@@ -28,7 +29,7 @@ pub(crate) fn tree_bound(prices: &Prices, code: &Code) -> Sum
 /// Adds the bound of the expression that a tree stands for.
 #[cycle(bound)]
 pub(crate) fn add_bound(prices: &Prices, code: &Code, sum: &mut Sum)
-    ensures { (G : Context) (B : Names) (f : Found) → ShowsPrices prices.now G → Stands G B code.now f → Increases sum.old sum.new (f.bound (function_of prices.now.costs)) }
+    ensures { (G : Context) (B : Names) (f : Found) → ShowsPrices prices.now G → Stands G B code.now f → Increases sum.old sum.new (cost_under (function_of prices.now.costs) f.bound) }
 {
     add_own(prices, &code.op, &code.ty, &code.parts, sum);
     match branches_of(&code.op) {
@@ -42,7 +43,7 @@ pub(crate) fn add_bound(prices: &Prices, code: &Code, sum: &mut Sum)
 /// Adds the bounds of all parts.
 #[cycle(bound)]
 fn add_parts(prices: &Prices, parts: &[Code], sum: &mut Sum)
-    ensures { (G : Context) (p : Plan) (fs : List Found) → ShowsPrices prices.now G → StandAll G p (typeds parts.now) fs → Increases sum.old sum.new (sum_of fs (function_of prices.now.costs)) }
+    ensures { (G : Context) (p : Plan) (fs : List Found) → ShowsPrices prices.now G → StandAll G p (typeds parts.now) fs → Increases sum.old sum.new (cost_under (function_of prices.now.costs) (sum_of fs)) }
 {
     for part in parts {
         add_bound(prices, part, sum);
@@ -52,7 +53,7 @@ fn add_parts(prices: &Prices, parts: &[Code], sum: &mut Sum)
 /// A part that is always evaluated, and the greater of two.
 #[cycle(bound)]
 fn branches_bound(prices: &Prices, parts: &[Code], first: Branch, second: Branch) -> Sum
-    ensures { (G : Context) (p : Plan) (fs : List Found) → ShowsPrices prices.now G → StandAll G p (typeds parts.now) fs → result ≡ told (of_branches (branch_by first) (branch_by second) fs (function_of prices.now.costs)) }
+    ensures { (G : Context) (p : Plan) (fs : List Found) → ShowsPrices prices.now G → StandAll G p (typeds parts.now) fs → result ≡ told (cost_under (function_of prices.now.costs) (of_branches (branch_by first) (branch_by second) fs)) }
 {
     match parts {
         [input, a, b] => {

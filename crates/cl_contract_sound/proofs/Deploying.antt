@@ -26,7 +26,8 @@ use Rattle.cl_meaning.specs.Scope.{Frame}
 use Rattle.cl_meaning.specs.Top.{most_depth, top}
 use Rattle.cl_meaning.specs.Kept.{Defines, IsHeld, IsNonFungible, Stands, Stage, Whole, Behind, Kept, IsDefinition, IsAmong}
 use Rattle.cl_rules.specs.Faults.{form_rules}
-use Rattle.cl_rules.specs.Context.{CostTable, Known, charge}
+use Rattle.cl_rules.specs.Bills.{Charge, cost_under}
+use Rattle.cl_rules.specs.Context.{CostTable, Known}
 use Rattle.cl_rules.specs.Verdicts.{Found}
 use Rattle.cl_rules.specs.Typing.{Follows, ends, part}
 use Rattle.cl_rules.specs.FormRules.{most_height, is_too_high, Defined, nothing_defined, form_plan, form_faults, declared_faults, form_charges, defined_after}
@@ -61,9 +62,9 @@ module _ (costs : CostTable) where
   unfolding stop cost
   end_give Done c s h = record { outcome = h; within = none_at_most zero_cost }
 
-  end_charged : (Done : Contract → State → Type 0) (name : CostName) (n : ℕ) (b : Cost5) (a : Answer Contract) → IsSoundDeployment costs Done b a → IsSoundDeployment costs Done (plus (charge name n costs) b) (charged name n a)
+  end_charged : (Done : Contract → State → Type 0) (name : CostName) (n : ℕ) (b : Cost5) (a : Answer Contract) → IsSoundDeployment costs Done b a → IsSoundDeployment costs Done (plus (cost_under costs (Charge name n)) b) (charged name n a)
   unfolding charged cost
-  end_charged Done name n b a h = record { outcome = h.outcome; within = more_of_both (charge name n costs) (charge name n costs) (cost costs a) b (same_cost (charge name n costs)) h.within }
+  end_charged Done name n b a h = record { outcome = h.outcome; within = more_of_both (cost_under costs (Charge name n)) (cost_under costs (Charge name n)) (cost costs a) b (same_cost (cost_under costs (Charge name n))) h.within }
 
   after_case : (Q : Contract → State → Type 0) (Done : Contract → State → Type 0) (b d : Cost5) (o : Outcome Contract) (s : State) (log : List Note) (go_on : Contract → State → Answer Contract) → IsFineEnd Q o s → IsAtMost (cost_sum costs (charges_of log)) b → ((c : Contract) (t : State) → Q c t → IsSoundDeployment costs Done d (go_on c t)) → IsSoundDeployment costs Done (plus b d) (then_on o s log go_on)
   unfolding cost
@@ -158,7 +159,7 @@ module _ (costs : CostTable) (W : Deployed) (A : AreDistinct W) (ks : List Known
     unfolding stage_good
     framed = record { home = home ∙ sym (stands_in (d ∷ W) stage D.context stage_good).home; contract = subst IsPrincipal (sym home) valid; sender = sender; caller = caller; height = height }
 
-    top_sound : (e : Tree) (f : Found) → Fitted D.context [] e f → f.height ≤ most_depth → (s : State) → Kept (d ∷ W) stage s → IsSound (deployed_world costs (d ∷ W) stage) (λ v. IsOf v f.type) (IsThrown f.thrown) (f.bound costs) (top W F d e s)
+    top_sound : (e : Tree) (f : Found) → Fitted D.context [] e f → f.height ≤ most_depth → (s : State) → Kept (d ∷ W) stage s → IsSound (deployed_world costs (d ∷ W) stage) (λ v. IsOf v f.type) (IsThrown f.thrown) (cost_under costs f.bound) (top W F d e s)
     unfolding top
     top_sound e f fit low s n = (each_depth (deployed_world costs (d ∷ W) stage) (is_world costs (d ∷ W) stage distinct) most_depth).0.each D.context stage_good F framed [] [] tt e f fit low s n
 
@@ -172,9 +173,9 @@ module _ (costs : CostTable) (W : Deployed) (A : AreDistinct W) (ks : List Known
     low_of : (n : ℕ) → is_too_high n ≡ false → n ≤ most_depth
     low_of n h = ltb-false most_height n h
 
-    charged_end : (Q : Contract → State → Type 0) (m n : ℕ) (b : Contract) (s : State) → m ≤ n → Q b s → IsSoundDeployment costs Q (charge Define n costs) (charged Define m (give b s))
+    charged_end : (Q : Contract → State → Type 0) (m n : ℕ) (b : Contract) (s : State) → m ≤ n → Q b s → IsSoundDeployment costs Q (cost_under costs (Charge Define n)) (charged Define m (give b s))
     charged_end Q m n b s low h =
-        end_more costs Q (plus (charge Define m costs) zero_cost) (charge Define n costs) _ (at_most (plus (charge Define m costs) zero_cost) (charge Define m costs) (charge Define n costs) (and_nothing (charge Define m costs)) (less_charged costs Define m n low))
+        end_more costs Q (plus (cost_under costs (Charge Define m)) zero_cost) (cost_under costs (Charge Define n)) _ (at_most (plus (cost_under costs (Charge Define m)) zero_cost) (cost_under costs (Charge Define m)) (cost_under costs (Charge Define n)) (and_nothing (cost_under costs (Charge Define m))) (less_charged costs Define m n low))
         (end_charged costs Q Define m zero_cost _ (end_give costs Q b s h))
 
     owners_new : (x : List ℕ) (t : PlainType) → form_of x c.forms ≡ Some (NonFungibleForm t) → (s : State) → Kept (d ∷ W) stage s → Kept (d ∷ W) stage (with_nonfungibles (put (place c.principal x) empty s.nonfungibles) s)
@@ -197,12 +198,12 @@ module _ (costs : CostTable) (W : Deployed) (A : AreDistinct W) (ks : List Known
     ledger_new x e h cap low s n = ledger_kept (d ∷ W) stage distinct costs d x e (itself x (FungibleForm e) h) (no_tokens cap) (no_tokens cap) (no_holders cap) refl low s n
 
     step : (name : Option (List ℕ)) (kind : FormKind) (span : Span) (fs : List Found) → (IsDefinition kind → form_of (unwrap_or name []) c.forms ≡ Some kind) → KindFits kind → Follows D.context (form_plan kind) fs → form_rules (form_faults kind fs) ≡ [] → (s : State) → Kept (d ∷ W) stage s →
-        IsSoundDeployment costs (After (record { name = name; kind = kind; span = span }) fs) (form_charges kind fs costs) (defined W F (unwrap_or name []) kind d s)
+        IsSoundDeployment costs (After (record { name = name; kind = kind; span = span }) fs) (cost_under costs (form_charges kind fs)) (defined W F (unwrap_or name []) kind d s)
     unfolding defined
     step name (ConstantForm e) span _ own fit (part {f = f} t ends) rules s n =
         let form : Form = record { name = name; kind = ConstantForm e; span = span } in
         let x = unwrap_or name [] in
-        end_from (deployed_world costs (d ∷ W) stage) (λ v. IsOf v f.type) (IsThrown f.thrown) _ (f.bound costs) (charge Define (type_size f.type) costs) _ _
+        end_from (deployed_world costs (d ∷ W) stage) (λ v. IsOf v f.type) (IsThrown f.thrown) _ (cost_under costs f.bound) (cost_under costs (Charge Define (type_size f.type))) _ _
         (top_sound e f (is_fitted D.context t fit) (low_of f.height (fine_form (form_faults (ConstantForm e) (f ∷ [])) rules).too_deep_calls) s n)
         (λ v u i m. charged_end _ (size_of v) (type_size f.type) _ u (no_larger v f.type i) (record {
           values = es ++ (x, v) ∷ [];
@@ -215,7 +216,7 @@ module _ (costs : CostTable) (W : Deployed) (A : AreDistinct W) (ks : List Known
         let x = unwrap_or name [] in
         let fine = fine_form (declared_faults u f) rules in
         let admitted = not_false (admits u f.type) fine.argument_kind in
-        end_from (deployed_world costs (d ∷ W) stage) (λ v. IsOf v f.type) (IsThrown f.thrown) _ (f.bound costs) (charge Define (type_size f.type) costs) _ _
+        end_from (deployed_world costs (d ∷ W) stage) (λ v. IsOf v f.type) (IsThrown f.thrown) _ (cost_under costs f.bound) (cost_under costs (Charge Define (type_size f.type))) _ _
         (top_sound e f (is_fitted D.context t fit) (low_of f.height (both_false (admits u f.type) (is_too_high f.height) fine.too_deep_calls admitted)) s n)
         (λ v z i m. charged_end _ (size_of v) (type_size f.type) _ _ (no_larger v f.type i) (record {
           values = es;
@@ -235,17 +236,17 @@ module _ (costs : CostTable) (W : Deployed) (A : AreDistinct W) (ks : List Known
         let x = unwrap_or name [] in
         let fine = fine_form (declared_faults UintType f) rules in
         let admitted = not_false (admits UintType f.type) fine.argument_kind in
-        end_from (deployed_world costs (d ∷ W) stage) (λ v. IsOf v f.type) (IsThrown f.thrown) _ (f.bound costs) (charge Define (type_size UintType) costs) _ _
+        end_from (deployed_world costs (d ∷ W) stage) (λ v. IsOf v f.type) (IsThrown f.thrown) _ (cost_under costs f.bound) (cost_under costs (Charge Define (type_size UintType))) _ _
         (top_sound e f (is_fitted D.context t fit) (low_of f.height (both_false (admits UintType f.type) (is_too_high f.height) fine.too_deep_calls admitted)) s n)
         (λ v z i m. capped name span e own v z m (number_of v UintType refl (raised_of v UintType f.type admitted i)) (raised_of v UintType f.type admitted i) f)
       where
         capped : (name : Option (List ℕ)) (span : Span) (e : Tree) → (IsDefinition (FungibleForm (Some e)) → form_of (unwrap_or name []) c.forms ≡ Some (FungibleForm (Some e))) → (v : Val) (z : State) → Kept (d ∷ W) stage z → (k : ℕ) × (v ≡ UintV k) → IsOf v UintType → (f : Found) →
-            IsSoundDeployment costs (After (record { name = name; kind = FungibleForm (Some e); span = span }) (f ∷ [])) (charge Define (type_size UintType) costs) (with_cap d (unwrap_or name []) v z)
+            IsSoundDeployment costs (After (record { name = name; kind = FungibleForm (Some e); span = span }) (f ∷ [])) (cost_under costs (Charge Define (type_size UintType))) (with_cap d (unwrap_or name []) v z)
         capped name span e own v z m is i f =
             let form : Form = record { name = name; kind = FungibleForm (Some e); span = span } in
             let x = unwrap_or name [] in
             let low = (subst (λ v. IsOf v UintType) is.1 i).valid.ranges in
-            subst (λ v. IsSoundDeployment costs (After form (f ∷ [])) (charge Define (type_size UintType) costs) (with_cap d x v z)) (sym is.1)
+            subst (λ v. IsSoundDeployment costs (After form (f ∷ [])) (cost_under costs (Charge Define (type_size UintType))) (with_cap d x v z)) (sym is.1)
             (charged_end _ (size_of (UintV is.0)) (type_size UintType) d _ (omega arith) (record { values = es; is = refl; constants = are; kept = grown W A d valid new done form own _ (ledger_new x (Some e) (own tt) (Some is.0) low z m) (put_there z.fungibles (place c.principal x) (no_tokens (Some is.0))) }))
     step name (NonFungibleForm t) span _ own fit ends rules s n =
         let form : Form = record { name = name; kind = NonFungibleForm t; span = span } in
@@ -256,8 +257,8 @@ module _ (costs : CostTable) (W : Deployed) (A : AreDistinct W) (ks : List Known
         charged_end _ 0 0 d s (omega arith) (record { values = es; is = refl; constants = are; kept = grown W A d valid new done form own s n tt })
     step name (ExpressionForm e) span _ own fit (part {f = f} t ends) rules s n =
         let form : Form = record { name = name; kind = ExpressionForm e; span = span } in
-        end_more costs _ (plus (f.bound costs) zero_cost) (f.bound costs) _ (and_nothing (f.bound costs))
-        (end_from (deployed_world costs (d ∷ W) stage) (λ v. IsOf v f.type) (IsThrown f.thrown) _ (f.bound costs) zero_cost _ _
+        end_more costs _ (plus (cost_under costs f.bound) zero_cost) (cost_under costs f.bound) _ (and_nothing (cost_under costs f.bound))
+        (end_from (deployed_world costs (d ∷ W) stage) (λ v. IsOf v f.type) (IsThrown f.thrown) _ (cost_under costs f.bound) zero_cost _ _
         (top_sound e f (is_fitted D.context t fit) (low_of f.height (fine_form (form_faults (ExpressionForm e) (f ∷ [])) rules).too_deep_calls) s n)
         (λ v u i m. end_give costs _ d u (record { values = es; is = refl; constants = are; kept = grown W A d valid new done form own u m tt })))
 
@@ -266,15 +267,15 @@ module _ (costs : CostTable) (W : Deployed) (A : AreDistinct W) (ks : List Known
   -- what is charged for the forms that are left
   rest_bound : {D E : Defined} {forms : List Form} → FormsTyped D forms E → Cost5
   rest_bound (no_more e) = zero_cost
-  rest_bound (one_more {form = form} (form_typed fs follows rules is) later) = plus (form_charges form.kind fs costs) (rest_bound later)
+  rest_bound (one_more {form = form} (form_typed fs follows rules is) later) = plus (cost_under costs (form_charges form.kind fs)) (rest_bound later)
 
-  rest_low : {D E : Defined} {forms : List Form} (typed : FormsTyped D forms E) → IsAtMost (plus (D.deploy costs) (rest_bound typed)) (E.deploy costs)
+  rest_low : {D E : Defined} {forms : List Form} (typed : FormsTyped D forms E) → IsAtMost (plus (cost_under costs D.deploy) (rest_bound typed)) (cost_under costs E.deploy)
   unfolding rest_bound
-  rest_low {D = D} (no_more e) = subst (λ (E : Defined). IsAtMost (plus (D.deploy costs) zero_cost) (E.deploy costs)) e (and_nothing (D.deploy costs))
+  rest_low {D = D} (no_more e) = subst (λ (E : Defined). IsAtMost (plus (cost_under costs D.deploy) zero_cost) (cost_under costs E.deploy)) e (and_nothing (cost_under costs D.deploy))
   rest_low {D = D} {E = E} (one_more {E = G} {form = form} (form_typed fs follows rules is) later) =
-      at_most (plus (D.deploy costs) (plus (form_charges form.kind fs costs) (rest_bound later))) (plus (plus (D.deploy costs) (form_charges form.kind fs costs)) (rest_bound later)) (E.deploy costs)
-      (grouped (D.deploy costs) (form_charges form.kind fs costs) (rest_bound later))
-      (subst (λ (G : Defined). IsAtMost (plus (G.deploy costs) (rest_bound later)) (E.deploy costs)) (sym is) (rest_low later))
+      at_most (plus (cost_under costs D.deploy) (plus (cost_under costs (form_charges form.kind fs)) (rest_bound later))) (plus (plus (cost_under costs D.deploy) (cost_under costs (form_charges form.kind fs))) (rest_bound later)) (cost_under costs E.deploy)
+      (grouped (cost_under costs D.deploy) (cost_under costs (form_charges form.kind fs)) (rest_bound later))
+      (subst (λ (G : Defined). IsAtMost (plus (cost_under costs G.deploy) (rest_bound later)) (cost_under costs E.deploy)) (sym is) (rest_low later))
 
   its_behind : (done : List Form) (form : Form) → AreItsForms c done → (IsDefinition form.kind → IsDefining c form) → KindFits form.kind → AreItsForms c (done ++ form ∷ [])
   its_behind [] form h own fit = (own, fit, tt)
@@ -291,16 +292,16 @@ module _ (costs : CostTable) (W : Deployed) (A : AreDistinct W) (ks : List Known
         kept = subst (λ fs. Kept (with_values c es ∷ W) (Behind c.principal fs) s) (sym (append-nil done) ∙ same) n;
       })
   all_sound order E (form ∷ forms) done D (one_more {E = G} (form_typed fs follows rules is) later) same its own before es are s n =
-      end_then costs (IsDone W c (done ++ form ∷ []) (defined_after D form fs)) (IsDone W c order E) (form_charges form.kind fs costs) (rest_bound later) _ _
+      end_then costs (IsDone W c (done ++ form ∷ []) (defined_after D form fs)) (IsDone W c order E) (cost_under costs (form_charges form.kind fs)) (rest_bound later) _ _
       (step done D its before es are form.name form.kind form.span fs own.0 own.1 follows rules s n)
       (λ b t q. subst (λ b. IsSoundDeployment costs (IsDone W c order E) (rest_bound later) (all_defined W F forms b t)) (sym q.is)
       (all_sound order E forms (done ++ form ∷ []) G later (append_assoc done (form ∷ []) forms ∙ same) (its_behind done form its own.0 own.1) own.2 (behind done before (form_typed fs follows rules is)) q.values (subst (λ (G : Defined). AreBound G.context.constants q.values) is q.constants) t q.kept))
 
   pub deployment_sound : (order : List Form) → in_order c.forms ≡ Some order → AreItsForms c order → (E : Defined) → FormsTyped (nothing_defined ks c.principal c.source_length) order E → (s : State) → Kept W Whole s →
-      IsSoundDeployment costs (IsDone W c order E) (E.deploy costs) (deployment W F (with_values c []) s)
+      IsSoundDeployment costs (IsDone W c order E) (cost_under costs E.deploy) (deployment W F (with_values c []) s)
   unfolding deployment
   deployment_sound order is own E typed s n =
-      end_more costs (IsDone W c order E) (plus (charge Deploy c.source_length costs) (rest_bound typed)) (E.deploy costs) _ (rest_low typed)
+      end_more costs (IsDone W c order E) (plus (cost_under costs (Charge Deploy c.source_length)) (rest_bound typed)) (cost_under costs E.deploy) _ (rest_low typed)
       (end_charged costs (IsDone W c order E) Deploy c.source_length (rest_bound typed) _
       (subst (λ o. IsSoundDeployment costs (IsDone W c order E) (rest_bound typed) (with_known o (λ fs. all_defined W F fs (with_values c [])) s)) (sym is)
       (all_sound order E order [] (nothing_defined ks c.principal c.source_length) typed refl tt own (no_more refl) [] tt s (kept_front W A (with_values c []) valid new s n))))
@@ -309,7 +310,7 @@ pub deployment_is_sound : (costs : CostTable) (W : Deployed) → AreDistinct W �
     (c : Contract) → c.constants ≡ [] → IsPrincipal c.principal → contract_at c.principal W ≡ None →
     (order : List Form) → in_order c.forms ≡ Some order → AreItsForms c order → (E : Defined) → FormsTyped (nothing_defined ks c.principal c.source_length) order E →
     (F : Frame) → F.contract ≡ c.principal → IsPrincipal F.sender → IsPrincipal F.caller → F.height < 2 ^ 128 → (s : State) → Kept W Whole s →
-    IsSoundDeployment costs (IsDone W c order E) (E.deploy costs) (deployment W F c s)
+    IsSoundDeployment costs (IsDone W c order E) (cost_under costs E.deploy) (deployment W F c s)
 deployment_is_sound costs W A ks known c none valid new order is own E typed F home sender caller height s n =
-    subst (λ (b : Contract). IsSoundDeployment costs (IsDone W c order E) (E.deploy costs) (deployment W F b s)) (λ i. record { principal = c.principal; forms = c.forms; source_length = c.source_length; constants = (sym none) i })
+    subst (λ (b : Contract). IsSoundDeployment costs (IsDone W c order E) (cost_under costs E.deploy) (deployment W F b s)) (λ i. record { principal = c.principal; forms = c.forms; source_length = c.source_length; constants = (sym none) i })
     (deployment_sound costs W A ks known c valid new F home sender caller height order is own E typed s n)

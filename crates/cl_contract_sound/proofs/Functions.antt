@@ -12,6 +12,7 @@ use Rattle.cl_meaning.specs.Scope.{Frame, BoundValues}
 use Rattle.cl_meaning.specs.Meaning.{means}
 use Rattle.cl_meaning.specs.Top.{most_depth, call_from}
 use Rattle.cl_meaning.specs.Kept.{Stage, Whole, Kept}
+use Rattle.cl_rules.specs.Bills.{cost_under}
 use Rattle.cl_rules.specs.Context.{CostTable, Context, Names, Known, Signature, known_at, signature_in}
 use Rattle.cl_rules.specs.Verdicts.{Found}
 use Rattle.cl_rules.specs.FormRules.{may_answer}
@@ -53,7 +54,7 @@ is_world costs W stage A = record {
 }
 
 called_sound : (costs : CostTable) (W : Deployed) (stage : Stage) → AreDistinct W → (G : Context) (p : Principal) → G.principal ≡ p → (g : Signature) (fn : Function) → IsServed (deployed_world costs W stage) p g fn → (F : Frame) → F.contract ≡ p → IsPrincipal F.contract → IsPrincipal F.sender → IsPrincipal F.caller → F.height < 2 ^ 128 → (vs : List Val) → AreOf vs (types_of_params g) → (s : State) → Kept W stage s →
-    IsSound (deployed_world costs W stage) (λ v. IsOf v g.returns) NoThrow (g.bound costs) (call_from W F fn vs s)
+    IsSound (deployed_world costs W stage) (λ v. IsOf v g.returns) NoThrow (cost_under costs g.bound) (call_from W F fn vs s)
 unfolding call_from
 called_sound costs W stage A G p at g fn served F home contract sender caller height vs i s n =
     (each_depth (deployed_world costs W stage) (is_world costs W stage A) most_depth).1.each G g fn (subst (λ q. IsServed (deployed_world costs W stage) q g fn) (sym at) served) F

@@ -9,6 +9,7 @@ use Rattle.cl_meaning.specs.Answers.{Outcome, Given, Thrown, Aborted, Wrong, Dee
 use Rattle.cl_meaning.specs.Deployed.{Contract, Deployed}
 use Rattle.cl_meaning.specs.Deploying.{forms_by, forms_at, deployment}
 use Rattle.cl_meaning.specs.Scope.{Frame}
+use Rattle.cl_rules.specs.Bills.{cost_under}
 use Rattle.cl_rules.specs.Context.{CostTable, Known, known_at}
 use Rattle.cl_rules.specs.Acceptance.{Accepted, known_of}
 use Rattle.cl_contract_sound.specs.Nodes.{IsNode}
@@ -28,7 +29,7 @@ end_less P Q Deeper s h k = absurd k
 -- what the deployment of an accepted text leaves
 pub text_is_done : (costs : CostTable) (W : Deployed) (ks : List Known) (s : State) → IsNode costs W ks s → (principal : Principal) → IsPrincipal principal → known_at principal ks ≡ None → (text : List ℕ) (accepted : Accepted ks principal costs text) → (table : CostTable) →
     (F : Frame) → F.contract ≡ principal → IsPrincipal F.sender → IsPrincipal F.caller → F.height < 2 ^ 128 →
-    IsSoundDeployment table (IsDone W (of_text principal text accepted.forms) (forms_at accepted.forms accepted.order) accepted.defined) (accepted.defined.deploy table) (deployment W F (of_text principal text accepted.forms) s)
+    IsSoundDeployment table (IsDone W (of_text principal text accepted.forms) (forms_at accepted.forms accepted.order) accepted.defined) (cost_under table accepted.defined.deploy) (deployment W F (of_text principal text accepted.forms) s)
 text_is_done costs W ks s node principal valid unknown text accepted table F home sender caller height =
     let c : Contract = of_text principal text accepted.forms in
     let o = accepted.typed.is_ordered in
@@ -39,7 +40,7 @@ text_is_done costs W ks s node principal valid unknown text accepted table F hom
 
 pub text_is_sound : (costs : CostTable) (W : Deployed) (ks : List Known) (s : State) → IsNode costs W ks s → (principal : Principal) → IsPrincipal principal → known_at principal ks ≡ None → (text : List ℕ) (accepted : Accepted ks principal costs text) → (table : CostTable) →
     (F : Frame) → F.contract ≡ principal → IsPrincipal F.sender → IsPrincipal F.caller → F.height < 2 ^ 128 →
-    IsSoundDeployment table (λ d t. IsNode costs (d ∷ W) (ks ++ known_of principal (length text) accepted.defined ∷ []) t) (accepted.defined.deploy table) (deployment W F (of_text principal text accepted.forms) s)
+    IsSoundDeployment table (λ d t. IsNode costs (d ∷ W) (ks ++ known_of principal (length text) accepted.defined ∷ []) t) (cost_under table accepted.defined.deploy) (deployment W F (of_text principal text accepted.forms) s)
 text_is_sound costs W ks s node principal valid unknown text accepted table F home sender caller height =
     let c : Contract = of_text principal text accepted.forms in
     let order = forms_at accepted.forms accepted.order in

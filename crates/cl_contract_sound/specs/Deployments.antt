@@ -14,6 +14,7 @@ use Rattle.cl_meaning.specs.Deployed.{Contract, Deployed, contract_at}
 use Rattle.cl_meaning.specs.Deploying.{in_order, deployment}
 use Rattle.cl_meaning.specs.Limits.{cost, Within, Limited, Gave, Threw, AbortedBy, Passed, Lost, limit_on, limited}
 use Rattle.cl_meaning.specs.Scope.{Frame}
+use Rattle.cl_rules.specs.Bills.{cost_under}
 use Rattle.cl_rules.specs.Context.{CostTable, Known, known_at}
 use Rattle.cl_rules.specs.FormRules.{Defined, nothing_defined}
 use Rattle.cl_rules.specs.FormTyping.{FormsTyped}
@@ -61,7 +62,7 @@ DeploymentsAreSound =
     (c : Contract) → c.constants ≡ [] → IsPrincipal c.principal → contract_at c.principal W ≡ None →
     (order : List Form) → in_order c.forms ≡ Some order → AreItsForms c order → (E : Defined) → FormsTyped (nothing_defined ks c.principal c.source_length) order E →
     (F : Frame) → F.contract ≡ c.principal → IsPrincipal F.sender → IsPrincipal F.caller → F.height < 2 ^ 128 → (s : State) → Kept W Whole s →
-    IsSoundDeployment costs (IsDone W c order E) (E.deploy costs) (deployment W F c s)
+    IsSoundDeployment costs (IsDone W c order E) (cost_under costs E.deploy) (deployment W F c s)
 
 -- ---- texts
 
@@ -75,7 +76,7 @@ TextsAreSound =
     (costs : CostTable) (W : Deployed) (ks : List Known) (s : State) → IsNode costs W ks s →
     (principal : Principal) → IsPrincipal principal → known_at principal ks ≡ None → (text : List ℕ) (accepted : Accepted ks principal costs text) → (table : CostTable) →
     (F : Frame) → F.contract ≡ principal → IsPrincipal F.sender → IsPrincipal F.caller → F.height < 2 ^ 128 →
-    IsSoundDeployment table (λ d t. IsNode costs (d ∷ W) (ks ++ known_of principal (length text) accepted.defined ∷ []) t) (accepted.defined.deploy table) (deployment W F (of_text principal text accepted.forms) s)
+    IsSoundDeployment table (λ d t. IsNode costs (d ∷ W) (ks ++ known_of principal (length text) accepted.defined ∷ []) t) (cost_under table accepted.defined.deploy) (deployment W F (of_text principal text accepted.forms) s)
 
 -- before all deployments there is a node, with STX of these holders
 abbrev pub GenesisIsNode : Type 0

@@ -15,6 +15,7 @@ use Rattle.cl_meaning.specs.Answers.{Answer}
 use Rattle.cl_meaning.specs.Limits.{cost, Within, Limited, Gave, Threw, AbortedBy, Passed, Lost, limit_on, limited}
 use Rattle.cl_meaning.specs.Top.{call_from}
 use Rattle.cl_meaning.specs.Kept.{Whole, Kept}
+use Rattle.cl_rules.specs.Bills.{cost_under}
 use Rattle.cl_rules.specs.Context.{CostTable, Context, Names, Known, Signature, known_at, signature_in}
 use Rattle.cl_rules.specs.Verdicts.{Found}
 use Rattle.cl_rules.specs.Typing.{Typed}
@@ -45,7 +46,7 @@ pub record IsSoundFunction (costs : CostTable) (W : Deployed) (p : Principal) (x
   pub answers : Answers g.access g.returns
   pub sound :
       (F : Frame) → F.contract ≡ p → IsPrincipal F.sender → IsPrincipal F.caller → F.height < 2 ^ 128 → (vs : List Val) → AreOf vs (types_of_params g) → (s : State) → Kept W Whole s →
-      IsSound (deployed_world costs W Whole) (λ v. IsOf v g.returns) NoThrow (g.bound costs) (call_from W F function vs s)
+      IsSound (deployed_world costs W Whole) (λ v. IsOf v g.returns) NoThrow (cost_under costs g.bound) (call_from W F function vs s)
 
 -- each function of each deployed contract, under each table, also another than that under which the texts were accepted
 abbrev pub FunctionsAreSound : Type 0

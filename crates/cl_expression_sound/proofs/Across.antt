@@ -14,7 +14,8 @@ use Rattle.cl_meaning.specs.Scope.{called}
 use Rattle.cl_meaning.specs.Calls.{target_of, other_contract, enter_there, contract_call_form}
 use Rattle.cl_rules.specs.Faults.{type_rules, sound_shape}
 use Rattle.cl_rules.specs.NativeTypes.{Ruled}
-use Rattle.cl_rules.specs.Context.{Signature, Known, signature_in, if_callable, target_at, charge, both}
+use Rattle.cl_rules.specs.Bills.{Charge, Both, cost_under}
+use Rattle.cl_rules.specs.Context.{Signature, Known, signature_in, if_callable, target_at}
 use Rattle.cl_rules.specs.Verdicts.{Found, types_of, highest, sum_of}
 use Rattle.cl_rules.specs.Shapes.{Shape, parts as all_parts, First, There, NoName, NoSuch, Absent, there_or_not, first_named, is_no_name, is_no_such, is_miscounted, at_first}
 use Rattle.cl_rules.specs.CallShapes.{call_row, call_verdict, contract_literal, target_or_not, function_of, is_unlike_function, length_at, contract_call_shape}
@@ -45,18 +46,18 @@ shape_at target function es rest plan = record {
     bad_binding = is_no_name function;
   };
   plan = (plan rest).plan;
-  verdict = at_first function (λ f. call_verdict f (both (charge ContractCallCost (length_at target)) f.bound));
+  verdict = at_first function (λ f. call_verdict f (Both (Charge ContractCallCost (length_at target)) f.bound));
 }
 
 module _ (K : World) (N : Stands K) where
   across_each : (c : Tree) (p : Principal) → target_of (here K N) c ≡ Some p → (x : List ℕ) (at : Span) (es : List Tree) (k : Known) → target_at N.context p ≡ Some k → (g : Signature) → if_callable (signature_in x k.functions) ≡ Some g →
-      (fs : List Found) → Follows N.context (all_parts N.names es) fs → type_rules (call_verdict g (both (charge ContractCallCost k.length) g.bound) fs).faults ≡ [] → (call_verdict g (both (charge ContractCallCost k.length) g.bound) fs).found.height ≤ suc N.depth →
-      (s : State) → IsKept K s → IsAsFound K (call_verdict g (both (charge ContractCallCost k.length) g.bound) fs).found (contract_call_form N.take N.enter (here K N) (c ∷ LeafAt (Named x) at ∷ es) s)
+      (fs : List Found) → Follows N.context (all_parts N.names es) fs → type_rules (call_verdict g (Both (Charge ContractCallCost k.length) g.bound) fs).faults ≡ [] → (call_verdict g (Both (Charge ContractCallCost k.length) g.bound) fs).found.height ≤ suc N.depth →
+      (s : State) → IsKept K s → IsAsFound K (call_verdict g (Both (Charge ContractCallCost k.length) g.bound) fs).found (contract_call_form N.take N.enter (here K N) (c ∷ LeafAt (Named x) at ∷ es) s)
   unfolding contract_call_form
   across_each c p is x at es k told g callable_told fs follows types low s n =
       let a = N.world.across N.context N.good p k told x g callable_told in
       let r : Ruled = call_row g (types_of fs) in
-      let own = both (charge ContractCallCost k.length) g.bound in
+      let own = Both (Charge ContractCallCost k.length) g.bound in
       let low_g : g.height ≤ N.depth = omega (arith, low) in
       let low_fs : highest fs ≤ N.depth = omega (arith, low) in
       let there : option_and_then (other_contract (here K N)) (target_of (here K N) c) ≡ Some a.contract =
@@ -66,12 +67,12 @@ module _ (K : World) (N : Stands K) where
       record { home = sym a.home; contract = a.valid; sender = N.framed.sender; caller = N.framed.contract; height = N.framed.height } in
       strict_sound K N es fs r g.height own _ follows types low_fs
       (λ vs u i m.
-      let fit = params_fit g (types_of fs) vs (ruling_fine r g.height (both own (sum_of fs)) fs types) i in
-      sound_known K (own K.costs) _ a.contract _ u there
-      (subst (λ l. IsSound K (λ v. IsOf v r.type) (MayThrow fs r.throws) (plus (charge ContractCallCost l K.costs) (g.bound K.costs)) (enter_there N.enter (here K N) x vs a.contract u)) a.length
-      (sound_charged K ContractCallCost a.contract.source_length (g.bound K.costs) _
-      (sound_known K (g.bound K.costs) _ a.function _ u a.callable_there
-      (sound_less K (g.bound K.costs) _ (λ v h. h) (λ v h. absurd h) (N.enters.each a.inner g a.function a.served (called a.contract.principal N.frame) framed N.bound low_g vs fit u m)))))) s n
+      let fit = params_fit g (types_of fs) vs (ruling_fine r g.height (Both own (sum_of fs)) fs types) i in
+      sound_known K (cost_under K.costs own) _ a.contract _ u there
+      (subst (λ l. IsSound K (λ v. IsOf v r.type) (MayThrow fs r.throws) (plus (cost_under K.costs (Charge ContractCallCost l)) (cost_under K.costs g.bound)) (enter_there N.enter (here K N) x vs a.contract u)) a.length
+      (sound_charged K ContractCallCost a.contract.source_length (cost_under K.costs g.bound) _
+      (sound_known K (cost_under K.costs g.bound) _ a.function _ u a.callable_there
+      (sound_less K (cost_under K.costs g.bound) _ (λ v h. h) (λ v h. absurd h) (N.enters.each a.inner g a.function a.served (called a.contract.principal N.frame) framed N.bound low_g vs fit u m)))))) s n
 
   function_case : (c : Tree) (p : Principal) → target_of (here K N) c ≡ Some p → (x : List ℕ) (at : Span) (es : List Tree) (k : Known) → target_at N.context p ≡ Some k → (o : Option Signature) → if_callable (signature_in x k.functions) ≡ o →
       IsSoundShape K N (shape_at (There k) (there_or_not o) (c ∷ LeafAt (Named x) at ∷ es) es (λ es. record { faults = sound_shape; plan = all_parts N.names es; verdict = at_first {A = Signature} Absent (λ g. call_verdict g g.bound) })) (contract_call_form N.take N.enter (here K N) (c ∷ LeafAt (Named x) at ∷ es))

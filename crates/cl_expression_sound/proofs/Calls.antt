@@ -22,7 +22,8 @@ use Rattle.cl_meaning.specs.Scope.{Frame, BoundValues as Values, Take}
 use Rattle.cl_meaning.specs.Calls.{call_form, closing, bound_to, body_in, function_form}
 use Rattle.cl_rules.specs.Faults.{type_rules, form_rules}
 use Rattle.cl_rules.specs.NativeTypes.{Ruled}
-use Rattle.cl_rules.specs.Context.{Names, Context, Signature, signature_in, charge, both}
+use Rattle.cl_rules.specs.Bills.{Charge, Both, cost_under}
+use Rattle.cl_rules.specs.Context.{Names, Context, Signature, signature_in}
 use Rattle.cl_rules.specs.Verdicts.{Found, types_of, highest, sum_of, thrown_after, and_throws}
 use Rattle.cl_rules.specs.Shapes.{parts as all_parts, Admitted}
 use Rattle.cl_rules.specs.ControlShapes.{binds}
@@ -70,9 +71,9 @@ module _ (K : World) (N : Stands K) where
       let low_fs : highest fs ≤ N.depth = omega (arith, low) in
       strict_sound K N es fs r g.height g.bound _ follows types low_fs
       (λ vs u i m.
-      let fit = params_fit g (types_of fs) vs (ruling_fine r g.height (both g.bound (sum_of fs)) fs types) i in
-      sound_known K (g.bound K.costs) _ f.0.function _ u f.1
-      (sound_less K (g.bound K.costs) _ (λ v k. k) (λ v k. absurd k) (N.enters.each N.context g f.0.function f.0.served N.frame N.framed N.bound low_g vs fit u m))) s n
+      let fit = params_fit g (types_of fs) vs (ruling_fine r g.height (Both g.bound (sum_of fs)) fs types) i in
+      sound_known K (cost_under K.costs g.bound) _ f.0.function _ u f.1
+      (sound_less K (cost_under K.costs g.bound) _ (λ v k. k) (λ v k. absurd k) (N.enters.each N.context g f.0.function f.0.served N.frame N.framed N.bound low_g vs fit u m))) s n
 
   -- a name that is no function's breaks a rule
   pub call_sound : (x : List ℕ) (es : List Tree) → IsSoundShape K N (call_shape (signature_in x N.context.functions) N.names es) (call_form x N.take N.enter (here K N) es)
@@ -137,7 +138,7 @@ opened_form K take F B fn vs s P c h = h
 
 module _ (K : World) (take : Take) (depth : ℕ) (T : TakesSound K take depth) where
   -- the parameters are bound, each charged by its size
-  bound_sound : {P U : Val → Type 0} (body : Values → State → Answer Val) (c : Cost5) (s : State) (ps : Names) (vs : List Val) (done : Names) (bound : Values) → AreBound done bound → AreOf vs (map (λ (p : List ℕ × PlainType). p.1) ps) → ((E : Values) → AreBound (done ++ ps) E → IsSound K P U c (body E s)) → IsSound K P U (plus (binds (map (λ (p : List ℕ × PlainType). p.1) ps) K.costs) c) (bound_to body bound ps vs s)
+  bound_sound : {P U : Val → Type 0} (body : Values → State → Answer Val) (c : Cost5) (s : State) (ps : Names) (vs : List Val) (done : Names) (bound : Values) → AreBound done bound → AreOf vs (map (λ (p : List ℕ × PlainType). p.1) ps) → ((E : Values) → AreBound (done ++ ps) E → IsSound K P U c (body E s)) → IsSound K P U (plus (cost_under K.costs (binds (map (λ (p : List ℕ × PlainType). p.1) ps))) c) (bound_to body bound ps vs s)
   unfolding bound_to
   bound_sound body c s [] [] done bound are i k = sound_more K c (plus zero_cost c) _ (before c) (k bound (subst (λ B. AreBound B bound) (sym (append-nil done)) are))
     where
@@ -146,9 +147,9 @@ module _ (K : World) (take : Take) (depth : ℕ) (T : TakesSound K take depth) w
   bound_sound body c s [] (v ∷ vs) done bound are i k = absurd i
   bound_sound body c s (p ∷ ps) [] done bound are i k = absurd i
   bound_sound body c s (p ∷ ps) (v ∷ vs) done bound are i k =
-      let later : Cost5 = binds (map (λ (p : List ℕ × PlainType). p.1) ps) K.costs in
-      let one : Cost5 = charge Bind (type_size p.1) K.costs in
-      let less : Cost5 = charge Bind (size_of v) K.costs in
+      let later : Cost5 = cost_under K.costs (binds (map (λ (p : List ℕ × PlainType). p.1) ps)) in
+      let one : Cost5 = cost_under K.costs (Charge Bind (type_size p.1)) in
+      let less : Cost5 = cost_under K.costs (Charge Bind (size_of v)) in
       sound_more K (plus less (plus later c)) (plus (plus one later) c) _
       (at_most (plus less (plus later c)) (plus one (plus later c)) (plus (plus one later) c) (more_of_both less one (plus later c) (plus later c) (less_charged K.costs Bind (size_of v) (type_size p.1) (no_larger v p.1 i.0)) (same_cost (plus later c))) (grouped one later c))
       (sound_charged K Bind (size_of v) (plus later c) _
@@ -166,29 +167,29 @@ module _ (K : World) (take : Take) (depth : ℕ) (T : TakesSound K take depth) w
       by (is_err w is j) = subst (λ v. IsSound K (λ v. IsOf v (ResponseType t e)) U zero_cost (closing Public before v after)) (sym is) (sound_stop K (λ v. IsOf v (ResponseType t e)) U zero_cost (Given (ResponseV false w)) before (subst (λ v. IsOf v (ResponseType t e)) is i) n)
   closing_sound Public t before after v h i n m = absurd cc
 
-  body_sound : (G : Context) (fn : Function) (f : Found) → IsGood K G → Fitted G fn.params fn.body f → form_rules (function_faults fn.access f) ≡ [] → f.height ≤ depth → (F : Frame) → IsFrame G F → (E B : Values) → AreBound fn.params E → (s : State) → IsKept K s → IsSound K (λ v. IsOf v (unwrap_or (return_of f).type NoType)) NoThrow (f.bound K.costs) (body_in take (scope K F B) fn E s)
+  body_sound : (G : Context) (fn : Function) (f : Found) → IsGood K G → Fitted G fn.params fn.body f → form_rules (function_faults fn.access f) ≡ [] → f.height ≤ depth → (F : Frame) → IsFrame G F → (E B : Values) → AreBound fn.params E → (s : State) → IsKept K s → IsSound K (λ v. IsOf v (unwrap_or (return_of f).type NoType)) NoThrow (cost_under K.costs f.bound) (body_in take (scope K F B) fn E s)
   body_sound G fn f good fit rules low F framed E B are s n =
       let r = is_return fn.access f rules in
       let t : PlainType = unwrap_or (return_of f).type NoType in
-      sound_last K (f.bound K.costs) _ _
-      (sound_returning K NoThrow (f.bound K.costs) _ r.thrown
-      (sound_less K (f.bound K.costs) _ r.given (λ v k. k) (T.each G good F framed fn.params E are fn.body f fit low s n)))
+      sound_last K (cost_under K.costs f.bound) _ _
+      (sound_returning K NoThrow (cost_under K.costs f.bound) _ r.thrown
+      (sound_less K (cost_under K.costs f.bound) _ r.given (λ v k. k) (T.each G good F framed fn.params E are fn.body f fit low s n)))
       (λ v u i m. closing_sound fn.access t s u v r.answers i n m)
 
-  pub function_sound : (G : Context) (g : Signature) (fn : Function) → IsServed K G.principal g fn → (F : Frame) → IsFrame G F → (B : Values) → g.height ≤ suc depth → (vs : List Val) → AreOf vs (types_of_params g) → (s : State) → IsKept K s → IsSound K (λ v. IsOf v g.returns) NoThrow (g.bound K.costs) (function_form take (scope K F B) fn vs s)
+  pub function_sound : (G : Context) (g : Signature) (fn : Function) → IsServed K G.principal g fn → (F : Frame) → IsFrame G F → (B : Values) → g.height ≤ suc depth → (vs : List Val) → AreOf vs (types_of_params g) → (s : State) → IsKept K s → IsSound K (λ v. IsOf v g.returns) NoThrow (cost_under K.costs g.bound) (function_form take (scope K F B) fn vs s)
   function_sound G g fn served F framed B low vs i s n =
-      subst (λ (g : Signature). g.height ≤ suc depth → AreOf vs (types_of_params g) → IsSound K (λ v. IsOf v g.returns) NoThrow (g.bound K.costs) (function_form take (scope K F B) fn vs s)) served.signature by low i
+      subst (λ (g : Signature). g.height ≤ suc depth → AreOf vs (types_of_params g) → IsSound K (λ v. IsOf v g.returns) NoThrow (cost_under K.costs g.bound) (function_form take (scope K F B) fn vs s)) served.signature by low i
     where
       inside : IsFrame served.inner F
       inside = record { home = framed.home ∙ sym served.home; contract = framed.contract; sender = framed.sender; caller = framed.caller; height = framed.height }
 
-      called_sound : served.found.height ≤ depth → AreOf vs (map (λ (p : List ℕ × PlainType). p.1) fn.params) → IsSound K (λ v. IsOf v (unwrap_or (return_of served.found).type NoType)) NoThrow (application fn.params served.found K.costs) (charged Call (length vs) (bound_to (body_in take (scope K F B) fn) [] fn.params vs s))
+      called_sound : served.found.height ≤ depth → AreOf vs (map (λ (p : List ℕ × PlainType). p.1) fn.params) → IsSound K (λ v. IsOf v (unwrap_or (return_of served.found).type NoType)) NoThrow (cost_under K.costs (application fn.params served.found)) (charged Call (length vs) (bound_to (body_in take (scope K F B) fn) [] fn.params vs s))
       called_sound low i =
-          subst (λ m. IsSound K (λ v. IsOf v (unwrap_or (return_of served.found).type NoType)) NoThrow (plus (charge Call m K.costs) (plus (binds (map (λ (p : List ℕ × PlainType). p.1) fn.params) K.costs) (served.found.bound K.costs))) (charged Call (length vs) (bound_to (body_in take (scope K F B) fn) [] fn.params vs s)))
+          subst (λ m. IsSound K (λ v. IsOf v (unwrap_or (return_of served.found).type NoType)) NoThrow (plus (cost_under K.costs (Charge Call m)) (plus (cost_under K.costs (binds (map (λ (p : List ℕ × PlainType). p.1) fn.params))) (cost_under K.costs served.found.bound))) (charged Call (length vs) (bound_to (body_in take (scope K F B) fn) [] fn.params vs s)))
           (as_many (map (λ (p : List ℕ × PlainType). p.1) fn.params) vs i ∙ length-map fn.params (λ (p : List ℕ × PlainType). p.1))
           (sound_charged K Call (length vs) _ _
-          (bound_sound (body_in take (scope K F B) fn) (served.found.bound K.costs) s fn.params vs [] [] tt i
+          (bound_sound (body_in take (scope K F B) fn) (cost_under K.costs served.found.bound) s fn.params vs [] [] tt i
           (λ E are. body_sound served.inner fn served.found served.good served.typed served.sound low F inside E B are s n)))
 
-      by : suc served.found.height ≤ suc depth → AreOf vs (map (λ (p : List ℕ × PlainType). p.1) fn.params) → IsSound K (λ v. IsOf v (unwrap_or (return_of served.found).type NoType)) NoThrow (application fn.params served.found K.costs) (function_form take (scope K F B) fn vs s)
-      by low i = opened_form K take F B fn vs s (λ v. IsOf v (unwrap_or (return_of served.found).type NoType)) (application fn.params served.found K.costs) (called_sound (omega (arith, low)) i)
+      by : suc served.found.height ≤ suc depth → AreOf vs (map (λ (p : List ℕ × PlainType). p.1) fn.params) → IsSound K (λ v. IsOf v (unwrap_or (return_of served.found).type NoType)) NoThrow (cost_under K.costs (application fn.params served.found)) (function_form take (scope K F B) fn vs s)
+      by low i = opened_form K take F B fn vs s (λ v. IsOf v (unwrap_or (return_of served.found).type NoType)) (cost_under K.costs (application fn.params served.found)) (called_sound (omega (arith, low)) i)

@@ -23,7 +23,8 @@ use Rattle.cl_meaning.specs.Scope.{sizes}
 use Rattle.cl_meaning.specs.Data.{var_get_form, var_set_form, only_if, entry_at, map_get_form, set_entry, insert_entry, key_and_value, write_form, map_set_form, map_insert_form, map_delete_form}
 use Rattle.cl_rules.specs.Faults.{type_rules}
 use Rattle.cl_rules.specs.NativeTypes.{Ruled, fine, made, native_type}
-use Rattle.cl_rules.specs.Context.{named_in, charge, both}
+use Rattle.cl_rules.specs.Bills.{Charge, Both, cost_under}
+use Rattle.cl_rules.specs.Context.{named_in}
 use Rattle.cl_rules.specs.Verdicts.{Found, Verdict, types_of, sizes_of, highest, sum_of}
 use Rattle.cl_rules.specs.Shapes.{parts as all_parts, Admitted, are_wanted, stated, there_or_not, is_no_such, named_faults, named_shape}
 use Rattle.cl_rules.specs.DataShapes.{var_get, var_set, map_get, map_put, map_delete}
@@ -83,9 +84,9 @@ module _ (K : World) (N : Stands K) where
   unfolding var_get_form
   read_each x at t h _ ends types s n =
       let v = variable_there x t h s n in
-      concluded_sound K N (fine t) 0 (both (charge ReadVar (type_size t)) (sum_of [])) [] _ types
-      (sound_known K (plus (charge ReadVar (type_size t) K.costs) zero_cost) _ v.value _ s v.there
-      (sound_more K (charge ReadVar (type_size t) K.costs) _ _ (alone (charge ReadVar (type_size t) K.costs))
+      concluded_sound K N (fine t) 0 (Both (Charge ReadVar (type_size t)) (sum_of [])) [] _ types
+      (sound_known K (plus (cost_under K.costs (Charge ReadVar (type_size t))) zero_cost) _ v.value _ s v.there
+      (sound_more K (cost_under K.costs (Charge ReadVar (type_size t))) _ _ (alone (cost_under K.costs (Charge ReadVar (type_size t))))
       (charged_low K ReadVar (size_of v.value) (type_size t) _ (no_larger v.value t v.typed) (sound_stop K (λ v. IsOf v t) (MayThrow [] None) zero_cost (Given v.value) s v.typed n))))
 
   -- where the name isn't a variable's, the shape breaks a rule
@@ -111,11 +112,11 @@ module _ (K : World) (N : Stands K) where
   unfolding var_set_form
   write_each x at t h e _ (part {f = f} te ends) types low s n =
       let r : Ruled = stated (Admitted t ∷ []) (fine BoolType) (f.type ∷ []) in
-      let own = charge WriteVar (sizes_of (f.type ∷ [])) in
+      let own = Charge WriteVar (sizes_of (f.type ∷ [])) in
       let low_f : f.height ≤ N.depth = omega (arith, low) in
       single_sound K N e f r 0 own _ te types low_f
       (λ v u i m.
-      let wanted = stated_values (Admitted t ∷ []) (fine BoolType) (f.type ∷ []) (v ∷ []) (ruling_fine r 0 (both own (sum_of (f ∷ []))) (f ∷ []) types) (i, tt) in
+      let wanted = stated_values (Admitted t ∷ []) (fine BoolType) (f.type ∷ []) (v ∷ []) (ruling_fine r 0 (Both own (sum_of (f ∷ []))) (f ∷ []) types) (i, tt) in
       let old = variable_there x t h u m in
       charged_low K WriteVar (size_of v) (sizes_of (f.type ∷ [])) _ (one_low f.type v i)
       (sound_known K zero_cost _ old.value _ u old.there
@@ -154,8 +155,8 @@ module _ (K : World) (N : Stands K) where
   unfolding map_get_form
   get_each m at t h e _ (part {f = f} te ends) types low s n =
       let r : Ruled = stated (Admitted t.0 ∷ []) (made (OptionalType t.1)) (f.type ∷ []) in
-      let own = charge ReadMap (sizes_of (f.type ∷ []) + type_size (OptionalType t.1)) in
-      let fine_r = ruling_fine r 0 (both own (sum_of (f ∷ []))) (f ∷ []) types in
+      let own = Charge ReadMap (sizes_of (f.type ∷ []) + type_size (OptionalType t.1)) in
+      let fine_r = ruling_fine r 0 (Both own (sum_of (f ∷ []))) (f ∷ []) types in
       let small = (unbroken_kind (are_wanted (Admitted t.0 ∷ []) (f.type ∷ [])) (made (OptionalType t.1)) fine_r).1 in
       let low_f : f.height ≤ N.depth = omega (arith, low) in
       single_sound K N e f r 0 own _ te types low_f
@@ -165,7 +166,7 @@ module _ (K : World) (N : Stands K) where
       let typed : IsOf found (OptionalType t.1) = optional_typed t.1 (entry_at (here K N) m key u) (entry_typed m t h key wanted.0 u k) small in
       let low_key : size_of key ≤ sizes_of (f.type ∷ []) = one_low f.type key i in
       let low_found : size_of found ≤ type_size (OptionalType t.1) = no_larger found (OptionalType t.1) typed in
-      only_sound (own K.costs) _ _ u (map_there m t h)
+      only_sound (cost_under K.costs own) _ _ u (map_there m t h)
       (charged_low K ReadMap (size_of key + size_of found) (sizes_of (f.type ∷ []) + type_size (OptionalType t.1)) _ (omega (arith, low_key, low_found))
       (computed_sound K (OptionalType t.1) (Gives found) u typed k))) s n
 
@@ -198,11 +199,11 @@ module _ (K : World) (N : Stands K) where
   put_each m t h act acts es fs follows types low s n =
       let ws = Admitted t.0 ∷ Admitted t.1 ∷ [] in
       let r : Ruled = stated ws (fine BoolType) (types_of fs) in
-      let own = charge WriteMap (sizes_of (types_of fs)) in
+      let own = Charge WriteMap (sizes_of (types_of fs)) in
       let low_fs : highest fs ≤ N.depth = omega (arith, low) in
       strict_sound K N es fs r 0 own _ follows types low_fs
       (λ vs u i k.
-      let wanted = stated_values ws (fine BoolType) (types_of fs) vs (ruling_fine r 0 (both own (sum_of fs)) fs types) i in
+      let wanted = stated_values ws (fine BoolType) (types_of fs) vs (ruling_fine r 0 (Both own (sum_of fs)) fs types) i in
       charged_low K WriteMap (sizes vs) (sizes_of (types_of fs)) _ (sizes_within (types_of fs) vs i)
       (only_sound zero_cost _ _ u (map_there m t h) (key_value_sound m t act (acts (MayThrow fs None)) vs u wanted k))) s n
 
@@ -240,7 +241,7 @@ module _ (K : World) (N : Stands K) where
   unfolding map_delete_form
   delete_each m at t h e _ (part {f = f} te ends) types low s n =
       let r : Ruled = stated (Admitted t.0 ∷ []) (fine BoolType) (f.type ∷ []) in
-      let own = charge WriteMap (sizes_of (f.type ∷ [])) in
+      let own = Charge WriteMap (sizes_of (f.type ∷ [])) in
       let low_f : f.height ≤ N.depth = omega (arith, low) in
       single_sound K N e f r 0 own _ te types low_f
       (λ key u i k.

@@ -22,7 +22,8 @@ use Rattle.cl_meaning.specs.Calls.{and_truth, truths, truth_value, native_form, 
 use Rattle.cl_meaning.specs.Meaning.{head_form, operator, node, means, applied}
 use Rattle.cl_meaning.proofs.Equations.{means_step, applied_step}
 use Rattle.cl_rules.specs.Faults.{type_rules, sound_shape}
-use Rattle.cl_rules.specs.Context.{Context, Names, Signature, signature_in, charge}
+use Rattle.cl_rules.specs.Bills.{Charge, cost_under}
+use Rattle.cl_rules.specs.Context.{Context, Names, Signature, signature_in}
 use Rattle.cl_rules.specs.Verdicts.{Found, number_at}
 use Rattle.cl_rules.specs.CallShapes.{by_name_row}
 use Rattle.cl_rules.specs.Table.{head_shape, operator_shape, shape}
@@ -63,7 +64,7 @@ all_truths op start (t ∷ ts) (v ∷ vs) h i =
     (op b.0 rest.0, ap (λ v. truths op start (v ∷ vs)) b.1 ∙ ap (and_truth op b.0) rest.1)
 
 module _ (K : World) (W : IsWorld K) where
-  truths_sound : (op : Bool → Bool → Bool) (start : Bool) (ts : List PlainType) (vs : List Val) (s : State) → list_all is_bool ts ≡ true → AreOf vs ts → IsKept K s → IsSound K (λ v. IsOf v BoolType) NoThrow (charge Control (length ts) K.costs) (charged Control (length vs) (truth_value (truths op start vs) s))
+  truths_sound : (op : Bool → Bool → Bool) (start : Bool) (ts : List PlainType) (vs : List Val) (s : State) → list_all is_bool ts ≡ true → AreOf vs ts → IsKept K s → IsSound K (λ v. IsOf v BoolType) NoThrow (cost_under K.costs (Charge Control (length ts))) (charged Control (length vs) (truth_value (truths op start vs) s))
   truths_sound op start ts vs s h i n =
       let b = all_truths op start ts vs h i in
       let same = as_many ts vs i in
@@ -125,7 +126,7 @@ module _ (K : World) (N : Stands K) where
 module _ (K : World) (W : IsWorld K) where
   -- ---- natives by name
 
-  by_name_sound : (head : Head) (name : (row_of head).by_name ≡ true) (ts : List PlainType) (vs : List Val) → takes (row_of head).arity (length ts) ≡ true → AreOf vs ts → type_rules (by_name_row head ts).faults ≡ [] → (s : State) → IsKept K s → IsSound K (λ v. IsOf v (by_name_row head ts).type) NoThrow (charge (row_of head).cost (number_at (row_of head).cost ts) K.costs) (native_form head (row_of head).cost vs s)
+  by_name_sound : (head : Head) (name : (row_of head).by_name ≡ true) (ts : List PlainType) (vs : List Val) → takes (row_of head).arity (length ts) ≡ true → AreOf vs ts → type_rules (by_name_row head ts).faults ≡ [] → (s : State) → IsKept K s → IsSound K (λ v. IsOf v (by_name_row head ts).type) NoThrow (cost_under K.costs (Charge (row_of head).cost (number_at (row_of head).cost ts))) (native_form head (row_of head).cost vs s)
   unfolding native_form
   by_name_sound (OnValues n) name ts vs count i types s k = applied_native_sound K n ts vs s count i types k
   by_name_sound And name ts vs count i types s k = truths_sound K W (λ b c. b && c) true ts vs s (not_false (list_all is_bool ts) (fine_types (by_name_row And ts).faults types).argument_kind) i k
@@ -170,23 +171,23 @@ module _ (K : World) (W : IsWorld K) where
         subst (λ a. IsAsFound K f a) (sym (means_step depth (scope K F E) e s)) (taken_sound (stands depth takes enters G good F framed B E are) e f fit low s n);
   }
 
-  function_applied : (depth : ℕ) → TakesSound K (means depth) depth → (G : Context) (g : Signature) (fn : Function) → IsServed K G.principal g fn → (F : Frame) → IsFrame G F → (E : BoundValues) → g.height ≤ suc depth → (vs : List Val) → AreOf vs (types_of_params g) → (s : State) → IsKept K s → IsSound K (λ v. IsOf v g.returns) NoThrow (g.bound K.costs) (application (means depth) (scope K F E) (OwnFunction fn) vs s)
+  function_applied : (depth : ℕ) → TakesSound K (means depth) depth → (G : Context) (g : Signature) (fn : Function) → IsServed K G.principal g fn → (F : Frame) → IsFrame G F → (E : BoundValues) → g.height ≤ suc depth → (vs : List Val) → AreOf vs (types_of_params g) → (s : State) → IsKept K s → IsSound K (λ v. IsOf v g.returns) NoThrow (cost_under K.costs g.bound) (application (means depth) (scope K F E) (OwnFunction fn) vs s)
   unfolding application
   function_applied depth takes G g fn served F framed E low vs i s n = function_sound K (means depth) depth takes G g fn served F framed E low vs i s n
 
-  native_applied : (depth : ℕ) (row : Row) → row ≡ row_of row.head → row.by_name ≡ true → (at : Span) (F : Frame) (E : BoundValues) (ts : List PlainType) (vs : List Val) → takes row.arity (length ts) ≡ true → AreOf vs ts → type_rules (by_name_row row.head ts).faults ≡ [] → (s : State) → IsKept K s → IsSound K (λ v. IsOf v (by_name_row row.head ts).type) NoThrow (charge row.cost (number_at row.cost ts) K.costs) (application (means depth) (scope K F E) (ByName row at) vs s)
+  native_applied : (depth : ℕ) (row : Row) → row ≡ row_of row.head → row.by_name ≡ true → (at : Span) (F : Frame) (E : BoundValues) (ts : List PlainType) (vs : List Val) → takes row.arity (length ts) ≡ true → AreOf vs ts → type_rules (by_name_row row.head ts).faults ≡ [] → (s : State) → IsKept K s → IsSound K (λ v. IsOf v (by_name_row row.head ts).type) NoThrow (cost_under K.costs (Charge row.cost (number_at row.cost ts))) (application (means depth) (scope K F E) (ByName row at) vs s)
   unfolding application
   native_applied depth row is name at F E ts vs count i types s n =
-      sound_ending K (charge row.cost (number_at row.cost ts) K.costs) at (native_form row.head row.cost vs s)
-      (subst (λ (r : Row). r.by_name ≡ true → takes r.arity (length ts) ≡ true → IsSound K (λ v. IsOf v (by_name_row row.head ts).type) NoThrow (charge r.cost (number_at r.cost ts) K.costs) (native_form row.head r.cost vs s)) (sym is)
+      sound_ending K (cost_under K.costs (Charge row.cost (number_at row.cost ts))) at (native_form row.head row.cost vs s)
+      (subst (λ (r : Row). r.by_name ≡ true → takes r.arity (length ts) ≡ true → IsSound K (λ v. IsOf v (by_name_row row.head ts).type) NoThrow (cost_under K.costs (Charge r.cost (number_at r.cost ts))) (native_form row.head r.cost vs s)) (sym is)
       (λ name count. by_name_sound row.head name ts vs count i types s n) name count)
 
   enters_more : (depth : ℕ) → TakesSound K (means depth) depth → EntersSound K (applied (suc depth)) (suc depth)
   enters_more depth takes = record {
     each = λ G g fn served F framed E low vs i s n.
-        subst (λ a. IsSound K (λ v. IsOf v g.returns) NoThrow (g.bound K.costs) a) (sym (applied_step depth (scope K F E) (OwnFunction fn) vs s)) (function_applied depth takes G g fn served F framed E low vs i s n);
+        subst (λ a. IsSound K (λ v. IsOf v g.returns) NoThrow (cost_under K.costs g.bound) a) (sym (applied_step depth (scope K F E) (OwnFunction fn) vs s)) (function_applied depth takes G g fn served F framed E low vs i s n);
     natives = λ low row is name at F E ts vs count i types s n.
-        subst (λ a. IsSound K (λ v. IsOf v (by_name_row row.head ts).type) NoThrow (charge row.cost (number_at row.cost ts) K.costs) a) (sym (applied_step depth (scope K F E) (ByName row at) vs s)) (native_applied depth row is name at F E ts vs count i types s n);
+        subst (λ a. IsSound K (λ v. IsOf v (by_name_row row.head ts).type) NoThrow (cost_under K.costs (Charge row.cost (number_at row.cost ts))) a) (sym (applied_step depth (scope K F E) (ByName row at) vs s)) (native_applied depth row is name at F E ts vs count i types s n);
   }
 
   function_high : (p : Principal) (g : Signature) (fn : Function) → IsServed K p g fn → 0 < g.height

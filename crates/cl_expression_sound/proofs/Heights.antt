@@ -9,7 +9,8 @@ use Rattle.cl_forms.specs.declared.keyword.Keyword.{Keyword}
 use Rattle.cl_forms.specs.Keywords.{keyword_of}
 use Rattle.cl_forms.specs.Heads.{Row, native}
 use Rattle.cl_forms.specs.Shapes.{trees_of}
-use Rattle.cl_rules.specs.Context.{Context, Names, Bound, both, same, Signature, signature_in, charge, named_in, is_no_value}
+use Rattle.cl_rules.specs.Bills.{Bill, Charge, Both}
+use Rattle.cl_rules.specs.Context.{Context, Names, same, Signature, signature_in, named_in, is_no_value}
 use Rattle.cl_rules.specs.Verdicts.{Found, Verdict}
 use Rattle.cl_rules.specs.Shapes.{Shape, First, There, Absent, NoName, NoSuch, at_first, first_named, evaluated, stated, AUint, APrincipal, Admitted}
 use Rattle.cl_rules.specs.ControlShapes.{keyword_or, value_or, no_value_shape, leaf_shape, if_verdict, let_shape, match_verdict, optional_verdict, response_verdict}
@@ -46,19 +47,19 @@ high_leaf : (G : Context) (B : Names) (leaf : Leaf) → AreHigh (leaf_shape G B 
 high_leaf G B (Named x) = high_keyword (keyword_of x) _ (high_value (named_in x B) (named_in x G.constants) (is_no_value G x))
 high_leaf G B leaf = λ fs. omega arith
 
-high_if : (own : Bound) (fs : List Found) → IsHigh (if_verdict own fs)
+high_if : (own : Bill) (fs : List Found) → IsHigh (if_verdict own fs)
 high_if own (c ∷ a ∷ b ∷ []) = omega arith
 high_if own fs = omega arith
 
-high_optional : (own : Bound) (i a b : Found) (t : PlainType) → IsHigh (optional_verdict own i a b t)
+high_optional : (own : Bill) (i a b : Found) (t : PlainType) → IsHigh (optional_verdict own i a b t)
 high_optional own i a b (OptionalType t) = omega arith
 high_optional own i a b t = omega arith
 
-high_response : (own : Bound) (i a b : Found) (t : PlainType) → IsHigh (response_verdict own i a b t)
+high_response : (own : Bill) (i a b : Found) (t : PlainType) → IsHigh (response_verdict own i a b t)
 high_response own i a b (ResponseType t e) = omega arith
 high_response own i a b t = omega arith
 
-high_match : (optional : Bool) (own : Bound) (fs : List Found) → IsHigh (match_verdict optional own fs)
+high_match : (optional : Bool) (own : Bill) (fs : List Found) → IsHigh (match_verdict optional own fs)
 high_match true own (i ∷ a ∷ b ∷ []) = high_optional own i a b i.type
 high_match false own (i ∷ a ∷ b ∷ []) = high_response own i a b i.type
 high_match true own fs = omega arith
@@ -89,14 +90,14 @@ high_call None B es fs = omega arith
 
 high_head : (head : Head) (row : Row) (G : Context) (B : Names) (es : List Tree) → AreHigh (head_shape head row G B es)
 unfolding head_shape
-high_head If row G B es fs = high_if (charge row.cost (length es)) fs
+high_head If row G B es fs = high_if (Charge row.cost (length es)) fs
 high_head Let row G B es fs = high_let row G B es fs
-high_head Match row G B es fs = high_match (nat_eq (length es) 4) (charge row.cost (length es)) fs
+high_head Match row G B es fs = high_match (nat_eq (length es) 4) (Charge row.cost (length es)) fs
 high_head AsMaxLen row G B es fs = high_literal row (literal_at es) fs
 high_head Filter row G B es fs = high_first (used G es) (filter_verdict row) (λ u. high_filter row u) fs
 high_head Fold row G B es fs = high_first (used G es) (fold_verdict row) (λ u. high_fold row u) fs
 high_head Map row G B es fs = high_first (used G es) (map_verdict row) (λ u fs. omega arith) fs
-high_head ContractCall row G B es fs = high_first (function_of (target_of G es) es) (λ f. call_verdict f (both (charge row.cost (length_at (target_of G es))) f.bound)) (λ f fs. omega arith) fs
+high_head ContractCall row G B es fs = high_first (function_of (target_of G es) es) (λ f. call_verdict f (Both (Charge row.cost (length_at (target_of G es))) f.bound)) (λ f fs. omega arith) fs
 high_head Get row G B es fs = high_first (first_named (λ x. Some x) es) (λ k. evaluated row (one (get_row k))) (λ k fs. omega arith) fs
 high_head VarGet row G B es fs = high_first (first_named (λ x. named_in x G.variables) es) (var_get row) (λ k fs. omega arith) fs
 high_head VarSet row G B es fs = high_first (first_named (λ x. named_in x G.variables) es) (var_set row) (λ k fs. omega arith) fs

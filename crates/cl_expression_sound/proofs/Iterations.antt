@@ -20,7 +20,7 @@ use Rattle.cl_meaning.specs.Scope.{Callee, sizes}
 use Rattle.cl_meaning.specs.Sequences.{callee_of, side_by_side, all_entries, rows_of, mapped, map_form, filtered, filter_form, fold_of, fold_form}
 use Rattle.cl_rules.specs.Faults.{type_rules}
 use Rattle.cl_rules.specs.NativeTypes.{Ruled, made}
-use Rattle.cl_rules.specs.Context.{Bound as Weight, charge, both}
+use Rattle.cl_rules.specs.Bills.{Bill, Charge, Both, cost_under}
 use Rattle.cl_rules.specs.Verdicts.{Found, types_of, sizes_of, highest, sum_of}
 use Rattle.cl_rules.specs.Shapes.{parts as all_parts}
 use Rattle.cl_rules.specs.CallShapes.{Usable, takes_values, use_row, use_bound, use_height, iterating, least_length, map_row, map_verdict, filter_row, filter_verdict, fold_row, fold_verdict}
@@ -45,20 +45,20 @@ use Rattle.cl_types.specs.TypeKinds.{entry_of}
 
 module _ (K : World) where
   -- a charge at no more than a number, before something more
-  charged_more : {P T : Val → Type 0} (name : CostName) (m n : ℕ) (c : Cost5) (a : Answer Val) → m ≤ n → IsSound K P T c a → IsSound K P T (plus (charge name n K.costs) c) (charged name m a)
+  charged_more : {P T : Val → Type 0} (name : CostName) (m n : ℕ) (c : Cost5) (a : Answer Val) → m ≤ n → IsSound K P T c a → IsSound K P T (plus (cost_under K.costs (Charge name n)) c) (charged name m a)
   charged_more name m n c a low h =
-      sound_more K (plus (charge name m K.costs) c) (plus (charge name n K.costs) c) _ (more_of_both (charge name m K.costs) (charge name n K.costs) c c (less_charged K.costs name m n low) (same_cost c))
+      sound_more K (plus (cost_under K.costs (Charge name m)) c) (plus (cost_under K.costs (Charge name n)) c) _ (more_of_both (cost_under K.costs (Charge name m)) (cost_under K.costs (Charge name n)) c c (less_charged K.costs name m n low) (same_cost c))
       (sound_charged K name m c a h)
 
 module _ (K : World) (N : Stands K) where
   -- ---- map
 
-  mapped_rows : {T : Val → Type 0} (u : Usable) (f : Callee) (t : PlainType) (us : List PlainType) → ((vs : List Val) (s : State) → AreOf vs (map entry_of (t ∷ us)) → IsKept K s → IsSound K (λ v. IsOf v (use_row u (map entry_of (t ∷ us))).type) NoThrow (use_bound u (map entry_of (t ∷ us)) K.costs) (N.enter (here K N) f vs s)) →
+  mapped_rows : {T : Val → Type 0} (u : Usable) (f : Callee) (t : PlainType) (us : List PlainType) → ((vs : List Val) (s : State) → AreOf vs (map entry_of (t ∷ us)) → IsKept K s → IsSound K (λ v. IsOf v (use_row u (map entry_of (t ∷ us))).type) NoThrow (cost_under K.costs (use_bound u (map entry_of (t ∷ us)))) (N.enter (here K N) f vs s)) →
       type_rules (made (ListType (least_length (t ∷ us)) (use_row u (map entry_of (t ∷ us))).type)).faults ≡ [] → (vs : List Val) (rows : List (List Val)) → all_entries vs ≡ Some rows → AreRowsOf (map entry_of (t ∷ us)) rows → ((n : ℕ) → NoneShorter n rows → n ≤ least_length (t ∷ us)) → (s : State) → IsKept K s →
-      IsSound K (λ v. IsOf v (ListType (least_length (t ∷ us)) (use_row u (map entry_of (t ∷ us))).type)) T (times (use_bound u (map entry_of (t ∷ us)) K.costs) (least_length (t ∷ us))) (mapped N.enter (here K N) vs f s)
+      IsSound K (λ v. IsOf v (ListType (least_length (t ∷ us)) (use_row u (map entry_of (t ∷ us))).type)) T (times (cost_under K.costs (use_bound u (map entry_of (t ∷ us)))) (least_length (t ∷ us))) (mapped N.enter (here K N) vs f s)
   mapped_rows u f t us app small vs [] there typed least s n = absurd typed
   mapped_rows {T = T} u f t us app small vs (xs ∷ rows) there typed least s n =
-      let c : Cost5 = use_bound u (map entry_of (t ∷ us)) K.costs in
+      let c : Cost5 = cost_under K.costs (use_bound u (map entry_of (t ∷ us))) in
       let ty : PlainType = (use_row u (map entry_of (t ∷ us))).type in
       let rs = side_by_side xs rows in
       let sd = sides (entry_of t) (map entry_of us) xs rows typed.0 typed.1 in
@@ -71,13 +71,13 @@ module _ (K : World) (N : Stands K) where
       let fit : length ws ≤ least_length (t ∷ us) = omega (arith, many, few) in
       computed_sound K (ListType (least_length (t ∷ us)) ty) (Gives (ListV (items_of ws))) w (values_fit.lists (least_length (t ∷ us)) ty ws k.0 fit small) l)))
 
-  mapped_sound : {T : Val → Type 0} (u : Usable) (o : Option Callee) (used : IsUsed K N u o) (ts : List PlainType) (vs : List Val) → AreOf vs ts → type_rules (map_row u ts).faults ≡ [] → takes_values u (length ts) ≡ true → use_height u ≤ N.depth → 0 < length ts → (s : State) → IsKept K s → IsSound K (λ v. IsOf v (map_row u ts).type) T (times (use_bound u (map entry_of ts) K.costs) (least_length ts)) (mapped N.enter (here K N) vs used.callee s)
+  mapped_sound : {T : Val → Type 0} (u : Usable) (o : Option Callee) (used : IsUsed K N u o) (ts : List PlainType) (vs : List Val) → AreOf vs ts → type_rules (map_row u ts).faults ≡ [] → takes_values u (length ts) ≡ true → use_height u ≤ N.depth → 0 < length ts → (s : State) → IsKept K s → IsSound K (λ v. IsOf v (map_row u ts).type) T (times (cost_under K.costs (use_bound u (map entry_of ts))) (least_length ts)) (mapped N.enter (here K N) vs used.callee s)
   mapped_sound u o used [] vs i rules count low some s n = absurd (omega (arith, some))
   mapped_sound {T = T} u o used (t ∷ us) vs i rules count low some s n =
       let m = is_mapped u (t ∷ us) rules in
       let e = entries_there (t ∷ us) vs m.sequences i in
       let takes = subst (λ k. takes_values u k ≡ true) (sym (same_map_length (t ∷ us))) count in
-      subst (λ ty. IsSound K (λ v. IsOf v ty) T (times (use_bound u (map entry_of (t ∷ us)) K.costs) (least_length (t ∷ us))) (mapped N.enter (here K N) vs used.callee s)) (sym m.type)
+      subst (λ ty. IsSound K (λ v. IsOf v ty) T (times (cost_under K.costs (use_bound u (map entry_of (t ∷ us)))) (least_length (t ∷ us))) (mapped N.enter (here K N) vs used.callee s)) (sym m.type)
       (mapped_rows u used.callee t us (λ vs s i n. used.sound (map entry_of (t ∷ us)) vs takes i m.rules low s n) m.small vs e.rows e.there e.typed (λ k h. e.least k h t us refl) s n)
 
   map_use : OfUse K N (row_of Map) (map_verdict (row_of Map)) (map_form N.take N.enter (here K N))
@@ -85,8 +85,8 @@ module _ (K : World) (N : Stands K) where
   map_use x at es u used count takes fs follows types low s n =
       let ts = types_of fs in
       let r : Ruled = map_row u ts in
-      let c : Cost5 = use_bound u (map entry_of ts) K.costs in
-      let own : Weight = iterating (row_of Map) u ts (least_length ts) (map entry_of ts) in
+      let c : Cost5 = cost_under K.costs (use_bound u (map entry_of ts)) in
+      let own : Bill = iterating (row_of Map) u ts (least_length ts) (map entry_of ts) in
       let many = as_many_found K N es fs follows in
       let two : 2 ≤ length (LeafAt (Named x) at ∷ es) = leb-true 2 (length (LeafAt (Named x) at ∷ es)) (not_false _ count) in
       let some : 0 < length ts = omega (arith, many, two) in
@@ -95,7 +95,7 @@ module _ (K : World) (N : Stands K) where
       strict_sound K N es fs r (use_height u) own _ follows types low_fs
       (λ vs t i m. charged_more K Iterate (sizes vs) (sizes_of ts) (times c (least_length ts)) _ (sizes_within ts vs i)
       (sound_known K (times c (least_length ts)) _ used.callee _ t used.there
-      (mapped_sound u _ used ts vs i (ruling_unbroken r (use_height u) (both own (sum_of fs)) fs types) (subst (λ k. takes_values u k ≡ true) (sym many) takes) low_u some t m))) s n
+      (mapped_sound u _ used ts vs i (ruling_unbroken r (use_height u) (Both own (sum_of fs)) fs types) (subst (λ k. takes_values u k ≡ true) (sym many) takes) low_u some t m))) s n
 
   pub map_sound : (es : List Tree) → IsSoundShape K N (head_shape Map (row_of Map) N.context N.names es) (map_form N.take N.enter (here K N) es)
   unfolding head_shape
@@ -103,11 +103,11 @@ module _ (K : World) (N : Stands K) where
 
   -- ---- filter
 
-  filtered_sound : {T : Val → Type 0} (u : Usable) (o : Option Callee) (used : IsUsed K N u o) (t : PlainType) (v : Val) → IsOf v t → type_rules (filter_row u t).faults ≡ [] → takes_values u 1 ≡ true → use_height u ≤ N.depth → (s : State) → IsKept K s → IsSound K (λ v. IsOf v (filter_row u t).type) T (times (use_bound u (entry_of t ∷ []) K.costs) (length_of t)) (filtered N.enter (here K N) v used.callee s)
+  filtered_sound : {T : Val → Type 0} (u : Usable) (o : Option Callee) (used : IsUsed K N u o) (t : PlainType) (v : Val) → IsOf v t → type_rules (filter_row u t).faults ≡ [] → takes_values u 1 ≡ true → use_height u ≤ N.depth → (s : State) → IsKept K s → IsSound K (λ v. IsOf v (filter_row u t).type) T (times (cost_under K.costs (use_bound u (entry_of t ∷ []))) (length_of t)) (filtered N.enter (here K N) v used.callee s)
   filtered_sound {T = T} u o used t v i rules count low s n =
       let m = is_filtered u t rules in
       let e = values_fit.entries t v i m.sequence in
-      let c : Cost5 = use_bound u (entry_of t ∷ []) K.costs in
+      let c : Cost5 = cost_under K.costs (use_bound u (entry_of t ∷ [])) in
       subst (λ ty. IsSound K (λ v. IsOf v ty) T (times c (length_of t)) (filtered N.enter (here K N) v used.callee s)) (sym m.type)
       (sound_known K (times c (length_of t)) (entries_of v) e.entries _ s e.there
       (sound_more K (times c (length e.entries)) (times c (length_of t)) _ (more_times c (length e.entries) (length_of t) e.few)
@@ -118,14 +118,14 @@ module _ (K : World) (N : Stands K) where
   unfolding filter_form
   filter_each x at u used takes e _ (part {f = f} te ends) types low s n =
       let r : Ruled = filter_row u f.type in
-      let c : Cost5 = use_bound u (entry_of f.type ∷ []) K.costs in
-      let own : Weight = iterating (row_of Filter) u (f.type ∷ []) (length_of f.type) (entry_of f.type ∷ []) in
+      let c : Cost5 = cost_under K.costs (use_bound u (entry_of f.type ∷ [])) in
+      let own : Bill = iterating (row_of Filter) u (f.type ∷ []) (length_of f.type) (entry_of f.type ∷ []) in
       let low_u : use_height u ≤ N.depth = omega (arith, low) in
       let low_f : f.height ≤ N.depth = omega (arith, low) in
       single_sound K N e f r (use_height u) own _ te types low_f
       (λ v t i m. charged_more K Iterate (size_of v) (sizes_of (f.type ∷ [])) (times c (length_of f.type)) _ (one_low f.type v i)
       (sound_known K (times c (length_of f.type)) _ used.callee _ t used.there
-      (filtered_sound u _ used f.type v i (ruling_unbroken r (use_height u) (both own (sum_of (f ∷ []))) (f ∷ []) types) takes low_u t m))) s n
+      (filtered_sound u _ used f.type v i (ruling_unbroken r (use_height u) (Both own (sum_of (f ∷ []))) (f ∷ []) types) takes low_u t m))) s n
 
   filter_use : OfUse K N (row_of Filter) (filter_verdict (row_of Filter)) (filter_form N.take N.enter (here K N))
   filter_use x at (e ∷ []) u used count takes fs follows types low s n = filter_each x at u used takes e fs follows types low s n
@@ -138,12 +138,12 @@ module _ (K : World) (N : Stands K) where
 
   -- ---- fold
 
-  fold_sound_of : {T : Val → Type 0} (u : Usable) (o : Option Callee) (used : IsUsed K N u o) (t i : PlainType) (v w : Val) → IsOf v t → IsOf w i → type_rules (fold_row u t i).faults ≡ [] → takes_values u 2 ≡ true → use_height u ≤ N.depth → (s : State) → IsKept K s → IsSound K (λ v. IsOf v (fold_row u t i).type) T (times (use_bound u (entry_of t ∷ (fold_row u t i).type ∷ []) K.costs) (length_of t)) (fold_of N.enter (here K N) v w used.callee s)
+  fold_sound_of : {T : Val → Type 0} (u : Usable) (o : Option Callee) (used : IsUsed K N u o) (t i : PlainType) (v w : Val) → IsOf v t → IsOf w i → type_rules (fold_row u t i).faults ≡ [] → takes_values u 2 ≡ true → use_height u ≤ N.depth → (s : State) → IsKept K s → IsSound K (λ v. IsOf v (fold_row u t i).type) T (times (cost_under K.costs (use_bound u (entry_of t ∷ (fold_row u t i).type ∷ []))) (length_of t)) (fold_of N.enter (here K N) v w used.callee s)
   fold_sound_of {T = T} u o used t i v w j k rules count low s n =
       let m = is_fold u t i used.named count rules in
       let e = values_fit.entries t v j m.sequence in
       let ty : PlainType = (fold_row u t i).type in
-      let c : Cost5 = use_bound u (entry_of t ∷ ty ∷ []) K.costs in
+      let c : Cost5 = cost_under K.costs (use_bound u (entry_of t ∷ ty ∷ [])) in
       sound_known K (times c (length_of t)) (entries_of v) e.entries _ s e.there
       (sound_more K (times c (length e.entries)) (times c (length_of t)) _ (more_times c (length e.entries) (length_of t) e.few)
       (folded_sound K N used.callee c (entry_of t) ty
@@ -155,18 +155,18 @@ module _ (K : World) (N : Stands K) where
   fold_each x at u used takes e i _ (part {f = f} te (part {f = g} tg ends)) types low s n =
       let fs : List Found = f ∷ g ∷ [] in
       let r : Ruled = fold_row u f.type g.type in
-      let c : Cost5 = use_bound u (entry_of f.type ∷ r.type ∷ []) K.costs in
-      let own : Weight = iterating (row_of Fold) u (f.type ∷ g.type ∷ []) (length_of f.type) (entry_of f.type ∷ r.type ∷ []) in
+      let c : Cost5 = cost_under K.costs (use_bound u (entry_of f.type ∷ r.type ∷ [])) in
+      let own : Bill = iterating (row_of Fold) u (f.type ∷ g.type ∷ []) (length_of f.type) (entry_of f.type ∷ r.type ∷ []) in
       let low_u : use_height u ≤ N.depth = omega (arith, low) in
       let low_f : f.height ≤ N.depth = omega (arith, low) in
       let low_g : g.height ≤ N.depth = omega (arith, low) in
-      concluded_sound K N r (use_height u) (both own (sum_of fs)) fs _ types
-      (sound_more K (plus (f.bound K.costs) (plus (g.bound K.costs) (own K.costs))) (plus (own K.costs) (sum_of fs K.costs)) _ (two_behind (f.bound K.costs) (g.bound K.costs) (own K.costs))
-      (sound_then K (f.bound K.costs) (plus (g.bound K.costs) (own K.costs)) _ _ (part_sound K N e f te low_f (λ v k. inl (inl k)) s n)
-      (λ v t a m. sound_then K (g.bound K.costs) (own K.costs) _ _ (part_sound K N i g tg low_g (λ v k. inl (inr (inl k))) t m)
+      concluded_sound K N r (use_height u) (Both own (sum_of fs)) fs _ types
+      (sound_more K (plus (cost_under K.costs f.bound) (plus (cost_under K.costs g.bound) (cost_under K.costs own))) (plus (cost_under K.costs own) (cost_under K.costs (sum_of fs))) _ (two_behind (cost_under K.costs f.bound) (cost_under K.costs g.bound) (cost_under K.costs own))
+      (sound_then K (cost_under K.costs f.bound) (plus (cost_under K.costs g.bound) (cost_under K.costs own)) _ _ (part_sound K N e f te low_f (λ v k. inl (inl k)) s n)
+      (λ v t a m. sound_then K (cost_under K.costs g.bound) (cost_under K.costs own) _ _ (part_sound K N i g tg low_g (λ v k. inl (inr (inl k))) t m)
       (λ w z b l. charged_more K Iterate (sizes (v ∷ w ∷ [])) (sizes_of (f.type ∷ g.type ∷ [])) (times c (length_of f.type)) _ (sizes_within (f.type ∷ g.type ∷ []) (v ∷ w ∷ []) (a, (b, tt)))
       (sound_known K (times c (length_of f.type)) _ used.callee _ z used.there
-      (fold_sound_of u _ used f.type g.type v w a b (ruling_unbroken r (use_height u) (both own (sum_of fs)) fs types) takes low_u z l))))))
+      (fold_sound_of u _ used f.type g.type v w a b (ruling_unbroken r (use_height u) (Both own (sum_of fs)) fs types) takes low_u z l))))))
 
   fold_use : OfUse K N (row_of Fold) (fold_verdict (row_of Fold)) (fold_form N.take N.enter (here K N))
   fold_use x at (e ∷ i ∷ []) u used count takes fs follows types low s n = fold_each x at u used takes e i fs follows types low s n

@@ -28,7 +28,8 @@ use Rattle.cl_meaning.specs.Scope.{BoundValues}
 use Rattle.cl_meaning.specs.Names.{standing, literal, keyword_or as keyword_form_or, name_form, leaf_form}
 use Rattle.cl_rules.specs.Faults.{type_rules}
 use Rattle.cl_rules.specs.NativeTypes.{Ruled, fine, made, is_small}
-use Rattle.cl_rules.specs.Context.{Names, charge, both, same, named_in, is_no_value}
+use Rattle.cl_rules.specs.Bills.{Charge, Both, cost_under}
+use Rattle.cl_rules.specs.Context.{Names, same, named_in, is_no_value}
 use Rattle.cl_rules.specs.Verdicts.{Found, sum_of}
 use Rattle.cl_rules.specs.Shapes.{Shape, value_shape}
 use Rattle.cl_rules.specs.ControlShapes.{leaf_shape, keyword_or, value_or, no_value_shape, name_shape}
@@ -124,16 +125,16 @@ module _ (K : World) (N : Stands K) where
   -- ---- values that stand there
 
   -- a value of the type, charged by its size
-  pub standing_sound : {T : Val → Type 0} (name : CostName) (t : PlainType) (v : Val) (s : State) → IsOf v t → IsKept K s → IsSound K (λ v. IsOf v t) T (plus (charge name (type_size t) K.costs) zero_cost) (standing name v s)
+  pub standing_sound : {T : Val → Type 0} (name : CostName) (t : PlainType) (v : Val) (s : State) → IsOf v t → IsKept K s → IsSound K (λ v. IsOf v t) T (plus (cost_under K.costs (Charge name (type_size t))) zero_cost) (standing name v s)
   unfolding standing
   standing_sound {T = T} name t v s i n =
-      sound_more K (plus (charge name (size_of v) K.costs) zero_cost) (plus (charge name (type_size t) K.costs) zero_cost) _ (more_of_both (charge name (size_of v) K.costs) (charge name (type_size t) K.costs) zero_cost zero_cost (less_charged K.costs name (size_of v) (type_size t) (no_larger v t i)) (same_cost zero_cost))
+      sound_more K (plus (cost_under K.costs (Charge name (size_of v))) zero_cost) (plus (cost_under K.costs (Charge name (type_size t))) zero_cost) _ (more_of_both (cost_under K.costs (Charge name (size_of v))) (cost_under K.costs (Charge name (type_size t))) zero_cost zero_cost (less_charged K.costs name (size_of v) (type_size t) (no_larger v t i)) (same_cost zero_cost))
       (sound_charged K name (size_of v) zero_cost (give v s) (sound_stop K (λ v. IsOf v t) T zero_cost (Given v) s i n))
 
   value_each : (name : CostName) (r : Ruled) (v : Val) → (AreFineTypes r.faults → IsOf v r.type) → (fs : List Found) → Follows N.context (value_shape name r).plan fs → type_rules ((value_shape name r).verdict fs).faults ≡ [] → (s : State) → IsKept K s → IsAsFound K ((value_shape name r).verdict fs).found (standing name v s)
   value_each name r v i _ ends types s n =
-      concluded_sound K N r 0 (both (charge name (type_size r.type)) (sum_of [])) [] _ types
-      (standing_sound name r.type v s (i (ruling_fine r 0 (both (charge name (type_size r.type)) (sum_of [])) [] types)) n)
+      concluded_sound K N r 0 (Both (Charge name (type_size r.type)) (sum_of [])) [] _ types
+      (standing_sound name r.type v s (i (ruling_fine r 0 (Both (Charge name (type_size r.type)) (sum_of [])) [] types)) n)
 
   value_sound : (name : CostName) (r : Ruled) (v : Val) → (AreFineTypes r.faults → IsOf v r.type) → IsSoundShape K N (value_shape name r) (standing name v)
   value_sound name r v i = record { each = λ fs shape follows types low s n. value_each name r v i fs follows types s n }
@@ -141,7 +142,7 @@ module _ (K : World) (N : Stands K) where
   -- the same where the value is known to be one by its type
   literal_each : (r : Ruled) (v : Val) → (AreFineTypes r.faults → IsOf v r.type) → (fs : List Found) → Follows N.context (value_shape Literal r).plan fs → type_rules ((value_shape Literal r).verdict fs).faults ≡ [] → (s : State) → IsKept K s → IsAsFound K ((value_shape Literal r).verdict fs).found (literal (value_made v) s)
   literal_each r v i _ ends types s n =
-      subst (λ o. IsAsFound K ((value_shape Literal r).verdict []).found (literal o s)) (sym (valid_made v (i (ruling_fine r 0 (both (charge Literal (type_size r.type)) (sum_of [])) [] types)).valid))
+      subst (λ o. IsAsFound K ((value_shape Literal r).verdict []).found (literal o s)) (sym (valid_made v (i (ruling_fine r 0 (Both (Charge Literal (type_size r.type)) (sum_of [])) [] types)).valid))
       (value_each Literal r v i [] ends types s n)
 
   literal_sound : (r : Ruled) (v : Val) → (AreFineTypes r.faults → IsOf v r.type) → IsSoundShape K N (value_shape Literal r) (literal (value_made v))

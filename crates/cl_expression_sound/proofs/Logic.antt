@@ -8,7 +8,7 @@ use Rattle.cl_values.specs.Tree.{Tree as Val}
 use Rattle.cl_events.specs.State.{State}
 use Rattle.cl_meaning.specs.Answers.{Outcome, Given, Thrown, Aborted, Wrong, Deeper, Answer, Note, stop, charged, then_on, and_then, ending, returned_outcome, returning, with_known}
 use Rattle.cl_meaning.specs.Limits.{charges_of, cost_sum, cost}
-use Rattle.cl_rules.specs.Context.{charge}
+use Rattle.cl_rules.specs.Bills.{Charge, cost_under}
 use Rattle.cl_expression_sound.specs.Sound.{World, IsFine, IsSound, IsKept}
 use Rattle.cl_expression_sound.proofs.Costs.{same_cost, at_most, more_of_both, and_more, and_nothing, none_at_most, cost-after, cost-ending}
 
@@ -35,12 +35,12 @@ module _ (K : World) where
   unfolding stop cost
   sound_stop P T c o s f n = record { outcome = f; state = n; within = none_at_most c }
 
-  pub sound_charged : {A : Type 0} {P : A → Type 0} {T : Val → Type 0} (name : CostName) (n : ℕ) (c : Cost5) (a : Answer A) → IsSound K P T c a → IsSound K P T (plus (charge name n K.costs) c) (charged name n a)
+  pub sound_charged : {A : Type 0} {P : A → Type 0} {T : Val → Type 0} (name : CostName) (n : ℕ) (c : Cost5) (a : Answer A) → IsSound K P T c a → IsSound K P T (plus (cost_under K.costs (Charge name n)) c) (charged name n a)
   unfolding charged cost
   sound_charged name n c a h = record {
     outcome = h.outcome;
     state = h.state;
-    within = more_of_both (charge name n K.costs) (charge name n K.costs) (cost K.costs a) c (same_cost (charge name n K.costs)) h.within;
+    within = more_of_both (cost_under K.costs (Charge name n)) (cost_under K.costs (Charge name n)) (cost K.costs a) c (same_cost (cost_under K.costs (Charge name n))) h.within;
   }
 
   then_case : {A B : Type 0} (P : A → Type 0) (Q : B → Type 0) (T : Val → Type 0) (c d : Cost5) (o : Outcome A) (s : State) (log : List Note) (go_on : A → State → Answer B) → IsFine P T o → IsKept K s → IsAtMost (cost_sum K.costs (charges_of log)) c → ((v : A) (t : State) → P v → IsKept K t → IsSound K Q T d (go_on v t)) → IsSound K Q T (plus c d) (then_on o s log go_on)

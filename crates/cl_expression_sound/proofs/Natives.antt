@@ -24,7 +24,7 @@ use Rattle.cl_meaning.specs.Scope.{sizes}
 use Rattle.cl_meaning.specs.Values.{number_of, on_values, strict_form, tuple_form, get_form, as_max_len_form}
 use Rattle.cl_rules.specs.Faults.{ShapeFaults, type_rules}
 use Rattle.cl_rules.specs.NativeTypes.{Ruled, one, native_type, get_row, max_len_row}
-use Rattle.cl_rules.specs.Context.{charge, both}
+use Rattle.cl_rules.specs.Bills.{Charge, Both, cost_under}
 use Rattle.cl_rules.specs.Verdicts.{Found, types_of, number_at, sizes_of, highest, sum_of}
 use Rattle.cl_rules.specs.Shapes.{Shape, parts as all_parts, evaluated}
 use Rattle.cl_rules.specs.DataShapes.{keys_of, stands_twice, tuple_row, tuple_verdict, tuple_shape}
@@ -92,7 +92,7 @@ some_pairs (e ∷ es) h k = by (binding_of e) (bindings_of es) h
 -- ---- natives on values
 
 module _ (K : World) where
-  pub applied_native_sound : {T : Val → Type 0} (n : Native) (ts : List PlainType) (vs : List Val) (s : State) → takes (row_of (OnValues n)).arity (length ts) ≡ true → AreOf vs ts → type_rules (native_type n ts).faults ≡ [] → IsKept K s → IsSound K (λ v. IsOf v (native_type n ts).type) T (charge (row_of (OnValues n)).cost (number_at (row_of (OnValues n)).cost ts) K.costs) (on_values n (row_of (OnValues n)).cost vs s)
+  pub applied_native_sound : {T : Val → Type 0} (n : Native) (ts : List PlainType) (vs : List Val) (s : State) → takes (row_of (OnValues n)).arity (length ts) ≡ true → AreOf vs ts → type_rules (native_type n ts).faults ≡ [] → IsKept K s → IsSound K (λ v. IsOf v (native_type n ts).type) T (cost_under K.costs (Charge (row_of (OnValues n)).cost (number_at (row_of (OnValues n)).cost ts))) (on_values n (row_of (OnValues n)).cost vs s)
   unfolding on_values
   applied_native_sound n ts vs s count i types k =
       charged_low K (row_of (OnValues n)).cost (number_of (row_of (OnValues n)).cost vs) (number_at (row_of (OnValues n)).cost ts) _ (numbers_within n ts vs i)
@@ -104,12 +104,12 @@ module _ (K : World) (N : Stands K) where
   native_sound n es = record {
     each = λ fs shape follows types low s k.
         let r : Ruled = native_type n (types_of fs) in
-        let own = charge (row_of (OnValues n)).cost (number_at (row_of (OnValues n)).cost (types_of fs)) in
+        let own = Charge (row_of (OnValues n)).cost (number_at (row_of (OnValues n)).cost (types_of fs)) in
         let fine = fine_shape (head_shape (OnValues n) (row_of (OnValues n)) N.context N.names es).faults shape in
         let count = subst (λ m. takes (row_of (OnValues n)).arity m ≡ true) (sym (as_many_found K N es fs follows)) (not_false (takes (row_of (OnValues n)).arity (length es)) fine.argument_count) in
         let low_fs : highest fs ≤ N.depth = omega (arith, low) in
         strict_sound K N es fs r 0 own (on_values n (row_of (OnValues n)).cost) follows types low_fs
-        (λ vs t i m. applied_native_sound K n (types_of fs) vs t count i (ruling_unbroken r 0 (both own (sum_of fs)) fs types) m) s k;
+        (λ vs t i m. applied_native_sound K n (types_of fs) vs t count i (ruling_unbroken r 0 (Both own (sum_of fs)) fs types) m) s k;
   }
 
   -- ---- tuples
@@ -119,12 +119,12 @@ module _ (K : World) (N : Stands K) where
   tuple_each p ps names twice fs follows types low s k =
       let keys = keys_of (p ∷ ps) in
       let r : Ruled = tuple_row keys (types_of fs) in
-      let own = charge Make (sizes_of (types_of fs)) in
+      let own = Charge Make (sizes_of (types_of fs)) in
       let low_fs : highest fs ≤ N.depth = omega (arith, low) in
       let many : length keys ≡ length (types_of fs) = as_many_keys (p ∷ ps) ∙ sym (as_many_found K N (map (λ (p : List ℕ × Tree). p.1) (p ∷ ps)) fs follows) in
       strict_sound K N (map (λ (p : List ℕ × Tree). p.1) (p ∷ ps)) fs r 0 own _ follows types low_fs
       (λ vs t i m. charged_low K Make (sizes vs) (sizes_of (types_of fs)) _ (sizes_within (types_of fs) vs i)
-      (computed_sound K r.type (Gives (TupleV (sorted_entries (zip keys vs)))) t (values_fit.tuples keys (types_of fs) vs names many (omega arith) twice i (ruling_unbroken r 0 (both own (sum_of fs)) fs types)) m)) s k
+      (computed_sound K r.type (Gives (TupleV (sorted_entries (zip keys vs)))) t (values_fit.tuples keys (types_of fs) vs names many (omega arith) twice i (ruling_unbroken r 0 (Both own (sum_of fs)) fs types)) m)) s k
 
   pub pairs_sound : (faults : ShapeFaults) (ps : List (List ℕ × Tree)) → 0 < length ps → AreNames (keys_of ps) → IsSoundShape K N (tuple_shape faults N.names ps) (tuple_form N.take (here K N) ps)
   pairs_sound faults [] some names = absurd (omega (arith, some))
@@ -150,11 +150,11 @@ module _ (K : World) (N : Stands K) where
   unfolding get_form
   get_each x e _ (part {f = f} t ends) types low at s k =
       let r : Ruled = get_row x f.type in
-      let own = charge TakeCost (sizes_of (f.type ∷ [])) in
+      let own = Charge TakeCost (sizes_of (f.type ∷ [])) in
       let low_f : f.height ≤ N.depth = omega (arith, low) in
       single_sound K N e f r 0 own _ t types low_f
       (λ v u i m. charged_low K TakeCost (size_of v) (sizes_of (f.type ∷ [])) _ (one_low f.type v i)
-      (computed_sound K r.type (part_at x v) u (values_fit.parts x f.type v i (ruling_unbroken r 0 (both own (sum_of (f ∷ []))) (f ∷ []) types)) m)) s k
+      (computed_sound K r.type (part_at x v) u (values_fit.parts x f.type v i (ruling_unbroken r 0 (Both own (sum_of (f ∷ []))) (f ∷ []) types)) m)) s k
 
   pub get_sound : (es : List Tree) → IsSoundShape K N (head_shape Get (row_of Get) N.context N.names es) (get_form N.take (here K N) es)
   unfolding head_shape
@@ -173,11 +173,11 @@ module _ (K : World) (N : Stands K) where
   unfolding as_max_len_form
   max_len_each most e _ (part {f = f} t ends) types low at s k =
       let r : Ruled = max_len_row most f.type in
-      let own = charge Make (sizes_of (f.type ∷ [])) in
+      let own = Charge Make (sizes_of (f.type ∷ [])) in
       let low_f : f.height ≤ N.depth = omega (arith, low) in
       single_sound K N e f r 0 own _ t types low_f
       (λ v u i m. charged_low K Make (size_of v) (sizes_of (f.type ∷ [])) _ (one_low f.type v i)
-      (computed_sound K r.type (within_length most v) u (values_fit.lengths most f.type v i (ruling_unbroken r 0 (both own (sum_of (f ∷ []))) (f ∷ []) types)) m)) s k
+      (computed_sound K r.type (within_length most v) u (values_fit.lengths most f.type v i (ruling_unbroken r 0 (Both own (sum_of (f ∷ []))) (f ∷ []) types)) m)) s k
 
   max_len_by : (e l : Tree) → IsSoundShape K N (head_shape AsMaxLen (row_of AsMaxLen) N.context N.names (e ∷ l ∷ [])) (as_max_len_form N.take (here K N) (e ∷ l ∷ []))
   unfolding head_shape

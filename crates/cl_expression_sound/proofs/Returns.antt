@@ -14,7 +14,7 @@ use Rattle.cl_meaning.specs.Scope.{as_contract}
 use Rattle.cl_meaning.specs.Control.{throwing, asserts_form, unwrap_form, unwrap_err_form, try_form, and_on, or_on, and_form, or_form, as_contract_form}
 use Rattle.cl_rules.specs.Faults.{type_rules}
 use Rattle.cl_rules.specs.NativeTypes.{Ruled, one, two, fine}
-use Rattle.cl_rules.specs.Context.{Bound, charge, both}
+use Rattle.cl_rules.specs.Bills.{Bill, Charge, Both, cost_under}
 use Rattle.cl_rules.specs.Verdicts.{Found, types_of, highest, sum_of}
 use Rattle.cl_rules.specs.Shapes.{parts as all_parts, evaluated}
 use Rattle.cl_rules.specs.ControlShapes.{asserts_row, unwrap_row, unwrap_err_row, try_row, truth_row}
@@ -42,24 +42,24 @@ right_true false b h = absurd cc
 
 module _ (K : World) (N : Stands K) where
   -- a thrown part
-  throwing_sound : {P T : Val → Type 0} (e : Tree) (f : Found) → Fitted N.context N.names e f → f.height ≤ N.depth → ((v : Val) → IsThrown f.thrown v → T v) → ((v : Val) → IsOf v f.type → T v) → (s : State) → IsKept K s → IsSound K P T (plus (f.bound K.costs) zero_cost) (throwing N.take (here K N) e s)
+  throwing_sound : {P T : Val → Type 0} (e : Tree) (f : Found) → Fitted N.context N.names e f → f.height ≤ N.depth → ((v : Val) → IsThrown f.thrown v → T v) → ((v : Val) → IsOf v f.type → T v) → (s : State) → IsKept K s → IsSound K P T (plus (cost_under K.costs f.bound) zero_cost) (throwing N.take (here K N) e s)
   throwing_sound {P = P} {T = T} e f t low more own s n =
-      sound_then K (f.bound K.costs) zero_cost _ _ (part_sound K N e f t low more s n) (λ v u i m. sound_stop K P T zero_cost (Thrown v) u (own v i) m)
+      sound_then K (cost_under K.costs f.bound) zero_cost _ _ (part_sound K N e f t low more s n) (λ v u i m. sound_stop K P T zero_cost (Thrown v) u (own v i) m)
 
   asserts_each : (b x : Tree) (fs : List Found) → Follows N.context (all_parts N.names (b ∷ x ∷ [])) fs → type_rules (evaluated (row_of Asserts) (two asserts_row) fs).faults ≡ [] → (evaluated (row_of Asserts) (two asserts_row) fs).found.height ≤ suc N.depth → (s : State) → IsKept K s → IsAsFound K (evaluated (row_of Asserts) (two asserts_row) fs).found (asserts_form N.take (here K N) (b ∷ x ∷ []) s)
   unfolding asserts_form
   asserts_each b x _ (part {f = c} tc (part {f = f} tf ends)) types low s n =
       let fs : List Found = c ∷ f ∷ [] in
       let r : Ruled = asserts_row c.type f.type in
-      let w : Bound = both (charge Control 2) (sum_of fs) in
+      let w : Bill = Both (Charge Control 2) (sum_of fs) in
       let fine_r = ruling_fine r 0 w fs types in
       let low_c : c.height ≤ N.depth = omega (arith, low) in
       let low_f : f.height ≤ N.depth = omega (arith, low) in
       concluded_sound K N r 0 w fs _ types
-      (sound_charged K Control 2 (sum_of fs K.costs) _
-      (sound_then K (c.bound K.costs) (plus (f.bound K.costs) zero_cost) _ _ (part_sound K N b c tc low_c (λ v k. inl (inl k)) s n)
-      (λ v t i m. choice_sound K (plus (f.bound K.costs) zero_cost) v _ _ t (truth_of v c.type (not_false (is_bool c.type) fine_r.argument_kind) i)
-      (sound_stop K (λ v. IsOf v BoolType) (MayThrow fs (Some f.type)) (plus (f.bound K.costs) zero_cost) (Given (BoolV true)) t (true_typed true) m)
+      (sound_charged K Control 2 (cost_under K.costs (sum_of fs)) _
+      (sound_then K (cost_under K.costs c.bound) (plus (cost_under K.costs f.bound) zero_cost) _ _ (part_sound K N b c tc low_c (λ v k. inl (inl k)) s n)
+      (λ v t i m. choice_sound K (plus (cost_under K.costs f.bound) zero_cost) v _ _ t (truth_of v c.type (not_false (is_bool c.type) fine_r.argument_kind) i)
+      (sound_stop K (λ v. IsOf v BoolType) (MayThrow fs (Some f.type)) (plus (cost_under K.costs f.bound) zero_cost) (Given (BoolV true)) t (true_typed true) m)
       (throwing_sound x f tf low_f (λ v k. inl (inr (inl k))) (λ v k. inr k) t m))))
 
   pub asserts_sound : (es : List Tree) → IsSoundShape K N (head_shape Asserts (row_of Asserts) N.context N.names es) (asserts_form N.take (here K N) es)
@@ -73,14 +73,14 @@ module _ (K : World) (N : Stands K) where
   unwrap_each b x _ (part {f = c} tc (part {f = f} tf ends)) types low s n =
       let fs : List Found = c ∷ f ∷ [] in
       let r : Ruled = unwrap_row c.type f.type in
-      let w : Bound = both (charge Control 2) (sum_of fs) in
+      let w : Bill = Both (Charge Control 2) (sum_of fs) in
       let fine_r = ruling_fine r 0 w fs types in
       let low_c : c.height ≤ N.depth = omega (arith, low) in
       let low_f : f.height ≤ N.depth = omega (arith, low) in
       concluded_sound K N r 0 w fs _ types
-      (sound_charged K Control 2 (sum_of fs K.costs) _
-      (sound_then K (c.bound K.costs) (plus (f.bound K.costs) zero_cost) _ _ (part_sound K N b c tc low_c (λ v k. inl (inl k)) s n)
-      (λ v t i m. wanted_sound K (plus (f.bound K.costs) zero_cost) c.type v _ t fine_r i m
+      (sound_charged K Control 2 (cost_under K.costs (sum_of fs)) _
+      (sound_then K (cost_under K.costs c.bound) (plus (cost_under K.costs f.bound) zero_cost) _ _ (part_sound K N b c tc low_c (λ v k. inl (inl k)) s n)
+      (λ v t i m. wanted_sound K (plus (cost_under K.costs f.bound) zero_cost) c.type v _ t fine_r i m
       (throwing_sound x f tf low_f (λ v k. inl (inr (inl k))) (λ v k. inr k) t m))))
 
   pub unwrap_sound : (es : List Tree) → IsSoundShape K N (head_shape Unwrap (row_of Unwrap) N.context N.names es) (unwrap_form N.take (here K N) es)
@@ -94,14 +94,14 @@ module _ (K : World) (N : Stands K) where
   unwrap_err_each b x _ (part {f = c} tc (part {f = f} tf ends)) types low s n =
       let fs : List Found = c ∷ f ∷ [] in
       let r : Ruled = unwrap_err_row c.type f.type in
-      let w : Bound = both (charge Control 2) (sum_of fs) in
+      let w : Bill = Both (Charge Control 2) (sum_of fs) in
       let fine_r = ruling_fine r 0 w fs types in
       let low_c : c.height ≤ N.depth = omega (arith, low) in
       let low_f : f.height ≤ N.depth = omega (arith, low) in
       concluded_sound K N r 0 w fs _ types
-      (sound_charged K Control 2 (sum_of fs K.costs) _
-      (sound_then K (c.bound K.costs) (plus (f.bound K.costs) zero_cost) _ _ (part_sound K N b c tc low_c (λ v k. inl (inl k)) s n)
-      (λ v t i m. err_sound K (plus (f.bound K.costs) zero_cost) c.type v _ t fine_r i m
+      (sound_charged K Control 2 (cost_under K.costs (sum_of fs)) _
+      (sound_then K (cost_under K.costs c.bound) (plus (cost_under K.costs f.bound) zero_cost) _ _ (part_sound K N b c tc low_c (λ v k. inl (inl k)) s n)
+      (λ v t i m. err_sound K (plus (cost_under K.costs f.bound) zero_cost) c.type v _ t fine_r i m
       (throwing_sound x f tf low_f (λ v k. inl (inr (inl k))) (λ v k. inr k) t m))))
 
   pub unwrap_err_sound : (es : List Tree) → IsSoundShape K N (head_shape UnwrapErr (row_of UnwrapErr) N.context N.names es) (unwrap_err_form N.take (here K N) es)
@@ -115,11 +115,11 @@ module _ (K : World) (N : Stands K) where
   try_each e _ (part {f = f} t ends) types low s n =
       let fs : List Found = f ∷ [] in
       let r : Ruled = try_row f.type in
-      let w : Bound = both (charge Control 1) (sum_of fs) in
+      let w : Bill = Both (Charge Control 1) (sum_of fs) in
       let low_f : f.height ≤ N.depth = omega (arith, low) in
       concluded_sound K N r 0 w fs _ types
-      (sound_charged K Control 1 (sum_of fs K.costs) _
-      (sound_then K (f.bound K.costs) zero_cost _ _ (part_sound K N e f t low_f (λ v k. inl (inl k)) s n)
+      (sound_charged K Control 1 (cost_under K.costs (sum_of fs)) _
+      (sound_then K (cost_under K.costs f.bound) zero_cost _ _ (part_sound K N e f t low_f (λ v k. inl (inl k)) s n)
       (λ v u i m. tried_sound K f.type v u (ruling_fine r 0 w fs types) i m (λ x k. inr k))))
 
   pub try_sound : (es : List Tree) → IsSoundShape K N (head_shape Try (row_of Try) N.context N.names es) (try_form N.take (here K N) es)
@@ -130,51 +130,51 @@ module _ (K : World) (N : Stands K) where
 
   -- ---- and, or
 
-  and_on_sound : (es : List Tree) (fs : List Found) → Follows N.context (all_parts N.names es) fs → list_all is_bool (types_of fs) ≡ true → highest fs ≤ N.depth → (s : State) → IsKept K s → IsSound K (λ v. IsOf v BoolType) (ThrownIn fs) (sum_of fs K.costs) (and_on N.take (here K N) es s)
+  and_on_sound : (es : List Tree) (fs : List Found) → Follows N.context (all_parts N.names es) fs → list_all is_bool (types_of fs) ≡ true → highest fs ≤ N.depth → (s : State) → IsKept K s → IsSound K (λ v. IsOf v BoolType) (ThrownIn fs) (cost_under K.costs (sum_of fs)) (and_on N.take (here K N) es s)
   unfolding and_on
   and_on_sound [] _ ends bools low s n = sound_stop K (λ v. IsOf v BoolType) (ThrownIn []) zero_cost (Given (BoolV true)) s (true_typed true) n
   and_on_sound (e ∷ es) _ (part {f = f} {fs = fs} t ts) bools low s n =
       let low_f : f.height ≤ N.depth = omega (arith, low) in
       let low_fs : highest fs ≤ N.depth = omega (arith, low) in
-      sound_then K (f.bound K.costs) (sum_of fs K.costs) _ _ (part_sound K N e f t low_f (λ v k. inl k) s n)
-      (λ v u i m. choice_sound K (sum_of fs K.costs) v _ _ u (truth_of v f.type (left_true (is_bool f.type) _ bools) i)
-      (sound_less K (sum_of fs K.costs) _ (λ v k. k) (λ v k. inr k) (and_on_sound es fs ts (right_true (is_bool f.type) _ bools) low_fs u m))
-      (sound_stop K (λ v. IsOf v BoolType) (ThrownIn (f ∷ fs)) (sum_of fs K.costs) (Given (BoolV false)) u (true_typed false) m))
+      sound_then K (cost_under K.costs f.bound) (cost_under K.costs (sum_of fs)) _ _ (part_sound K N e f t low_f (λ v k. inl k) s n)
+      (λ v u i m. choice_sound K (cost_under K.costs (sum_of fs)) v _ _ u (truth_of v f.type (left_true (is_bool f.type) _ bools) i)
+      (sound_less K (cost_under K.costs (sum_of fs)) _ (λ v k. k) (λ v k. inr k) (and_on_sound es fs ts (right_true (is_bool f.type) _ bools) low_fs u m))
+      (sound_stop K (λ v. IsOf v BoolType) (ThrownIn (f ∷ fs)) (cost_under K.costs (sum_of fs)) (Given (BoolV false)) u (true_typed false) m))
 
-  or_on_sound : (es : List Tree) (fs : List Found) → Follows N.context (all_parts N.names es) fs → list_all is_bool (types_of fs) ≡ true → highest fs ≤ N.depth → (s : State) → IsKept K s → IsSound K (λ v. IsOf v BoolType) (ThrownIn fs) (sum_of fs K.costs) (or_on N.take (here K N) es s)
+  or_on_sound : (es : List Tree) (fs : List Found) → Follows N.context (all_parts N.names es) fs → list_all is_bool (types_of fs) ≡ true → highest fs ≤ N.depth → (s : State) → IsKept K s → IsSound K (λ v. IsOf v BoolType) (ThrownIn fs) (cost_under K.costs (sum_of fs)) (or_on N.take (here K N) es s)
   unfolding or_on
   or_on_sound [] _ ends bools low s n = sound_stop K (λ v. IsOf v BoolType) (ThrownIn []) zero_cost (Given (BoolV false)) s (true_typed false) n
   or_on_sound (e ∷ es) _ (part {f = f} {fs = fs} t ts) bools low s n =
       let low_f : f.height ≤ N.depth = omega (arith, low) in
       let low_fs : highest fs ≤ N.depth = omega (arith, low) in
-      sound_then K (f.bound K.costs) (sum_of fs K.costs) _ _ (part_sound K N e f t low_f (λ v k. inl k) s n)
-      (λ v u i m. choice_sound K (sum_of fs K.costs) v _ _ u (truth_of v f.type (left_true (is_bool f.type) _ bools) i)
-      (sound_stop K (λ v. IsOf v BoolType) (ThrownIn (f ∷ fs)) (sum_of fs K.costs) (Given (BoolV true)) u (true_typed true) m)
-      (sound_less K (sum_of fs K.costs) _ (λ v k. k) (λ v k. inr k) (or_on_sound es fs ts (right_true (is_bool f.type) _ bools) low_fs u m)))
+      sound_then K (cost_under K.costs f.bound) (cost_under K.costs (sum_of fs)) _ _ (part_sound K N e f t low_f (λ v k. inl k) s n)
+      (λ v u i m. choice_sound K (cost_under K.costs (sum_of fs)) v _ _ u (truth_of v f.type (left_true (is_bool f.type) _ bools) i)
+      (sound_stop K (λ v. IsOf v BoolType) (ThrownIn (f ∷ fs)) (cost_under K.costs (sum_of fs)) (Given (BoolV true)) u (true_typed true) m)
+      (sound_less K (cost_under K.costs (sum_of fs)) _ (λ v k. k) (λ v k. inr k) (or_on_sound es fs ts (right_true (is_bool f.type) _ bools) low_fs u m)))
 
   and_each : (e : Tree) (es : List Tree) (fs : List Found) → Follows N.context (all_parts N.names (e ∷ es)) fs → type_rules (evaluated (row_of And) truth_row fs).faults ≡ [] → (evaluated (row_of And) truth_row fs).found.height ≤ suc N.depth → (s : State) → IsKept K s → IsAsFound K (evaluated (row_of And) truth_row fs).found (and_form N.take (here K N) (e ∷ es) s)
   unfolding and_form
   and_each e es fs follows types low s n =
       let r : Ruled = truth_row (types_of fs) in
-      let w : Bound = both (charge Control (length (types_of fs))) (sum_of fs) in
+      let w : Bill = Both (Charge Control (length (types_of fs))) (sum_of fs) in
       let fine_r = ruling_fine r 0 w fs types in
       let low_fs : highest fs ≤ N.depth = omega (arith, low) in
       concluded_sound K N r 0 w fs _ types
-      (subst (λ m. IsSound K (λ v. IsOf v BoolType) (MayThrow fs None) (plus (charge Control (length (types_of fs)) K.costs) (sum_of fs K.costs)) (charged Control m (and_on N.take (here K N) (e ∷ es) s))) (as_many_found K N (e ∷ es) fs follows)
-      (sound_charged K Control (length (types_of fs)) (sum_of fs K.costs) _
-      (sound_less K (sum_of fs K.costs) _ (λ v k. k) (λ v k. inl k) (and_on_sound (e ∷ es) fs follows (not_false _ fine_r.argument_kind) low_fs s n))))
+      (subst (λ m. IsSound K (λ v. IsOf v BoolType) (MayThrow fs None) (plus (cost_under K.costs (Charge Control (length (types_of fs)))) (cost_under K.costs (sum_of fs))) (charged Control m (and_on N.take (here K N) (e ∷ es) s))) (as_many_found K N (e ∷ es) fs follows)
+      (sound_charged K Control (length (types_of fs)) (cost_under K.costs (sum_of fs)) _
+      (sound_less K (cost_under K.costs (sum_of fs)) _ (λ v k. k) (λ v k. inl k) (and_on_sound (e ∷ es) fs follows (not_false _ fine_r.argument_kind) low_fs s n))))
 
   or_each : (e : Tree) (es : List Tree) (fs : List Found) → Follows N.context (all_parts N.names (e ∷ es)) fs → type_rules (evaluated (row_of Or) truth_row fs).faults ≡ [] → (evaluated (row_of Or) truth_row fs).found.height ≤ suc N.depth → (s : State) → IsKept K s → IsAsFound K (evaluated (row_of Or) truth_row fs).found (or_form N.take (here K N) (e ∷ es) s)
   unfolding or_form
   or_each e es fs follows types low s n =
       let r : Ruled = truth_row (types_of fs) in
-      let w : Bound = both (charge Control (length (types_of fs))) (sum_of fs) in
+      let w : Bill = Both (Charge Control (length (types_of fs))) (sum_of fs) in
       let fine_r = ruling_fine r 0 w fs types in
       let low_fs : highest fs ≤ N.depth = omega (arith, low) in
       concluded_sound K N r 0 w fs _ types
-      (subst (λ m. IsSound K (λ v. IsOf v BoolType) (MayThrow fs None) (plus (charge Control (length (types_of fs)) K.costs) (sum_of fs K.costs)) (charged Control m (or_on N.take (here K N) (e ∷ es) s))) (as_many_found K N (e ∷ es) fs follows)
-      (sound_charged K Control (length (types_of fs)) (sum_of fs K.costs) _
-      (sound_less K (sum_of fs K.costs) _ (λ v k. k) (λ v k. inl k) (or_on_sound (e ∷ es) fs follows (not_false _ fine_r.argument_kind) low_fs s n))))
+      (subst (λ m. IsSound K (λ v. IsOf v BoolType) (MayThrow fs None) (plus (cost_under K.costs (Charge Control (length (types_of fs)))) (cost_under K.costs (sum_of fs))) (charged Control m (or_on N.take (here K N) (e ∷ es) s))) (as_many_found K N (e ∷ es) fs follows)
+      (sound_charged K Control (length (types_of fs)) (cost_under K.costs (sum_of fs)) _
+      (sound_less K (cost_under K.costs (sum_of fs)) _ (λ v k. k) (λ v k. inl k) (or_on_sound (e ∷ es) fs follows (not_false _ fine_r.argument_kind) low_fs s n))))
 
   pub and_sound : (es : List Tree) → IsSoundShape K N (head_shape And (row_of And) N.context N.names es) (and_form N.take (here K N) es)
   unfolding head_shape
@@ -196,12 +196,12 @@ module _ (K : World) (N : Stands K) where
   as_contract_each e _ (part {f = f} t ends) types low s n =
       let fs : List Found = f ∷ [] in
       let r : Ruled = fine f.type in
-      let w : Bound = both (charge Control 1) (sum_of fs) in
+      let w : Bill = Both (Charge Control 1) (sum_of fs) in
       let low_f : f.height ≤ N.depth = omega (arith, low) in
       concluded_sound K N r 0 w fs _ types
-      (sound_charged K Control 1 (sum_of fs K.costs) _
-      (sound_more K (f.bound K.costs) (sum_of fs K.costs) _ (alone (f.bound K.costs))
-      (sound_less K (f.bound K.costs) _ (λ v k. k) (λ v k. inl (inl k))
+      (sound_charged K Control 1 (cost_under K.costs (sum_of fs)) _
+      (sound_more K (cost_under K.costs f.bound) (cost_under K.costs (sum_of fs)) _ (alone (cost_under K.costs f.bound))
+      (sound_less K (cost_under K.costs f.bound) _ (λ v k. k) (λ v k. inl (inl k))
       (N.takes.each N.context N.good (as_contract N.frame) itself N.names N.bound N.are e f t low_f s n))))
 
   pub as_contract_sound : (es : List Tree) → IsSoundShape K N (head_shape AsContract (row_of AsContract) N.context N.names es) (as_contract_form N.take (here K N) es)

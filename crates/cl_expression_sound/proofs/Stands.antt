@@ -11,7 +11,8 @@ use Rattle.cl_meaning.specs.Answers.{Given, Answer}
 use Rattle.cl_meaning.specs.Scope.{Frame, BoundValues, Scope, Take, Enter, parts}
 use Rattle.cl_rules.specs.Faults.{shape_rules, type_rules}
 use Rattle.cl_rules.specs.NativeTypes.{Ruled}
-use Rattle.cl_rules.specs.Context.{Context, Names, Bound as Weight, bind}
+use Rattle.cl_rules.specs.Bills.{Bill, cost_under}
+use Rattle.cl_rules.specs.Context.{Context, Names, bind}
 use Rattle.cl_rules.specs.Verdicts.{Found, types_of, highest, sum_of, concluded}
 use Rattle.cl_rules.specs.Shapes.{Shape, parts as all_parts}
 use Rattle.cl_expression_sound.specs.Fitted.{Fitted, Follows, ends, part}
@@ -66,19 +67,19 @@ module _ (K : World) (N : Stands K) where
 
   -- ---- parts
 
-  pub part_sound : {T : Val → Type 0} (e : Tree) (f : Found) → Fitted N.context N.names e f → f.height ≤ N.depth → ((v : Val) → IsThrown f.thrown v → T v) → (s : State) → IsKept K s → IsSound K (λ v. IsOf v f.type) T (f.bound K.costs) (N.take (scope K N.frame N.bound) e s)
+  pub part_sound : {T : Val → Type 0} (e : Tree) (f : Found) → Fitted N.context N.names e f → f.height ≤ N.depth → ((v : Val) → IsThrown f.thrown v → T v) → (s : State) → IsKept K s → IsSound K (λ v. IsOf v f.type) T (cost_under K.costs f.bound) (N.take (scope K N.frame N.bound) e s)
   part_sound e f t low more s n =
-      sound_less K (f.bound K.costs) (N.take (scope K N.frame N.bound) e s) (λ v i. i) more
+      sound_less K (cost_under K.costs f.bound) (N.take (scope K N.frame N.bound) e s) (λ v i. i) more
       (N.takes.each N.context N.good N.frame N.framed N.names N.bound N.are e f t low s n)
 
-  pub parts_sound : (es : List Tree) (fs : List Found) → Follows N.context (all_parts N.names es) fs → highest fs ≤ N.depth → (s : State) → IsKept K s → IsSound K (λ vs. AreOf vs (types_of fs)) (ThrownIn fs) (sum_of fs K.costs) (parts N.take (scope K N.frame N.bound) es s)
+  pub parts_sound : (es : List Tree) (fs : List Found) → Follows N.context (all_parts N.names es) fs → highest fs ≤ N.depth → (s : State) → IsKept K s → IsSound K (λ vs. AreOf vs (types_of fs)) (ThrownIn fs) (cost_under K.costs (sum_of fs)) (parts N.take (scope K N.frame N.bound) es s)
   unfolding parts
   parts_sound [] _ ends low s n = sound_stop K (λ vs. AreOf vs []) (ThrownIn []) zero_cost (Given []) s tt n
   parts_sound (e ∷ es) _ (part {f = f} {fs = fs} t ts) low s n =
       let low_f : f.height ≤ N.depth = omega (arith, low) in
       let low_fs : highest fs ≤ N.depth = omega (arith, low) in
-      sound_then K (f.bound K.costs) (sum_of fs K.costs) _ _ (part_sound e f t low_f (λ v k. inl k) s n)
-      (λ v u i m. sound_last K (sum_of fs K.costs) _ _ (sound_less K (sum_of fs K.costs) _ (λ vs k. k) (λ w k. inr k) (parts_sound es fs ts low_fs u m))
+      sound_then K (cost_under K.costs f.bound) (cost_under K.costs (sum_of fs)) _ _ (part_sound e f t low_f (λ v k. inl k) s n)
+      (λ v u i m. sound_last K (cost_under K.costs (sum_of fs)) _ _ (sound_less K (cost_under K.costs (sum_of fs)) _ (λ vs k. k) (λ w k. inr k) (parts_sound es fs ts low_fs u m))
       (λ vs w is l. sound_stop K (λ vs. AreOf vs (types_of (f ∷ fs))) (ThrownIn (f ∷ fs)) zero_cost (Given (v ∷ vs)) w (i, is) l))
 
   -- ---- shapes
@@ -89,8 +90,8 @@ module _ (K : World) (N : Stands K) where
     pub each : (fs : List Found) → shape_rules shape.faults ≡ [] → Follows N.context shape.plan fs → type_rules (shape.verdict fs).faults ≡ [] → (shape.verdict fs).found.height ≤ suc N.depth → (s : State) → IsKept K s → IsAsFound K (shape.verdict fs).found (answer s)
 
   -- what is thrown is of the thrown type of the whole
-  pub concluded_sound : (r : Ruled) (h : ℕ) (b : Weight) (fs : List Found) (a : Answer Val) → type_rules (concluded r h b fs).faults ≡ [] → IsSound K (λ v. IsOf v r.type) (MayThrow fs r.throws) (b K.costs) a → IsAsFound K (concluded r h b fs).found a
-  concluded_sound r h b fs a types k = sound_less K (b K.costs) a (λ v i. i) (thrown_covered r h b fs types) k
+  pub concluded_sound : (r : Ruled) (h : ℕ) (b : Bill) (fs : List Found) (a : Answer Val) → type_rules (concluded r h b fs).faults ≡ [] → IsSound K (λ v. IsOf v r.type) (MayThrow fs r.throws) (cost_under K.costs b) a → IsAsFound K (concluded r h b fs).found a
+  concluded_sound r h b fs a types k = sound_less K (cost_under K.costs b) a (λ v i. i) (thrown_covered r h b fs types) k
 
 -- ---- numbers of arguments
 

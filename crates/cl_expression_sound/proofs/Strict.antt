@@ -15,7 +15,7 @@ use Rattle.cl_meaning.specs.Answers.{Given, Wrong, Answer, stop, charged, and_th
 use Rattle.cl_meaning.specs.Scope.{parts}
 use Rattle.cl_rules.specs.Faults.{type_rules}
 use Rattle.cl_rules.specs.NativeTypes.{Ruled}
-use Rattle.cl_rules.specs.Context.{Bound as Weight, charge, both}
+use Rattle.cl_rules.specs.Bills.{Bill, Charge, Both, cost_under}
 use Rattle.cl_rules.specs.Verdicts.{Found, types_of, highest, sum_of, concluded}
 use Rattle.cl_rules.specs.Shapes.{parts as all_parts, first_named, is_no_name}
 use Rattle.cl_expression_sound.specs.Fitted.{Fitted, Follows}
@@ -49,10 +49,10 @@ named_first P find es h a e = absurd cc
 
 module _ (K : World) where
   -- a charge at no more than a number
-  pub charged_low : {P T : Val → Type 0} (name : CostName) (m n : ℕ) (a : Answer Val) → m ≤ n → IsSound K P T zero_cost a → IsSound K P T (charge name n K.costs) (charged name m a)
+  pub charged_low : {P T : Val → Type 0} (name : CostName) (m n : ℕ) (a : Answer Val) → m ≤ n → IsSound K P T zero_cost a → IsSound K P T (cost_under K.costs (Charge name n)) (charged name m a)
   charged_low name m n a low h =
-      sound_more K (plus (charge name m K.costs) zero_cost) (charge name n K.costs) _
-      (at_most (plus (charge name m K.costs) zero_cost) (charge name m K.costs) (charge name n K.costs) (and_nothing (charge name m K.costs)) (less_charged K.costs name m n low))
+      sound_more K (plus (cost_under K.costs (Charge name m)) zero_cost) (cost_under K.costs (Charge name n)) _
+      (at_most (plus (cost_under K.costs (Charge name m)) zero_cost) (cost_under K.costs (Charge name m)) (cost_under K.costs (Charge name n)) (and_nothing (cost_under K.costs (Charge name m))) (less_charged K.costs name m n low))
       (sound_charged K name m zero_cost a h)
 
   pub computed_sound : {T : Val → Type 0} (t : PlainType) (c : Computed) (s : State) → IsComputed t c → IsKept K s → IsSound K (λ v. IsOf v t) T zero_cost (stop (outcome_of c) s)
@@ -60,15 +60,15 @@ module _ (K : World) where
 
 module _ (K : World) (N : Stands K) where
   -- all parts are taken, and then something more is done with their values
-  pub strict_sound : (es : List Tree) (fs : List Found) (r : Ruled) (h : ℕ) (own : Weight) (go_on : List Val → State → Answer Val) → Follows N.context (all_parts N.names es) fs → type_rules (concluded r h (both own (sum_of fs)) fs).faults ≡ [] → highest fs ≤ N.depth → ((vs : List Val) (t : State) → AreOf vs (types_of fs) → IsKept K t → IsSound K (λ v. IsOf v r.type) (MayThrow fs r.throws) (own K.costs) (go_on vs t)) → (s : State) → IsKept K s → IsAsFound K (concluded r h (both own (sum_of fs)) fs).found (and_then (parts N.take (here K N) es s) go_on)
+  pub strict_sound : (es : List Tree) (fs : List Found) (r : Ruled) (h : ℕ) (own : Bill) (go_on : List Val → State → Answer Val) → Follows N.context (all_parts N.names es) fs → type_rules (concluded r h (Both own (sum_of fs)) fs).faults ≡ [] → highest fs ≤ N.depth → ((vs : List Val) (t : State) → AreOf vs (types_of fs) → IsKept K t → IsSound K (λ v. IsOf v r.type) (MayThrow fs r.throws) (cost_under K.costs own) (go_on vs t)) → (s : State) → IsKept K s → IsAsFound K (concluded r h (Both own (sum_of fs)) fs).found (and_then (parts N.take (here K N) es s) go_on)
   strict_sound es fs r h own go_on follows types low next s n =
-      concluded_sound K N r h (both own (sum_of fs)) fs _ types
-      (sound_more K (plus (sum_of fs K.costs) (own K.costs)) (plus (own K.costs) (sum_of fs K.costs)) _ (charged_behind (sum_of fs K.costs) (own K.costs))
-      (sound_then K (sum_of fs K.costs) (own K.costs) _ _ (sound_less K (sum_of fs K.costs) _ (λ v k. k) (λ v k. inl k) (parts_sound K N es fs follows low s n)) next))
+      concluded_sound K N r h (Both own (sum_of fs)) fs _ types
+      (sound_more K (plus (cost_under K.costs (sum_of fs)) (cost_under K.costs own)) (plus (cost_under K.costs own) (cost_under K.costs (sum_of fs))) _ (charged_behind (cost_under K.costs (sum_of fs)) (cost_under K.costs own))
+      (sound_then K (cost_under K.costs (sum_of fs)) (cost_under K.costs own) _ _ (sound_less K (cost_under K.costs (sum_of fs)) _ (λ v k. k) (λ v k. inl k) (parts_sound K N es fs follows low s n)) next))
 
   -- one part is taken, and then something more is done with its value
-  pub single_sound : (e : Tree) (f : Found) (r : Ruled) (h : ℕ) (own : Weight) (go_on : Val → State → Answer Val) → Fitted N.context N.names e f → type_rules (concluded r h (both own (sum_of (f ∷ []))) (f ∷ [])).faults ≡ [] → f.height ≤ N.depth → ((v : Val) (t : State) → IsOf v f.type → IsKept K t → IsSound K (λ v. IsOf v r.type) (MayThrow (f ∷ []) r.throws) (own K.costs) (go_on v t)) → (s : State) → IsKept K s → IsAsFound K (concluded r h (both own (sum_of (f ∷ []))) (f ∷ [])).found (and_then (N.take (here K N) e s) go_on)
+  pub single_sound : (e : Tree) (f : Found) (r : Ruled) (h : ℕ) (own : Bill) (go_on : Val → State → Answer Val) → Fitted N.context N.names e f → type_rules (concluded r h (Both own (sum_of (f ∷ []))) (f ∷ [])).faults ≡ [] → f.height ≤ N.depth → ((v : Val) (t : State) → IsOf v f.type → IsKept K t → IsSound K (λ v. IsOf v r.type) (MayThrow (f ∷ []) r.throws) (cost_under K.costs own) (go_on v t)) → (s : State) → IsKept K s → IsAsFound K (concluded r h (Both own (sum_of (f ∷ []))) (f ∷ [])).found (and_then (N.take (here K N) e s) go_on)
   single_sound e f r h own go_on t types low next s n =
-      concluded_sound K N r h (both own (sum_of (f ∷ []))) (f ∷ []) _ types
-      (sound_more K (plus (f.bound K.costs) (own K.costs)) (plus (own K.costs) (plus (f.bound K.costs) zero_cost)) _ (one_behind (f.bound K.costs) (own K.costs))
-      (sound_then K (f.bound K.costs) (own K.costs) _ _ (part_sound K N e f t low (λ v k. inl (inl k)) s n) next))
+      concluded_sound K N r h (Both own (sum_of (f ∷ []))) (f ∷ []) _ types
+      (sound_more K (plus (cost_under K.costs f.bound) (cost_under K.costs own)) (plus (cost_under K.costs own) (plus (cost_under K.costs f.bound) zero_cost)) _ (one_behind (cost_under K.costs f.bound) (cost_under K.costs own))
+      (sound_then K (cost_under K.costs f.bound) (cost_under K.costs own) _ _ (part_sound K N e f t low (λ v k. inl (inl k)) s n) next))

@@ -9,7 +9,7 @@ use Rattle.cl_values.specs.Tree.{Tree as Val}
 use Rattle.cl_values.proofs.Admitted.{no_inhabitant}
 use Rattle.cl_rules.specs.Faults.{type_rules}
 use Rattle.cl_rules.specs.NativeTypes.{Ruled}
-use Rattle.cl_rules.specs.Context.{Bound}
+use Rattle.cl_rules.specs.Bills.{Bill}
 use Rattle.cl_rules.specs.Verdicts.{Found, Thrown, and_throws, thrown_after, thrown_by, concluded}
 use Rattle.cl_expression_sound.specs.Sound.{IsThrown}
 use Rattle.cl_expression_sound.proofs.Rules.{AreFineTypes, fine_types, no_type_rules, or_left, or_right}
@@ -81,7 +81,7 @@ among (f ∷ fs) own v (inr k) = inr (among fs own v (inr k))
 
 -- ---- verdicts
 
-pub thrown_covered : (r : Ruled) (n : ℕ) (b : Bound) (fs : List Found) → type_rules (concluded r n b fs).faults ≡ [] → (v : Val) → MayThrow fs r.throws v → IsThrown (concluded r n b fs).found.thrown v
+pub thrown_covered : (r : Ruled) (n : ℕ) (b : Bill) (fs : List Found) → type_rules (concluded r n b fs).faults ≡ [] → (v : Val) → MayThrow fs r.throws v → IsThrown (concluded r n b fs).found.thrown v
 thrown_covered r n b fs h v k =
     let e = fine_types (concluded r n b fs).faults h in
     covered None (map (λ (f : Found). f.thrown) fs ++ r.throws ∷ []) v
@@ -89,7 +89,7 @@ thrown_covered r n b fs h v k =
     (inr (among fs r.throws v k))
 
 -- and the ruling breaks nothing by itself
-pub ruling_fine : (r : Ruled) (n : ℕ) (b : Bound) (fs : List Found) → type_rules (concluded r n b fs).faults ≡ [] → AreFineTypes r.faults
+pub ruling_fine : (r : Ruled) (n : ℕ) (b : Bill) (fs : List Found) → type_rules (concluded r n b fs).faults ≡ [] → AreFineTypes r.faults
 ruling_fine r n b fs h =
     let e = fine_types (concluded r n b fs).faults h in
     record {
@@ -103,5 +103,5 @@ ruling_fine r n b fs h =
       no_such_key = e.no_such_key;
     }
 
-pub ruling_unbroken : (r : Ruled) (n : ℕ) (b : Bound) (fs : List Found) → type_rules (concluded r n b fs).faults ≡ [] → type_rules r.faults ≡ []
+pub ruling_unbroken : (r : Ruled) (n : ℕ) (b : Bill) (fs : List Found) → type_rules (concluded r n b fs).faults ≡ [] → type_rules r.faults ≡ []
 ruling_unbroken r n b fs h = no_type_rules r.faults (ruling_fine r n b fs h)

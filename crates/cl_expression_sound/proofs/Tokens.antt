@@ -27,7 +27,8 @@ use Rattle.cl_meaning.specs.Tokens.{balance_in, ft_balance_form, ft_supply_form,
 use Rattle.cl_meaning.specs.Kept.{IsHolder}
 use Rattle.cl_rules.specs.Faults.{type_rules}
 use Rattle.cl_rules.specs.NativeTypes.{Ruled, fine, one}
-use Rattle.cl_rules.specs.Context.{named_in, same, charge, both}
+use Rattle.cl_rules.specs.Bills.{Charge, Both}
+use Rattle.cl_rules.specs.Context.{named_in, same}
 use Rattle.cl_rules.specs.Verdicts.{Found, Verdict, types_of, sizes_of, highest, sum_of, summed}
 use Rattle.cl_rules.specs.Shapes.{parts as all_parts, Wanted, AUint, APrincipal, Admitted, stated, evaluated, there_or_not, is_no_such, named_faults, named_shape}
 use Rattle.cl_rules.specs.DataShapes.{if_fungible, act_answer}
@@ -97,14 +98,14 @@ module _ (K : World) (N : Stands K) where
       (answered_sound (acted_by N.frame.sender N.frame.contract a.kind s) s (subst (λ p. IsActed K (acted_by N.frame.sender p a.kind s)) (sym N.framed.home) (N.world.acts N.context N.good N.frame.sender a.kind a.fits s n)) n)
 
   -- an act on values of stated types
-  act_each : (native : TokenNative) (token : List ℕ) (ws : List Wanted) → ((vs : List Val) → AreWantedValues ws vs → IsActOf K N native token vs) → (es : List Tree) (fs : List Found) → Follows N.context (all_parts N.names es) fs → type_rules (summed (stated ws (fine act_answer) (types_of fs)) (charge WriteToken (sizes_of (types_of fs))) fs).faults ≡ [] → (summed (stated ws (fine act_answer) (types_of fs)) (charge WriteToken (sizes_of (types_of fs))) fs).found.height ≤ suc N.depth → (s : State) → IsKept K s → IsAsFound K (summed (stated ws (fine act_answer) (types_of fs)) (charge WriteToken (sizes_of (types_of fs))) fs).found (act_form native token N.take (here K N) es s)
+  act_each : (native : TokenNative) (token : List ℕ) (ws : List Wanted) → ((vs : List Val) → AreWantedValues ws vs → IsActOf K N native token vs) → (es : List Tree) (fs : List Found) → Follows N.context (all_parts N.names es) fs → type_rules (summed (stated ws (fine act_answer) (types_of fs)) (Charge WriteToken (sizes_of (types_of fs))) fs).faults ≡ [] → (summed (stated ws (fine act_answer) (types_of fs)) (Charge WriteToken (sizes_of (types_of fs))) fs).found.height ≤ suc N.depth → (s : State) → IsKept K s → IsAsFound K (summed (stated ws (fine act_answer) (types_of fs)) (Charge WriteToken (sizes_of (types_of fs))) fs).found (act_form native token N.take (here K N) es s)
   act_each native token ws act es fs follows types low s n =
       let r : Ruled = stated ws (fine act_answer) (types_of fs) in
-      let own = charge WriteToken (sizes_of (types_of fs)) in
+      let own = Charge WriteToken (sizes_of (types_of fs)) in
       let low_fs : highest fs ≤ N.depth = omega (arith, low) in
       strict_sound K N es fs r 0 own _ follows types low_fs
       (λ vs u i k. charged_low K WriteToken (sizes vs) (sizes_of (types_of fs)) _ (sizes_within (types_of fs) vs i)
-      (acts_sound native token vs u (act vs (stated_values ws (fine act_answer) (types_of fs) vs (ruling_fine r 0 (both own (sum_of fs)) fs types) i)) k)) s n
+      (acts_sound native token vs u (act vs (stated_values ws (fine act_answer) (types_of fs) vs (ruling_fine r 0 (Both own (sum_of fs)) fs types) i)) k)) s n
 
   -- ---- names of tokens
 
@@ -198,11 +199,11 @@ module _ (K : World) (N : Stands K) where
   unfolding ft_balance_form
   ft_balance_each x at h e _ (part {f = f} te ends) types low s n =
       let r : Ruled = stated (APrincipal ∷ []) (fine UintType) (f.type ∷ []) in
-      let own = charge ReadToken (sizes_of (f.type ∷ [])) in
+      let own = Charge ReadToken (sizes_of (f.type ∷ [])) in
       let low_f : f.height ≤ N.depth = omega (arith, low) in
       single_sound K N e f r 0 own _ te types low_f
       (λ v u i m.
-      let wanted = stated_values (APrincipal ∷ []) (fine UintType) (f.type ∷ []) (v ∷ []) (ruling_fine r 0 (both own (sum_of (f ∷ []))) (f ∷ []) types) (i, tt) in
+      let wanted = stated_values (APrincipal ∷ []) (fine UintType) (f.type ∷ []) (v ∷ []) (ruling_fine r 0 (Both own (sum_of (f ∷ []))) (f ∷ []) types) (i, tt) in
       let l = ledger_there x h u m in
       charged_low K ReadToken (size_of v) (sizes_of (f.type ∷ [])) _ (one_low f.type v i)
       (sound_known K zero_cost _ l.ledger (balance_in v) u l.there (balance_sound v l.ledger u wanted.0 l.uints m))) s n
@@ -230,7 +231,7 @@ module _ (K : World) (N : Stands K) where
   ft_supply_each x at h _ ends types s n =
       let r : Ruled = stated [] (fine UintType) [] in
       let l = ledger_there x h s n in
-      concluded_sound K N r 0 (both (charge ReadToken 0) (sum_of [])) [] _ types
+      concluded_sound K N r 0 (Both (Charge ReadToken 0) (sum_of [])) [] _ types
       (sound_charged K ReadToken 0 zero_cost _
       (sound_known K zero_cost _ l.ledger _ s l.there
       (sound_stop K (λ v. IsOf v UintType) (MayThrow [] None) zero_cost (Given (UintV l.ledger.supply)) s (uint_typed l.ledger.supply l.uints.supply) n)))
@@ -253,11 +254,11 @@ module _ (K : World) (N : Stands K) where
   unfolding stx_balance_form
   stx_each e _ (part {f = f} te ends) types low s n =
       let r : Ruled = stated (APrincipal ∷ []) (fine UintType) (f.type ∷ []) in
-      let own = charge ReadToken (sizes_of (f.type ∷ [])) in
+      let own = Charge ReadToken (sizes_of (f.type ∷ [])) in
       let low_f : f.height ≤ N.depth = omega (arith, low) in
       single_sound K N e f r 0 own _ te types low_f
       (λ v u i m.
-      let wanted = stated_values (APrincipal ∷ []) (fine UintType) (f.type ∷ []) (v ∷ []) (ruling_fine r 0 (both own (sum_of (f ∷ []))) (f ∷ []) types) (i, tt) in
+      let wanted = stated_values (APrincipal ∷ []) (fine UintType) (f.type ∷ []) (v ∷ []) (ruling_fine r 0 (Both own (sum_of (f ∷ []))) (f ∷ []) types) (i, tt) in
       charged_low K ReadToken (size_of v) (sizes_of (f.type ∷ [])) _ (one_low f.type v i) (balance_sound v u.stx u wanted.0 (N.world.stx u m) m)) s n
 
   pub stx_balance_sound : (es : List Tree) → IsSoundShape K N (head_shape StxBalance (row_of StxBalance) N.context N.names es) (stx_balance_form N.take (here K N) es)
@@ -279,7 +280,7 @@ module _ (K : World) (N : Stands K) where
   unfolding nft_owner_form
   owner_each x at t h e _ (part {f = f} te ends) types low s n =
       let r : Ruled = stated (Admitted t ∷ []) (fine (OptionalType PrincipalType)) (f.type ∷ []) in
-      let own = charge ReadToken (sizes_of (f.type ∷ [])) in
+      let own = Charge ReadToken (sizes_of (f.type ∷ [])) in
       let low_f : f.height ≤ N.depth = omega (arith, low) in
       single_sound K N e f r 0 own _ te types low_f
       (λ v u i m.
@@ -310,7 +311,7 @@ module _ (K : World) (N : Stands K) where
   print_each : (e : Tree) (fs : List Found) → Follows N.context (all_parts N.names (e ∷ [])) fs → type_rules (evaluated (row_of Print) (one fine) fs).faults ≡ [] → (evaluated (row_of Print) (one fine) fs).found.height ≤ suc N.depth → (s : State) → IsKept K s → IsAsFound K (evaluated (row_of Print) (one fine) fs).found (print_form N.take (here K N) (e ∷ []) s)
   unfolding print_form
   print_each e _ (part {f = f} te ends) types low s n =
-      let own = charge EventCost (sizes_of (f.type ∷ [])) in
+      let own = Charge EventCost (sizes_of (f.type ∷ [])) in
       let low_f : f.height ≤ N.depth = omega (arith, low) in
       single_sound K N e f (fine f.type) 0 own _ te types low_f
       (λ v u i m. charged_low K EventCost (size_of v) (sizes_of (f.type ∷ [])) _ (one_low f.type v i)

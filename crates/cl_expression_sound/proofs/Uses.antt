@@ -17,6 +17,7 @@ use Rattle.cl_meaning.specs.Scope.{Callee, OwnFunction, ByName}
 use Rattle.cl_meaning.specs.Sequences.{own, by_row, callee_of, each, kept_if, sifted, folded}
 use Rattle.cl_rules.specs.Faults.{type_rules, sound_shape}
 use Rattle.cl_rules.specs.NativeTypes.{Ruled, or_broken, and_ruled, undetermined}
+use Rattle.cl_rules.specs.Bills.{cost_under}
 use Rattle.cl_rules.specs.Context.{Signature, signature_in}
 use Rattle.cl_rules.specs.Verdicts.{Found, Verdict}
 use Rattle.cl_rules.specs.Shapes.{parts as all_parts, is_miscounted, there_or_not, is_no_such, at_first}
@@ -48,7 +49,7 @@ module _ (K : World) (N : Stands K) where
     pub callee : Callee
     pub there : o ≡ Some callee
     pub named : IsByName u
-    pub sound : (ts : List PlainType) (vs : List Val) → takes_values u (length ts) ≡ true → AreOf vs ts → type_rules (use_row u ts).faults ≡ [] → use_height u ≤ N.depth → (s : State) → IsKept K s → IsSound K (λ v. IsOf v (use_row u ts).type) NoThrow (use_bound u ts K.costs) (N.enter (here K N) callee vs s)
+    pub sound : (ts : List PlainType) (vs : List Val) → takes_values u (length ts) ≡ true → AreOf vs ts → type_rules (use_row u ts).faults ≡ [] → use_height u ≤ N.depth → (s : State) → IsKept K s → IsSound K (λ v. IsOf v (use_row u ts).type) NoThrow (cost_under K.costs (use_bound u ts)) (N.enter (here K N) callee vs s)
 
   native_used : (x : List ℕ) (at : Span) (row : Row) (b : Bool) (u : Usable) → native x ≡ Some row → row.by_name ≡ b → (if b then Some (ANative row) else None) ≡ Some u → IsUsed u (if b then Some (ByName row at) else None)
   native_used x at row true u is by_name h = subst (λ u. IsUsed u (Some (ByName row at))) (same_usable (ANative row) u h) (record {

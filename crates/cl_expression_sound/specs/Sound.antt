@@ -24,7 +24,8 @@ use Rattle.cl_meaning.specs.Scope.{Frame, BoundValues, Scope, OwnFunction, ByNam
 use Rattle.cl_meaning.specs.Limits.{cost}
 use Rattle.cl_meaning.specs.Kept.{IsHolder, Stage, Kept}
 use Rattle.cl_rules.specs.Faults.{type_rules, form_rules}
-use Rattle.cl_rules.specs.Context.{CostTable, charge, Names, Context, Signature, Known, same, named_in, signature_in, if_callable, target_at}
+use Rattle.cl_rules.specs.Bills.{Charge, cost_under}
+use Rattle.cl_rules.specs.Context.{CostTable, Names, Context, Signature, Known, same, named_in, signature_in, if_callable, target_at}
 use Rattle.cl_rules.specs.Verdicts.{Found, number_at}
 use Rattle.cl_rules.specs.CallShapes.{by_name_row}
 use Rattle.cl_forms.specs.Heads.{Row, takes, row_of}
@@ -72,7 +73,7 @@ pub record IsSound (K : World) {A : Type 0} (Expected : A → Type 0) (Throws : 
 
 -- an answer is as was found of its expression
 abbrev pub IsAsFound : World → Found → Answer Val → Type 0
-IsAsFound K f a = IsSound K (λ v. IsOf v f.type) (IsThrown f.thrown) (f.bound K.costs) a
+IsAsFound K f a = IsSound K (λ v. IsOf v f.type) (IsThrown f.thrown) (cost_under K.costs f.bound) a
 
 -- ---- scopes
 
@@ -125,12 +126,12 @@ pub record EntersSound (K : World) (enter : Enter) (depth : ℕ) : Type 0 where
   pub each :
       (G : Context) (g : Signature) (fn : Function) → IsServed K G.principal g fn → (F : Frame) → IsFrame G F → (E : BoundValues) → g.height ≤ depth →
       (vs : List Val) → AreOf vs (types_of_params g) →
-      (s : State) → IsKept K s → IsSound K (λ v. IsOf v g.returns) NoThrow (g.bound K.costs) (enter (scope K F E) (OwnFunction fn) vs s)
+      (s : State) → IsKept K s → IsSound K (λ v. IsOf v g.returns) NoThrow (cost_under K.costs g.bound) (enter (scope K F E) (OwnFunction fn) vs s)
   -- and of a native that can be given by name
   pub natives :
       1 ≤ depth → (row : Row) → row ≡ row_of row.head → row.by_name ≡ true → (at : Span) (F : Frame) (E : BoundValues) (ts : List PlainType) (vs : List Val) →
       takes row.arity (length ts) ≡ true → AreOf vs ts → type_rules (by_name_row row.head ts).faults ≡ [] →
-      (s : State) → IsKept K s → IsSound K (λ v. IsOf v (by_name_row row.head ts).type) NoThrow (charge row.cost (number_at row.cost ts) K.costs) (enter (scope K F E) (ByName row at) vs s)
+      (s : State) → IsKept K s → IsSound K (λ v. IsOf v (by_name_row row.head ts).type) NoThrow (cost_under K.costs (Charge row.cost (number_at row.cost ts))) (enter (scope K F E) (ByName row at) vs s)
 
 -- ---- what is needed of a world
 

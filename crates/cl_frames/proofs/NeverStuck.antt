@@ -14,6 +14,7 @@ use Rattle.cl_values.specs.Valid.{IsPrincipal}
 use Rattle.cl_forms.specs.Order.{ordered}
 use Rattle.cl_events.specs.State.{State}
 use Rattle.cl_rules.specs.Acceptance.{known_of}
+use Rattle.cl_rules.specs.Bills.{cost_under}
 use Rattle.cl_rules.specs.Context.{Known, Signature, known_at, signature_in}
 use Rattle.cl_meaning.specs.Answers.{with_known}
 use Rattle.cl_meaning.specs.Deployed.{Contract, Deployed, Function, contract_at, function_in, function_of}
@@ -64,7 +65,7 @@ module _ (sound : FunctionsAreSound) (limits : LimitsLeaveSound) (W : Deployed) 
       let fitting : AreOf vs (types_of_params g) = subst (λ (ps : List (List ℕ × PlainType)). AreOf vs (map (λ (param : List ℕ × PlainType). param.1) ps)) params call.fitting in
       let answer = f.sound F refl valid.sender valid.caller valid.height vs fitting s kept in
       subst (λ (o : Option Function). IsFineUnder (λ v. IsOf v g.returns) (Kept W Whole) (limited table p (with_known o (λ h. call_from W F h vs) s))) (sym f.there)
-      (limits table W g.returns (g.bound table) (call_from W F f.function vs s) answer table p)
+      (limits table W g.returns (cost_under table g.bound) (call_from W F f.function vs s) answer table p)
 
   -- what is spent of it
   pub call_spends : CallsSpendWithin → IsKeptWorld W s → (after : Purse) → ((most : Cost5) → IsAtMost (spent_in left) most → IsAtMost p.spent most → IsAtMost after.spent most) → SpendsWithin table W F.contract x p after
@@ -74,11 +75,11 @@ module _ (sound : FunctionsAreSound) (limits : LimitsLeaveSound) (W : Deployed) 
       let params : call.function.params ≡ g.params = ap (λ (h : Function). h.params) (sym same) ∙ f.params in
       let fitting : AreOf vs (types_of_params g) = subst (λ (ps : List (List ℕ × PlainType)). AreOf vs (map (λ (param : List ℕ × PlainType). param.1) ps)) params call.fitting in
       let answer = f.sound F refl valid.sender valid.caller valid.height vs fitting s world.node.kept in
-      let most : Cost5 = plus p.spent (g.bound table) in
+      let most : Cost5 = plus p.spent (cost_under table g.bound) in
       low most
       (subst (λ (o : Option Function). IsAtMost (spent_in (limited table p (with_known o (λ h. call_from W F h vs) s))) most) (sym f.there)
-      (spend table W g.returns (g.bound table) (call_from W F f.function vs s) answer p))
-      (and_more p.spent p.spent (g.bound table) (same_cost p.spent))
+      (spend table W g.returns (cost_under table g.bound) (call_from W F f.function vs s) answer p))
+      (and_more p.spent p.spent (cost_under table g.bound) (same_cost p.spent))
 
   found_in : (o : Option Contract) → function_of x o ≡ Some call.function → (c : Contract) × (o ≡ Some c) × (function_in x c.forms ≡ Some call.function)
   found_in None e = absurd cc
@@ -124,20 +125,20 @@ module _ (sound : TextsAreSound) (limits : LimitsLeaveDeployments) (W : Deployed
   pub deployment_fine : IsFineEndUnder Node left_deployed
   deployment_fine =
       subst (λ (d : Contract). IsFineEndUnder Node (limited table p (deployment W F d s))) (sym same_contract)
-      (limits a.costs table W (a.known ++ known_of c.principal (length a.text) a.accepted.defined ∷ []) (a.accepted.defined.deploy table) (deployment W F (of_text c.principal a.text a.accepted.forms) s)
+      (limits a.costs table W (a.known ++ known_of c.principal (length a.text) a.accepted.defined ∷ []) (cost_under table a.accepted.defined.deploy) (deployment W F (of_text c.principal a.text a.accepted.forms) s)
       (sound a.costs W a.known s a.node c.principal (subst IsPrincipal (sym home) valid.contract) a.new a.text a.accepted table F (sym home) valid.sender valid.caller valid.height)
       table p)
 
   -- what is spent of it
-  pub deployment_spends : DeploymentsSpendWithin → (after : Purse) → ((most : Cost5) → IsAtMost (spent_in left_deployed) most → IsAtMost p.spent most → IsAtMost after.spent most) → IsAtMost after.spent (plus p.spent (a.accepted.defined.deploy table))
+  pub deployment_spends : DeploymentsSpendWithin → (after : Purse) → ((most : Cost5) → IsAtMost (spent_in left_deployed) most → IsAtMost p.spent most → IsAtMost after.spent most) → IsAtMost after.spent (plus p.spent (cost_under table a.accepted.defined.deploy))
   deployment_spends spend after low =
-      let most : Cost5 = plus p.spent (a.accepted.defined.deploy table) in
+      let most : Cost5 = plus p.spent (cost_under table a.accepted.defined.deploy) in
       low most
       (subst (λ (d : Contract). IsAtMost (spent_in (limited table p (deployment W F d s))) most) (sym same_contract)
-      (spend a.costs table W (a.known ++ known_of c.principal (length a.text) a.accepted.defined ∷ []) (a.accepted.defined.deploy table) (deployment W F (of_text c.principal a.text a.accepted.forms) s)
+      (spend a.costs table W (a.known ++ known_of c.principal (length a.text) a.accepted.defined ∷ []) (cost_under table a.accepted.defined.deploy) (deployment W F (of_text c.principal a.text a.accepted.forms) s)
       (sound a.costs W a.known s a.node c.principal (subst IsPrincipal (sym home) valid.contract) a.new a.text a.accepted table F (sym home) valid.sender valid.caller valid.height)
       p))
-      (and_more p.spent p.spent (a.accepted.defined.deploy table) (same_cost p.spent))
+      (and_more p.spent p.spent (cost_under table a.accepted.defined.deploy) (same_cost p.spent))
 
   -- the state that it leaves is kept with the contract
   pub deployment_keeps : (d : Contract) (after : State) (q : Purse) → left_deployed ≡ Gave d after q → IsKeptWorld (d ∷ W) after

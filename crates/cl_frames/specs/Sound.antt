@@ -8,6 +8,7 @@ use Rattle.cl_values.specs.Tree.{Tree as Val}
 use Rattle.cl_values.specs.Typed.{IsOf, AreOf}
 use Rattle.cl_events.specs.State.{State}
 use Rattle.cl_rules.specs.Acceptance.{Accepted}
+use Rattle.cl_rules.specs.Bills.{cost_under}
 use Rattle.cl_rules.specs.Context.{CostTable, Known, Signature, known_at, signature_in}
 use Rattle.cl_meaning.specs.Deployed.{Deployed, Function, contract_at, function_of}
 use Rattle.cl_contracts.specs.declared.checked.Checked.{Checked}
@@ -39,7 +40,7 @@ IsReturnOf W p x v =
 abbrev pub SpendsWithin : CostTable → Deployed → Principal → List ℕ → Purse → Purse → Type 0
 SpendsWithin table W p x before after =
     (costs : CostTable) (known : List Known) → AreContracts costs W known →
-    (k : Known) → known_at p known ≡ Some k → (g : Signature) → signature_in x k.functions ≡ Some g → IsAtMost after.spent (plus before.spent (g.bound table))
+    (k : Known) → known_at p known ≡ Some k → (g : Signature) → signature_in x k.functions ≡ Some g → IsAtMost after.spent (plus before.spent (cost_under table g.bound))
 
 -- ---- deployments
 
@@ -58,4 +59,4 @@ pub record IsAcceptedAfter (W : Deployed) (s : State) (c : Checked) : Type 0 whe
 
 -- what is spent of a purse is at most what was spent before and the bound of the deployment
 abbrev pub DeploySpendsWithin : CostTable → Deployed → State → Checked → Purse → Purse → Type 0
-DeploySpendsWithin table W s c before after = (a : IsAcceptedAfter W s c) → IsAtMost after.spent (plus before.spent (a.accepted.defined.deploy table))
+DeploySpendsWithin table W s c before after = (a : IsAcceptedAfter W s c) → IsAtMost after.spent (plus before.spent (cost_under table a.accepted.defined.deploy))

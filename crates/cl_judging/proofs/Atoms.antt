@@ -13,7 +13,8 @@ use Rattle.cl_sexpr.specs.declared.sexpr.Node.{Node}
 use Rattle.cl_sexpr.specs.View.{tree_of}
 use Rattle.cl_sexpr.specs.Tree.{Tree, LeafAt, Leaf, Named, span_of, tree_depth}
 use Rattle.cl_rules.specs.NativeTypes.{Ruled, fine}
-use Rattle.cl_rules.specs.Context.{Names, Context, keyword_type, named_in, is_no_value, charge, both}
+use Rattle.cl_rules.specs.Bills.{Charge, Both}
+use Rattle.cl_rules.specs.Context.{Names, Context, keyword_type, named_in, is_no_value}
 use Rattle.cl_rules.specs.Verdicts.{sum_of}
 use Rattle.cl_rules.specs.Shapes.{Shape, value_shape}
 use Rattle.cl_rules.specs.ControlShapes.{leaf_shape, keyword_or, value_or, no_value_shape}
@@ -35,7 +36,7 @@ use Rattle.cl_judging.proofs.Contexts.{no_value_is}
 use Rattle.cl_judging.proofs.Finishing.{finish_holds}
 
 pub value_found : (ruled : Result PlainType (Fault Rule)) (concluded : Result Concluded (Fault Rule)) (at : Span) (result : Result Checked (Fault Break)) → ConcludesAs ruled None 0 [] concluded → Finishes [] concluded at result → ValueAs ruled at result
-value_found ruled concluded at result k f R G name judge ru = f G judge (value_shape name R) [] refl refl refl tt (k R (both (charge name (size_of R.type)) (sum_of [])) [] ru refl)
+value_found ruled concluded at result k f R G name judge ru = f G judge (value_shape name R) [] refl refl refl tt (k R (Both (Charge name (size_of R.type)) (sum_of [])) [] ru refl)
 
 pub fine_found : (t : PlainType) (at : Span) (result : Result Checked (Fault Break)) → ValueAs (Ok t) at result → FineAs t at result
 fine_found t at result v G name judge = v (fine t) G name judge (refl, refl, refl)

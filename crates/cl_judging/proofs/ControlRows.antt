@@ -10,9 +10,9 @@ use Rattle.cl_sexpr.specs.declared.rule.Rule.{Rule}
 use Rattle.cl_sexpr.specs.declared.rule.Rule.TheVariants.{ArgumentKind}
 use Rattle.cl_rules.specs.NativeTypes.{Ruled, fine, if_kind, and_lub, lubbed, one, two}
 use Rattle.cl_types.specs.TypeKinds.{is_bool}
-use Rattle.cl_rules.specs.Context.{Bound, both, free, charge}
+use Rattle.cl_rules.specs.Bills.{Bill, Free, Charge, Both, Greater}
 use Rattle.cl_rules.specs.Verdicts.{Found, Verdict, types_of, sum_of, concluded}
-use Rattle.cl_rules.specs.ControlShapes.{throwing, if_verdict, either}
+use Rattle.cl_rules.specs.ControlShapes.{throwing, if_verdict}
 use Rattle.cl_code.specs.declared.op.PartsNative.{PartsNative}
 use Rattle.cl_code.specs.declared.op.PartsNative.TheVariants.{If, Begin, And, Or, Asserts, Unwrap, UnwrapErr, Try, AsContract, Print, StxBalance, SendStx, BurnStx}
 use Rattle.cl_typing.specs.declared.concluding.Checked.{Checked}
@@ -65,16 +65,16 @@ throwing_else row (t ∷ u ∷ v ∷ ts) r h k = k
 
 -- ---- verdicts
 
-if_is : (own : Bound) (fs : List Found) → (bound : Bound) × (if_verdict own fs ≡ concluded (if_row (types_of fs)) 0 bound fs)
-if_is own [] = (both free (sum_of []), refl)
-if_is own (f ∷ []) = (both free (sum_of (f ∷ [])), refl)
-if_is own (f ∷ g ∷ []) = (both free (sum_of (f ∷ g ∷ [])), refl)
-if_is own (f ∷ g ∷ h ∷ []) = (both own (both f.bound (either g.bound h.bound)), refl)
-if_is own (f ∷ g ∷ h ∷ i ∷ fs) = (both free (sum_of (f ∷ g ∷ h ∷ i ∷ fs)), refl)
+if_is : (own : Bill) (fs : List Found) → (bound : Bill) × (if_verdict own fs ≡ concluded (if_row (types_of fs)) 0 bound fs)
+if_is own [] = (Both Free (sum_of []), refl)
+if_is own (f ∷ []) = (Both Free (sum_of (f ∷ [])), refl)
+if_is own (f ∷ g ∷ []) = (Both Free (sum_of (f ∷ g ∷ [])), refl)
+if_is own (f ∷ g ∷ h ∷ []) = (Both own (Both f.bound (Greater g.bound h.bound)), refl)
+if_is own (f ∷ g ∷ h ∷ i ∷ fs) = (Both Free (sum_of (f ∷ g ∷ h ∷ i ∷ fs)), refl)
 
 pub parts_judged : (n : PartsNative) (cs : List Checked) (ruled : Result PlainType (Fault Rule)) (result : Result Concluded (Fault Rule)) → RulesWith (own_of n (types_at cs)) (parts_row n (types_at cs)) ruled → ConcludesAs ruled (own_of n (types_at cs)) 0 cs result → Judges (Parts n) cs result
 parts_judged If cs ruled result h k row count fs same =
-    let by = if_is (charge row.cost count) fs in
+    let by = if_is (Charge row.cost count) fs in
     subst (λ (v : Verdict). Concludes v result) (sym by.1) (k (if_row (types_of fs)) by.0 fs (subst (λ (ts : List PlainType). Rules (if_row ts) ruled) (sym (types_seen fs cs same)) h) same)
 parts_judged Begin cs ruled result h k row count fs same = evaluated_by (parts_row Begin) (own_of Begin (types_at cs)) cs ruled result h k row fs same
 parts_judged And cs ruled result h k row count fs same = evaluated_by (parts_row And) (own_of And (types_at cs)) cs ruled result h k row fs same

@@ -13,7 +13,8 @@ use Rattle.cl_sexpr.specs.Tree.{Tree, ListAt, forest, forest_depth}
 use Rattle.cl_forms.specs.Heads.{Row}
 use Rattle.cl_rules.specs.Faults.{shape_rules, when}
 use Rattle.cl_rules.specs.NativeTypes.{of_kind}
-use Rattle.cl_rules.specs.Context.{Context, Names, Signature, both, named_in, signature_in}
+use Rattle.cl_rules.specs.Bills.{Both}
+use Rattle.cl_rules.specs.Context.{Context, Names, Signature, named_in, signature_in}
 use Rattle.cl_rules.specs.Verdicts.{Found, types_of, sum_of}
 use Rattle.cl_rules.specs.Shapes.{parts}
 use Rattle.cl_rules.specs.CallShapes.{all_admit, call_shape}
@@ -66,7 +67,7 @@ module _ (f : CodeSignature) (B : Names) (args : List Tree) where
   call_verdict cs concluded judges None h fs same_facts = absurd cc
   call_verdict cs concluded judges (Some g) h fs same_facts =
       let same : seen g ≡ shown f = cc in
-      subst (λ (s : Shown). ConcludesCall s (both g.bound (sum_of fs)) fs concluded) (sym same) (judges (both g.bound (sum_of fs)) fs same_facts)
+      subst (λ (s : Shown). ConcludesCall s (Both g.bound (sum_of fs)) fs concluded) (sym same) (judges (Both g.bound (sum_of fs)) fs same_facts)
 
   module _ (c : CodeContext) (x : List ℕ) (at : Span) (there : Some f ≡ named_in x c.functions.entries) where
     is_at : (G : Context) → Shows c G → Is (signature_in x G.functions)

@@ -18,7 +18,8 @@ use Rattle.cl_forms.specs.declared.head.Head.TheVariants.{Let}
 use Rattle.cl_forms.specs.Shapes.{binding_of, bindings_of, and_binding}
 use Rattle.cl_forms.proofs.Bindings.{trees_forest}
 use Rattle.cl_rules.specs.Faults.{shape_rules, when}
-use Rattle.cl_rules.specs.Context.{Context, Names, charge}
+use Rattle.cl_rules.specs.Bills.{Charge}
+use Rattle.cl_rules.specs.Context.{Context, Names}
 use Rattle.cl_rules.specs.Shapes.{Shape}
 use Rattle.cl_rules.specs.ControlShapes.{bound_name, let_with, let_shape}
 use Rattle.cl_rules.specs.Table.{head_shape}
@@ -64,7 +65,7 @@ module _ (c : CodeContext) (B : Names) (items body : List Tree) (at : Span) (som
     pub let_found : (S : Names) (v w : Vec Checked) (u : Unit {0}) (concluded : Result Concluded (Fault Rule)) (result : Result Checked (Fault Break)) → ChecksBindings c B S items (Ok v) → ChecksMore c S v.items w.items body (Ok u) → JudgesLet (length items) w.items concluded → Finishes w.items concluded at result → ChecksLetWith c B items body at result
     let_found S v w u concluded result h k judges fin r =
         parts_finish c (λ G. let_with r G B items body) at deep (plan_of body B items) (sound r) (λ G shows. refl) w concluded result
-        (walked_end c (plan_of body B items) deep w (k (plan_of body B items) deep (omega arith) (h body deep (omega arith)))) fin (λ G fs shows same. judges (charge r.cost (suc (length body))) fs same)
+        (walked_end c (plan_of body B items) deep w (k (plan_of body B items) deep (omega arith) (h body deep (omega arith)))) fin (λ G fs shows same. judges (Charge r.cost (suc (length body))) fs same)
 
 -- ---- the whole let
 

@@ -13,10 +13,11 @@ use Rattle.cl_sexpr.specs.Tree.{Tree, forest, forest_depth}
 use Rattle.cl_forms.specs.Heads.{row_of}
 use Rattle.cl_forms.specs.declared.head.Head.TheVariants.{Match}
 use Rattle.cl_rules.specs.Faults.{shape_rules, when}
-use Rattle.cl_rules.specs.Context.{Context, Names, Bound, bind, both, charge}
+use Rattle.cl_rules.specs.Bills.{Bill, Charge, Both, Greater}
+use Rattle.cl_rules.specs.Context.{Context, Names, bind}
 use Rattle.cl_rules.specs.Verdicts.{Found, Verdict, sum_of, concluded}
 use Rattle.cl_rules.specs.Shapes.{Shape, Plan, Ends, Part, Gives}
-use Rattle.cl_rules.specs.ControlShapes.{either, bound_branch, optional_plan, response_plan, optional_verdict, response_verdict, match_verdict, match_shape, is_shadowed, is_atom, atom_of}
+use Rattle.cl_rules.specs.ControlShapes.{bound_branch, optional_plan, response_plan, optional_verdict, response_verdict, match_verdict, match_shape, is_shadowed, is_atom, atom_of}
 use Rattle.cl_rules.specs.Table.{head_shape}
 use Rattle.cl_code.specs.declared.op.Word.{Word}
 use Rattle.cl_code.specs.Expression.{word, optional_branches, response_branches}
@@ -36,15 +37,15 @@ use Rattle.cl_judging.proofs.Plans.{walked_none, walked_part, walked_gives, part
 
 -- ---- verdicts
 
-optional_by : (own : Bound) (i a b : Found) (t : PlainType) → (bound : Bound) × (optional_verdict own i a b t ≡ concluded (optional_row (t ∷ a.type ∷ b.type ∷ [])) 0 bound (i ∷ a ∷ b ∷ []))
-optional_by own i a b (OptionalType t) = (both own (both i.bound (either (bound_branch t a) b.bound)), refl)
-optional_by own i a b t = (both own (sum_of (i ∷ a ∷ b ∷ [])), refl)
+optional_by : (own : Bill) (i a b : Found) (t : PlainType) → (bound : Bill) × (optional_verdict own i a b t ≡ concluded (optional_row (t ∷ a.type ∷ b.type ∷ [])) 0 bound (i ∷ a ∷ b ∷ []))
+optional_by own i a b (OptionalType t) = (Both own (Both i.bound (Greater (bound_branch t a) b.bound)), refl)
+optional_by own i a b t = (Both own (sum_of (i ∷ a ∷ b ∷ [])), refl)
 
-response_by : (own : Bound) (i a b : Found) (t : PlainType) → (bound : Bound) × (response_verdict own i a b t ≡ concluded (response_row (t ∷ a.type ∷ b.type ∷ [])) 0 bound (i ∷ a ∷ b ∷ []))
-response_by own i a b (ResponseType t e) = (both own (both i.bound (either (bound_branch t a) (bound_branch e b))), refl)
-response_by own i a b t = (both own (sum_of (i ∷ a ∷ b ∷ [])), refl)
+response_by : (own : Bill) (i a b : Found) (t : PlainType) → (bound : Bill) × (response_verdict own i a b t ≡ concluded (response_row (t ∷ a.type ∷ b.type ∷ [])) 0 bound (i ∷ a ∷ b ∷ []))
+response_by own i a b (ResponseType t e) = (Both own (Both i.bound (Greater (bound_branch t a) (bound_branch e b))), refl)
+response_by own i a b t = (Both own (sum_of (i ∷ a ∷ b ∷ [])), refl)
 
-module _ (x y z : Checked) (result : Result Concluded (Fault Rule)) (own : Bound) where
+module _ (x y z : Checked) (result : Result Concluded (Fault Rule)) (own : Bill) where
   pub optional_judged : ConcludesRow optional_row 0 (x ∷ y ∷ z ∷ []) result → (fs : List Found) → map facts fs ≡ map facts_of (x ∷ y ∷ z ∷ []) → Concludes (match_verdict true own fs) result
   optional_judged h [] same = absurd cc
   optional_judged h (i ∷ []) same = absurd cc
@@ -60,13 +61,13 @@ module _ (x y z : Checked) (result : Result Concluded (Fault Rule)) (own : Bound
   response_judged h (i ∷ a ∷ b ∷ d ∷ fs) same = absurd cc
 
 -- where the input is no optional, or no response
-odd_optional : (x y : Checked) (own : Bound) (fs : List Found) → map facts fs ≡ map facts_of (x ∷ y ∷ []) → Concludes (match_verdict true own fs) (Err (Refused ArgumentKind))
+odd_optional : (x y : Checked) (own : Bill) (fs : List Found) → map facts fs ≡ map facts_of (x ∷ y ∷ []) → Concludes (match_verdict true own fs) (Err (Refused ArgumentKind))
 odd_optional x y own [] same = absurd cc
 odd_optional x y own (i ∷ []) same = absurd cc
 odd_optional x y own (i ∷ a ∷ []) same = refl
 odd_optional x y own (i ∷ a ∷ b ∷ fs) same = absurd cc
 
-odd_response : (x : Checked) (own : Bound) (fs : List Found) → map facts fs ≡ map facts_of (x ∷ []) → Concludes (match_verdict false own fs) (Err (Refused ArgumentKind))
+odd_response : (x : Checked) (own : Bill) (fs : List Found) → map facts fs ≡ map facts_of (x ∷ []) → Concludes (match_verdict false own fs) (Err (Refused ArgumentKind))
 odd_response x own [] same = absurd cc
 odd_response x own (i ∷ []) same = refl
 odd_response x own (i ∷ a ∷ fs) same = absurd cc
@@ -83,9 +84,9 @@ optional_not B x a b s h = refl
 
 response_at : (B : Names) (x : List ℕ) (a : Tree) (y : List ℕ) (b : Tree) (s t u : PlainType) → Some (t, u) ≡ response_parts s → response_plan B x a y b s ≡ Part (bind x t B) a (Part (bind y u B) b Ends)
 response_at B x a y b (ResponseType v w) t u h =
-    let both : (t, u) ≡ (v, w) = cc in
-    let one : t ≡ v = ap (λ (p : PlainType × PlainType). p.0) both in
-    let two : u ≡ w = ap (λ (p : PlainType × PlainType). p.1) both in
+    let pair : (t, u) ≡ (v, w) = cc in
+    let one : t ≡ v = ap (λ (p : PlainType × PlainType). p.0) pair in
+    let two : u ≡ w = ap (λ (p : PlainType × PlainType). p.1) pair in
     λ i. Part (bind x (sym one i) B) a (Part (bind y (sym two i) B) b Ends)
 response_at B x a y b s t u h = absurd cc
 
@@ -137,7 +138,7 @@ module _ (c : CodeContext) (B : Names) (i : Tree) (w : Word) (a b : Tree) (at : 
       optional_odd y f none text k fails = walk_finish c shape_of at deep plan_of sound (λ G shows. refl) (x ∷ y ∷ []) (Err (Refused ArgumentKind)) (Err f)
           (walked_part c plan_of Ends B b deep (x ∷ []) y (omega arith) text k (after (Part B b Ends) (optional_not B w.name a b (type_of x.code) none)))
           (finish_fails (x ∷ y ∷ []) (Refused ArgumentKind) at f fails)
-          (λ G fs shows same. odd_optional x y (charge (row_of Match).cost 4) fs same)
+          (λ G fs shows same. odd_optional x y (Charge (row_of Match).cost 4) fs same)
 
       module _ (t : PlainType) (some : Some t ≡ optional_part (type_of x.code)) where
         first : Walked c plan_of (Part (bind w.name t B) a (Part B b Ends)) deep (x ∷ [])
@@ -157,7 +158,7 @@ module _ (c : CodeContext) (B : Names) (i : Tree) (w : Word) (a b : Tree) (at : 
           optional_found z ps concluded result last l three judges fin = walk_finish c shape_of at deep plan_of sound (λ G shows. refl) (x ∷ y ∷ z ∷ []) concluded result
               (walked_part c plan_of Ends B b deep (x ∷ y ∷ []) z (omega arith) last l second)
               (subst (λ (cs : List Checked). Finishes cs concluded at result) three fin)
-              (λ G fs shows same. optional_judged x y z concluded (charge (row_of Match).cost 4) (subst (λ (cs : List Checked). ConcludesRow optional_row 0 cs concluded) three judges) fs same)
+              (λ G fs shows same. optional_judged x y z concluded (Charge (row_of Match).cost 4) (subst (λ (cs : List Checked). ConcludesRow optional_row 0 cs concluded) three judges) fs same)
 
 -- ---- a match of a response
 
@@ -196,7 +197,7 @@ module _ (c : CodeContext) (B : Names) (i : Tree) (w : Word) (a : Tree) (w' : Wo
       response_odd f none fails = walk_finish c both_shape at both_deep both_plan both_sound (λ G shows. refl) (x ∷ []) (Err (Refused ArgumentKind)) (Err f)
           (both_after Ends (response_not B w.name a w'.name b (type_of x.code) none))
           (finish_fails (x ∷ []) (Refused ArgumentKind) at f fails)
-          (λ G fs shows same. odd_response x (charge (row_of Match).cost 5) fs same)
+          (λ G fs shows same. odd_response x (Charge (row_of Match).cost 5) fs same)
 
       module _ (t u : PlainType) (parts : Some (t, u) ≡ response_parts (type_of x.code)) where
         both_first : Walked c both_plan (Part (bind w.name t B) a (Part (bind w'.name u B) b Ends)) both_deep (x ∷ [])
@@ -216,7 +217,7 @@ module _ (c : CodeContext) (B : Names) (i : Tree) (w : Word) (a : Tree) (w' : Wo
           response_found z ps concluded result last l three judges fin = walk_finish c both_shape at both_deep both_plan both_sound (λ G shows. refl) (x ∷ y ∷ z ∷ []) concluded result
               (walked_part c both_plan Ends (bind w'.name u B) b both_deep (x ∷ y ∷ []) z (omega arith) last l both_second)
               (subst (λ (cs : List Checked). Finishes cs concluded at result) three fin)
-              (λ G fs shows same. response_judged x y z concluded (charge (row_of Match).cost 5) (subst (λ (cs : List Checked). ConcludesRow response_row 0 cs concluded) three judges) fs same)
+              (λ G fs shows same. response_judged x y z concluded (Charge (row_of Match).cost 5) (subst (λ (cs : List Checked). ConcludesRow response_row 0 cs concluded) three judges) fs same)
 
 pub odd_one : (e d : Tree) → atom_of e ≡ None → list_all is_atom (e ∷ d ∷ []) ≡ false
 odd_one e d h = ap (λ (o : Option (List ℕ)). is_some o && (is_atom d && true)) h

@@ -12,7 +12,8 @@ use Rattle.cl_forms.specs.Heads.{row_of, takes}
 use Rattle.cl_forms.specs.declared.head.Head.TheVariants.{AsMaxLen}
 use Rattle.cl_rules.specs.Faults.{shape_rules, when}
 use Rattle.cl_rules.specs.NativeTypes.{one, max_len_row}
-use Rattle.cl_rules.specs.Context.{Names, Context, charge, both}
+use Rattle.cl_rules.specs.Bills.{Charge, Both}
+use Rattle.cl_rules.specs.Context.{Names, Context}
 use Rattle.cl_rules.specs.Verdicts.{types_of, number_at, sum_of}
 use Rattle.cl_rules.specs.Shapes.{Shape, Ends, parts, First, NoSuch, is_no_such}
 use Rattle.cl_rules.specs.DataShapes.{literal_at, at_literal, max_len_shape}
@@ -75,7 +76,7 @@ module _ (c : CodeContext) (B : Names) (args : List Tree) (at : Span) (enough : 
     pub max_found : (x : Checked) (ps : List Checked) (concluded : Result Concluded (Fault Rule)) (result : Result Checked (Fault Break)) → expression_of x.code ≡ e → ps ≡ x ∷ [] → Checks c B e (Ok x) → ConcludesRow (one (max_len_row m)) 0 ps concluded → Finishes ps concluded at result → ChecksHead c AsMaxLen B args at result
     max_found x ps concluded result text is h judges fin = whole result (walk_finish c max_shape at (forest_depth (forest args) + 1) (parts B (e ∷ [])) (λ G shows. sound) (λ G shows. plan) ps concluded result
         (subst (λ (cs : List Checked). Walked c (parts B (e ∷ [])) Ends (forest_depth (forest args) + 1) cs) (sym is) (walked_part c (parts B (e ∷ [])) Ends B e (forest_depth (forest args) + 1) [] x less text h (walked_none c (parts B (e ∷ [])) (forest_depth (forest args) + 1)))) fin
-        (λ G fs shows same. subst (λ (l : First ℕ). Concludes (at_literal (row_of AsMaxLen) l fs) concluded) (sym (ap literal_at list)) (judges (both (charge (row_of AsMaxLen).cost (number_at (row_of AsMaxLen).cost (types_of fs))) (sum_of fs)) fs same)))
+        (λ G fs shows same. subst (λ (l : First ℕ). Concludes (at_literal (row_of AsMaxLen) l fs) concluded) (sym (ap literal_at list)) (judges (Both (Charge (row_of AsMaxLen).cost (number_at (row_of AsMaxLen).cost (types_of fs))) (sum_of fs)) fs same)))
 
     pub max_text : (head span : Span) (es : List Tree) → es ≡ e ∷ [] → headed (codes "as-max-len?") head (behind_first (λ d more. d ∷ LeafAt (Unsigned m) s ∷ more) es) span ≡ headed (codes "as-max-len?") head args span
     max_text head span es is = ap (λ (ts : List Tree). headed (codes "as-max-len?") head (behind_first (λ d more. d ∷ LeafAt (Unsigned m) s ∷ more) ts) span) is ∙ ap (λ (ts : List Tree). headed (codes "as-max-len?") head ts span) (sym list)

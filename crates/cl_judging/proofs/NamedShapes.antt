@@ -14,7 +14,8 @@ use Rattle.cl_sexpr.specs.Tree.{Tree, LeafAt, ListAt, TupleAt, Named, Signed, Un
 use Rattle.cl_forms.specs.Heads.{Row, row_of, takes}
 use Rattle.cl_forms.specs.Items.{atom_of}
 use Rattle.cl_rules.specs.Faults.{shape_rules, when}
-use Rattle.cl_rules.specs.Context.{Context, Names, both, charge, named_in, same}
+use Rattle.cl_rules.specs.Bills.{Charge, Both}
+use Rattle.cl_rules.specs.Context.{Context, Names, named_in, same}
 use Rattle.cl_rules.specs.Verdicts.{Found, Verdict, types_of, sizes_of, number_at, sum_of}
 use Rattle.cl_rules.specs.Shapes.{Shape, parts, First, Absent, NoName, NoSuch, There, there_or_not, first_named, is_no_such, named_faults, named_shape}
 use Rattle.cl_rules.specs.DataShapes.{if_fungible}
@@ -39,9 +40,9 @@ use Rattle.cl_judging.proofs.Lists.{shape_fails, parts_fail, parts_finish, parts
 -- ---- verdicts
 
 pub named_judged : (native : NameNative) (given : Given) (cs : List Checked) (result : Result Concluded (Fault Rule)) → ConcludesRow (name_row native given) 0 cs result → JudgesNamed native given cs result
-named_judged VarGet (Variable t) cs result h fs same = h (both (charge (row_of (name_head VarGet)).cost (size_of t)) (sum_of fs)) fs same
-named_judged MapGet (MapOf k v) cs result h fs same = h (both (charge (row_of (name_head MapGet)).cost (sizes_of (types_of fs) + size_of (OptionalType v))) (sum_of fs)) fs same
-named_judged native given cs result h fs same = h (both (charge (row_of (name_head native)).cost (number_at (row_of (name_head native)).cost (types_of fs))) (sum_of fs)) fs same
+named_judged VarGet (Variable t) cs result h fs same = h (Both (Charge (row_of (name_head VarGet)).cost (size_of t)) (sum_of fs)) fs same
+named_judged MapGet (MapOf k v) cs result h fs same = h (Both (Charge (row_of (name_head MapGet)).cost (sizes_of (types_of fs) + size_of (OptionalType v))) (sum_of fs)) fs same
+named_judged native given cs result h fs same = h (Both (Charge (row_of (name_head native)).cost (number_at (row_of (name_head native)).cost (types_of fs))) (sum_of fs)) fs same
 
 -- ---- the same shapes, checked the same
 

@@ -17,7 +17,8 @@ use Rattle.cl_forms.specs.Heads.{Row, row_of, takes}
 use Rattle.cl_forms.specs.declared.head.Head.TheVariants.{ContractCall}
 use Rattle.cl_forms.specs.Items.{atom_of}
 use Rattle.cl_rules.specs.Faults.{shape_rules, sound_shape, when}
-use Rattle.cl_rules.specs.Context.{Context, Names, Signature, Known, both, charge, same_principal, known_at, signature_in, if_callable}
+use Rattle.cl_rules.specs.Bills.{Charge, Both}
+use Rattle.cl_rules.specs.Context.{Context, Names, Signature, Known, same_principal, known_at, signature_in, if_callable}
 use Rattle.cl_rules.specs.Verdicts.{sum_of}
 use Rattle.cl_forms.specs.Shapes.{open_to_others}
 use Rattle.cl_rules.specs.Shapes.{Shape, parts, First, Absent, NoName, NoSuch, There, there_or_not, first_named, is_no_name, is_no_such, is_miscounted, at_first}
@@ -108,7 +109,7 @@ called_at row B es target function = record {
     bad_binding = is_no_name function;
   };
   plan = parts B (drop 2 es);
-  verdict = at_first function (λ f. call_verdict f (both (charge row.cost (length_at target)) f.bound));
+  verdict = at_first function (λ f. call_verdict f (Both (Charge row.cost (length_at target)) f.bound));
 }
 
 -- the first rule where there is no target
@@ -222,5 +223,5 @@ module _ (c : CodeContext) (B : Names) (args : List Tree) (at : Span) (enough : 
             pub callee_found : (v : Vec Checked) (concluded : Result Concluded (Fault Rule)) (result : Result Checked (Fault Break)) → ChecksAll c (parts B rest) (forest_depth (forest rest) + 1) (Ok v) → JudgesCallee f v.items concluded → Finishes v.items concluded at result → ChecksHead c ContractCall B args at result
             callee_found v concluded result h judges fin = whole result (parts_finish c call_shape at deep (parts B rest) sound plan v concluded result (λ G n shows large. h G n shows (omega (arith, deeper, large))) fin (λ G fs shows same.
                 let found = found_function G shows in
-                let bound = both (both (charge row.cost (length_at (There (found_target G shows).0))) found.0.bound) (sum_of fs) in
+                let bound = Both (Both (Charge row.cost (length_at (There (found_target G shows).0))) found.0.bound) (sum_of fs) in
                 subst (λ (s : Shape). Concludes (s.verdict fs) concluded) (sym found.1) (subst (λ (s : Shown). ConcludesCall s bound fs concluded) (sym found.2) (judges bound fs same))))

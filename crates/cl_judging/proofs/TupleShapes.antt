@@ -13,7 +13,8 @@ use Rattle.cl_forms.specs.Heads.{row_of, takes}
 use Rattle.cl_forms.specs.declared.head.Head.TheVariants.{TupleOf as TupleOfHead}
 use Rattle.cl_forms.specs.Shapes.{pairs_of, binding_of, bindings_of}
 use Rattle.cl_rules.specs.Faults.{ShapeFaults, shape_rules, sound_shape, when}
-use Rattle.cl_rules.specs.Context.{Names, Context, charge, both}
+use Rattle.cl_rules.specs.Bills.{Charge, Both}
+use Rattle.cl_rules.specs.Context.{Names, Context}
 use Rattle.cl_rules.specs.Verdicts.{Found, types_of, sizes_of, sum_of}
 use Rattle.cl_rules.specs.Shapes.{parts}
 use Rattle.cl_rules.specs.DataShapes.{keys_of, stands_twice, tuple_row, tuple_verdict, tuple_shape, pairs_shape}
@@ -70,7 +71,7 @@ parts_as_many (p ∷ ps) = ap suc (parts_as_many ps)
 -- ---- the verdict
 
 pub tuple_judged : (keys : List (List ℕ)) (cs : List Checked) (result : Result Concluded (Fault Rule)) → ConcludesRow (tuple_row keys) 0 cs result → (fs : List Found) → map facts fs ≡ map facts_of cs → Concludes (tuple_verdict keys fs) result
-tuple_judged keys cs result h fs same = h (both (charge Make (sizes_of (types_of fs))) (sum_of fs)) fs same
+tuple_judged keys cs result h fs same = h (Both (Charge Make (sizes_of (types_of fs))) (sum_of fs)) fs same
 
 -- ---- what is checked, at any faults besides that of the keys
 

@@ -8,7 +8,8 @@ use Rattle.cl_sexpr.specs.declared.rule.Break.{Break}
 use Rattle.cl_sexpr.specs.Tree.{Tree, ListAt, forest, forest_depth}
 use Rattle.cl_forms.specs.Heads.{Row}
 use Rattle.cl_forms.specs.Shapes.{binding_of}
-use Rattle.cl_rules.specs.Context.{Names, Bound}
+use Rattle.cl_rules.specs.Bills.{Bill}
+use Rattle.cl_rules.specs.Context.{Names}
 use Rattle.cl_rules.specs.Verdicts.{Found}
 use Rattle.cl_rules.specs.Shapes.{Plan, Ends, parts}
 use Rattle.cl_rules.specs.ControlShapes.{let_plan, let_with, let_shape, let_verdict}
@@ -37,7 +38,7 @@ ChecksMore c B old new items (Ok u) = (whole : Plan) (deep : ℕ) → forest_dep
 ChecksMore c B old new items (Err f) = (whole : Plan) (deep : ℕ) → forest_depth (forest items) + 1 ≤ deep → Walked c whole (parts B items) deep old → ChecksAll c whole deep (Err f)
 
 abbrev pub JudgesLet : ℕ → List Checked → Result Concluded (Fault Rule) → Type 0
-JudgesLet n cs result = (own : Bound) (fs : List Found) → map facts fs ≡ map facts_of cs → Concludes (let_verdict n own fs) result
+JudgesLet n cs result = (own : Bill) (fs : List Found) → map facts fs ≡ map facts_of cs → Concludes (let_verdict n own fs) result
 
 abbrev pub ChecksLetWith : CodeContext → Names → List Tree → List Tree → Span → Result Checked (Fault Break) → Type 0
 ChecksLetWith c B items body at result = (r : Row) → ChecksAs c (λ G. let_with r G B items body) at (max (forest_depth (forest items)) (forest_depth (forest body)) + 1) result

@@ -13,7 +13,8 @@ use Rattle.cl_forms.specs.declared.head.Head.TheVariants.{OnValues}
 use Rattle.cl_forms.specs.Heads.{Row, row_of}
 use Rattle.cl_rules.specs.Faults.{shape_rules, type_rules}
 use Rattle.cl_rules.specs.NativeTypes.{Ruled, fine, one, two, native_type}
-use Rattle.cl_rules.specs.Context.{Context, Names, charge}
+use Rattle.cl_rules.specs.Bills.{Charge}
+use Rattle.cl_rules.specs.Context.{Context, Names}
 use Rattle.cl_rules.specs.Verdicts.{Found, Verdict}
 use Rattle.cl_rules.specs.Shapes.{Plan, Shape, parts, value_shape, native_shape, evaluated, stated, AUint, APrincipal}
 use Rattle.cl_rules.specs.ControlShapes.{last_row, truth_row, asserts_row, unwrap_row, unwrap_err_row, try_row, if_verdict}
@@ -107,7 +108,7 @@ head_at (Parts native) = parts_head native
 -- the verdict on a native with so many arguments
 abbrev pub verdict_of : Evaluated → Row → ℕ → List Found → Verdict
 verdict_of (Values native) row count = evaluated row (native_type native)
-verdict_of (Parts If) row count = if_verdict (charge row.cost count)
+verdict_of (Parts If) row count = if_verdict (Charge row.cost count)
 verdict_of (Parts Begin) row count = evaluated row last_row
 verdict_of (Parts And) row count = evaluated row truth_row
 verdict_of (Parts Or) row count = evaluated row truth_row

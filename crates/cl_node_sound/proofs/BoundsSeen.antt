@@ -7,7 +7,8 @@ use Rattle.cl_c32.specs.declared.principal.Principal.{Principal}
 use Rattle.cl_shapes.specs.declared.cost.Cost5.{Cost5}
 use Rattle.cl_forms.specs.Forms.{Form, FormKind, ConstantForm, VariableForm, MapForm, FungibleForm, NonFungibleForm, FunctionForm, ExpressionForm}
 use Rattle.cl_meaning.specs.Limits.{Costs}
-use Rattle.cl_rules.specs.Context.{Bound, Context, Known, Signature, same, named_in, signature_in}
+use Rattle.cl_rules.specs.Bills.{Bill, cost_under}
+use Rattle.cl_rules.specs.Context.{Context, Known, Signature, same, named_in, signature_in}
 use Rattle.cl_rules.specs.Verdicts.{Found}
 use Rattle.cl_rules.specs.FormRules.{Defined, signature_of, context_after}
 use Rattle.cl_rules.specs.FormTyping.{form_typed, FormsTyped, no_more, one_more}
@@ -81,8 +82,8 @@ among_typed D E (form ∷ forms) (one_more {E = F} (form_typed fs follows sound 
 -- ---- lines
 
 module _ (costs : Costs) (E : Defined) where
-  line_there : (kind : FormKind) (name : List ℕ) (g : Signature) → IsFunctionKind kind → signature_in name E.context.functions ≡ Some g → option_map {U = List ℕ × Cost5} (λ (bound : Bound). (name, bound costs)) (bound_by E kind name) ≡ Some (name, g.bound costs)
-  line_there (FunctionForm access params body) name g is h = ap (λ o. option_map {U = List ℕ × Cost5} (λ (bound : Bound). (name, bound costs)) (bound_at o)) h
+  line_there : (kind : FormKind) (name : List ℕ) (g : Signature) → IsFunctionKind kind → signature_in name E.context.functions ≡ Some g → option_map {U = List ℕ × Cost5} (λ (bound : Bill). (name, cost_under costs bound)) (bound_by E kind name) ≡ Some (name, cost_under costs g.bound)
+  line_there (FunctionForm access params body) name g is h = ap (λ o. option_map {U = List ℕ × Cost5} (λ (bound : Bill). (name, cost_under costs bound)) (bound_at o)) h
   line_there (ConstantForm e) name g is h = absurd is
   line_there (VariableForm t e) name g is h = absurd is
   line_there (MapForm k v) name g is h = absurd is
@@ -90,11 +91,11 @@ module _ (costs : Costs) (E : Defined) where
   line_there (NonFungibleForm t) name g is h = absurd is
   line_there (ExpressionForm e) name g is h = absurd is
 
-  one_bound : (b c : Bound) → Some b ≡ Some c → b ≡ c
+  one_bound : (b c : Bill) → Some b ≡ Some c → b ≡ c
   one_bound b c e = cc
 
   -- a function's line has the bound of its signature
-  line_only : (kind : FormKind) (name : List ℕ) (g : Signature) (b : Bound) → bound_by E kind name ≡ Some b → signature_in name E.context.functions ≡ Some g → b ≡ g.bound
+  line_only : (kind : FormKind) (name : List ℕ) (g : Signature) (b : Bill) → bound_by E kind name ≡ Some b → signature_in name E.context.functions ≡ Some g → b ≡ g.bound
   line_only (FunctionForm access params body) name g b e h = one_bound b g.bound (sym e ∙ ap bound_at h)
   line_only (ConstantForm e) name g b is h = absurd cc
   line_only (VariableForm t e) name g b is h = absurd cc
@@ -104,29 +105,29 @@ module _ (costs : Costs) (E : Defined) where
   line_only (ExpressionForm e) name g b is h = absurd cc
 
   -- the line of a function that is among the forms
-  pub lines_tell : (x : List ℕ) (g : Signature) → signature_in x E.context.functions ≡ Some g → (forms : List Form) → IsAmong x forms → named_in x (filter_map (bound_line costs E) forms) ≡ Some (g.bound costs)
+  pub lines_tell : (x : List ℕ) (g : Signature) → signature_in x E.context.functions ≡ Some g → (forms : List Form) → IsAmong x forms → named_in x (filter_map (bound_line costs E) forms) ≡ Some (cost_under costs g.bound)
   lines_tell x g s [] h = absurd h
   lines_tell x g s (form ∷ forms) (inl h) =
       ap (λ (o : Option (List ℕ × Cost5)). named_in x (cons_option o (filter_map (bound_line costs E) forms)))
       (line_there form.kind (unwrap_or form.name []) g h.0 (ap (λ y. signature_in y E.context.functions) h.1 ∙ s))
-      ∙ ap (λ (b : Bool). if b then Some (g.bound costs) else named_in x (filter_map (bound_line costs E) forms)) (ap (λ y. same y x) h.1 ∙ key_same x)
+      ∙ ap (λ (b : Bool). if b then Some (cost_under costs g.bound) else named_in x (filter_map (bound_line costs E) forms)) (ap (λ y. same y x) h.1 ∙ key_same x)
   lines_tell x g s (form ∷ forms) (inr h) = by (bound_of E form) refl (lines_tell x g s forms h)
     where
       rest : List (List ℕ × Cost5)
       rest = filter_map (bound_line costs E) forms
 
-      by_name : (b : Bound) → bound_of E form ≡ Some b → named_in x rest ≡ Some (g.bound costs) → (t : Bool) → same (unwrap_or form.name []) x ≡ t → (if t then Some (b costs) else named_in x rest) ≡ Some (g.bound costs)
+      by_name : (b : Bill) → bound_of E form ≡ Some b → named_in x rest ≡ Some (cost_under costs g.bound) → (t : Bool) → same (unwrap_or form.name []) x ≡ t → (if t then Some (cost_under costs b) else named_in x rest) ≡ Some (cost_under costs g.bound)
       by_name b e more false t = more
-      by_name b e more true t = ap (λ (c : Bound). Some (c costs)) (line_only form.kind (unwrap_or form.name []) g b e (ap (λ y. signature_in y E.context.functions) (keys_equal (unwrap_or form.name []) x t) ∙ s))
+      by_name b e more true t = ap (λ (c : Bill). Some (cost_under costs c)) (line_only form.kind (unwrap_or form.name []) g b e (ap (λ y. signature_in y E.context.functions) (keys_equal (unwrap_or form.name []) x t) ∙ s))
 
-      by : (o : Option Bound) → bound_of E form ≡ o → named_in x rest ≡ Some (g.bound costs) → named_in x (cons_option (option_map {U = List ℕ × Cost5} (λ (bound : Bound). (unwrap_or form.name [], bound costs)) o) rest) ≡ Some (g.bound costs)
+      by : (o : Option Bill) → bound_of E form ≡ o → named_in x rest ≡ Some (cost_under costs g.bound) → named_in x (cons_option (option_map {U = List ℕ × Cost5} (λ (bound : Bill). (unwrap_or form.name [], cost_under costs bound)) o) rest) ≡ Some (cost_under costs g.bound)
       by None e more = more
       by (Some b) e more = by_name b e more (same (unwrap_or form.name []) x) refl
 
 -- what is told of an accepted text has each function that it defines, with its bound
-pub accepted_lines : (costs : Costs) (ks : List Known) (p : Principal) (source : List ℕ) (a : Accepted ks p costs source) (x : List ℕ) (g : Signature) → signature_in x a.defined.context.functions ≡ Some g → named_in x (filter_map (bound_line costs a.defined) a.forms) ≡ Some (g.bound costs)
+pub accepted_lines : (costs : Costs) (ks : List Known) (p : Principal) (source : List ℕ) (a : Accepted ks p costs source) (x : List ℕ) (g : Signature) → signature_in x a.defined.context.functions ≡ Some g → named_in x (filter_map (bound_line costs a.defined) a.forms) ≡ Some (cost_under costs g.bound)
 accepted_lines costs ks p source a x g h = by (among_typed _ a.defined (forms_at a.forms a.order) a.typed.are_typed x g h)
   where
-    by : (None ≡ Some g) ⊎ IsAmong x (forms_at a.forms a.order) → named_in x (filter_map (bound_line costs a.defined) a.forms) ≡ Some (g.bound costs)
+    by : (None ≡ Some g) ⊎ IsAmong x (forms_at a.forms a.order) → named_in x (filter_map (bound_line costs a.defined) a.forms) ≡ Some (cost_under costs g.bound)
     by (inl k) = absurd cc
     by (inr k) = lines_tell costs a.defined x g h a.forms (among_at x a.forms a.order k)

@@ -24,6 +24,7 @@ use Rattle.cl_meaning.specs.Deployed.{Contract, Function, contract_at, function_
 use Rattle.cl_meaning.specs.Kept.{Whole, Kept}
 use Rattle.cl_meaning.specs.Limits.{Costs, cost, Limited, Gave, Threw, AbortedBy, Passed, Lost, limited}
 use Rattle.cl_meaning.specs.Top.{call_from}
+use Rattle.cl_rules.specs.Bills.{cost_under}
 use Rattle.cl_rules.specs.Context.{Known, Signature, known_at, signature_in}
 use Rattle.cl_expression_sound.specs.Sound.{types_of_params, deployed_world}
 use Rattle.cl_contract_sound.specs.Laws.{Answers, IsFineUnder}
@@ -144,7 +145,7 @@ pub record IsBoundAbove (costs : Costs) (ks : List Known) (p : Principal) (x : L
   pub signature : Signature
   pub there : known_at p ks ≡ Some known
   pub told : signature_in x known.functions ≡ Some signature
-  pub above : IsAtMost (signature.bound costs) limit → ⊥
+  pub above : IsAtMost (cost_under costs signature.bound) limit → ⊥
 
 module _ (costs : Costs) (node : NodeSeen) (N : IsSoundNode costs node) where
   module _ (common : Common) (sender : IsAddress common.sender) (p : Principal) (valid : IsPrincipal p) (function : List ℕ) (args : List Tree) (vals : All IsVal args) where
@@ -176,9 +177,9 @@ module _ (costs : Costs) (node : NodeSeen) (N : IsSoundNode costs node) where
         let frame = frame_of node common.sender p in
         let purse = purse_of common in
         let sound = s.sound frame refl (sender, tt) (sender, tt) N.height args are node.state N.kept in
-        let under = fine_under (deployed_world costs node.contracts Whole) (λ v. IsOf v g.returns) (g.bound costs) (call_from node.contracts frame s.function args node.state) sound costs purse in
-        let low : Low (charged (limited costs purse (call_from node.contracts frame s.function args node.state))) = record { known = signed.known; signature = g; there = signed.there; told = signed.told; low = at_most _ (cost costs (call_from node.contracts frame s.function args node.state)) (g.bound costs) (charged_low costs purse.limit (call_from node.contracts frame s.function args node.state)) sound.within } in
-        let reason : IsPassed (limited costs purse (call_from node.contracts frame s.function args node.state)) → Reason = λ passed. record { known = signed.known; signature = g; there = signed.there; told = signed.told; above = λ enough. passes_not costs (g.bound costs) purse.limit (call_from node.contracts frame s.function args node.state) sound.within enough passed } in
+        let under = fine_under (deployed_world costs node.contracts Whole) (λ v. IsOf v g.returns) (cost_under costs g.bound) (call_from node.contracts frame s.function args node.state) sound costs purse in
+        let low : Low (charged (limited costs purse (call_from node.contracts frame s.function args node.state))) = record { known = signed.known; signature = g; there = signed.there; told = signed.told; low = at_most _ (cost costs (call_from node.contracts frame s.function args node.state)) (cost_under costs g.bound) (charged_low costs purse.limit (call_from node.contracts frame s.function args node.state)) sound.within } in
+        let reason : IsPassed (limited costs purse (call_from node.contracts frame s.function args node.state)) → Reason = λ passed. record { known = signed.known; signature = g; there = signed.there; told = signed.told; above = λ enough. passes_not costs (cost_under costs g.bound) purse.limit (call_from node.contracts frame s.function args node.state) sound.within enough passed } in
         ended costs node N Low Typed Reason common f.access g.returns (subst (λ a. Answers a g.returns) access s.answers)
         (λ v is_of. record { known = signed.known; signature = g; there = signed.there; told = signed.told; typed = is_of }) (limited costs purse (call_from node.contracts frame f args node.state))
         (subst (λ f. IsFineUnder (λ v. IsOf v g.returns) (Kept node.contracts Whole) (limited costs purse (call_from node.contracts frame f args node.state))) same under)

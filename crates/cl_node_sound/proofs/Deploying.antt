@@ -12,6 +12,7 @@ use Rattle.cl_meaning.specs.Deployed.{Contract}
 use Rattle.cl_meaning.specs.Deploying.{forms_at, deployment}
 use Rattle.cl_meaning.specs.Kept.{Whole}
 use Rattle.cl_meaning.specs.Limits.{Costs, cost, Limited, Gave, Threw, AbortedBy, Passed, Lost, limited}
+use Rattle.cl_rules.specs.Bills.{cost_under}
 use Rattle.cl_rules.specs.Context.{Known, known_at}
 use Rattle.cl_rules.specs.Acceptance.{Accepted, known_of}
 use Rattle.cl_expression_sound.specs.Sound.{AreBound}
@@ -56,12 +57,12 @@ module _ (costs : Costs) (node : NodeSeen) (N : IsSoundNode costs node) where
   ended Low Reason common told known (Lost purse) fine low reason = absurd fine
 
   pub deployment_comes : (common : Common) → IsAddress common.sender → (principal : Principal) → IsPrincipal principal → known_at principal node.known ≡ None → (source : List ℕ) (accepted : Accepted node.known principal costs source) →
-      Comes costs (told_of costs accepted.defined accepted.forms) (λ c. IsAtMost c (accepted.defined.deploy costs)) AnyTree (IsAtMost (accepted.defined.deploy costs) (limit_of common.limit) → ⊥) (run_deployment costs node common principal source accepted.forms accepted.defined)
+      Comes costs (told_of costs accepted.defined accepted.forms) (λ c. IsAtMost c (cost_under costs accepted.defined.deploy)) AnyTree (IsAtMost (cost_under costs accepted.defined.deploy) (limit_of common.limit) → ⊥) (run_deployment costs node common principal source accepted.forms accepted.defined)
   unfolding run_deployment
   deployment_comes common sender principal valid new source accepted =
       let frame = frame_of node common.sender principal in
       let purse = purse_of common in
-      let bound = accepted.defined.deploy costs in
+      let bound = cost_under costs accepted.defined.deploy in
       let sound = text_is_sound costs node.contracts node.known node.state (record { contracts = N.contracts; kept = N.kept }) principal valid new source accepted costs frame refl (sender, tt) (sender, tt) N.height in
       ended (λ c. IsAtMost c bound) (IsAtMost bound (limit_of common.limit) → ⊥) common (told_of costs accepted.defined accepted.forms) (known_of principal (length source) accepted.defined) (limited costs purse (deployment node.contracts frame (of_text principal source accepted.forms) node.state))
       (end_under (λ d t. IsNode costs (d ∷ node.contracts) (node.known ++ known_of principal (length source) accepted.defined ∷ []) t) (deployment node.contracts frame (of_text principal source accepted.forms) node.state) sound.outcome costs purse)

@@ -9,6 +9,7 @@ use Rattle.cl_shapes.specs.Limits.{limit_of}
 use Rattle.cl_values.specs.Tree.{Tree}
 use Rattle.cl_values.specs.Valid.{IsPrincipal}
 use Rattle.cl_meaning.specs.Limits.{Costs}
+use Rattle.cl_rules.specs.Bills.{cost_under}
 use Rattle.cl_rules.specs.Context.{Known, Signature, known_at, signature_in}
 use Rattle.cl_rules.specs.Acceptance.{Accepted}
 use Rattle.cl_contract_sound.proofs.NextNode.{first_node as first_is_node}
@@ -87,12 +88,12 @@ module _ (costs : Costs) (node : NodeSeen) (common : Common) (contract : Princip
       let c = call_comes costs node N common parts.0 contract parts.1 function args parts.2 in
       c.stopped (subst (λ (s : Stepped). IsStopped s.result.outcome) (sym (some_same c.step s (sym c.is ∙ x))) h)
 
-  pub calls_not_stopped : (known : Known) (signature : Signature) → known_at contract node.known ≡ Some known → signature_in function known.functions ≡ Some signature → IsAtMost (signature.bound costs) (limit_of common.limit) → Steps costs node (Call common contract function args) s → IsStopped s.result.outcome → ⊥
+  pub calls_not_stopped : (known : Known) (signature : Signature) → known_at contract node.known ≡ Some known → signature_in function known.functions ≡ Some signature → IsAtMost (cost_under costs signature.bound) (limit_of common.limit) → Steps costs node (Call common contract function args) s → IsStopped s.result.outcome → ⊥
   calls_not_stopped known signature there told low x h =
       let b = bound_above x h in
       let one : b.known ≡ known = same_known b.known known (sym b.there ∙ there) in
       let same : b.signature ≡ signature = same_signature b.signature signature (sym b.told ∙ ap (λ (k : Known). signature_in function k.functions) one ∙ told) in
-      b.above (subst (λ (g : Signature). IsAtMost (g.bound costs) (limit_of common.limit)) (sym same) low)
+      b.above (subst (λ (g : Signature). IsAtMost (cost_under costs g.bound) (limit_of common.limit)) (sym same) low)
     where
       same_known : (k l : Known) → Some k ≡ Some l → k ≡ l
       same_known k l e = cc
@@ -125,7 +126,7 @@ module _ (costs : Costs) (node : NodeSeen) (common : Common) (name source : List
   tells (evaluated new accepted is) bounds b =
       let d = deployment_comes costs node N common parts.0 (contract_of common.sender name) (parts.0, parts.1) new source accepted in
       let same : d.step ≡ s = some_same d.step s (sym d.is ∙ is) in
-      let bound : accepted.defined.deploy costs ≡ bounds.deploy = ap (λ (b : Bounds). b.deploy) (same_bounds _ bounds (sym (evaluated_tells new accepted is) ∙ b)) in
+      let bound : cost_under costs accepted.defined.deploy ≡ bounds.deploy = ap (λ (b : Bounds). b.deploy) (same_bounds _ bounds (sym (evaluated_tells new accepted is) ∙ b)) in
       record {
         charged = λ cost c. subst (IsAtMost cost) bound (d.low cost (ap (λ (s : Stepped). s.result.cost) same ∙ c));
         stopped = λ h low. d.stopped (subst (λ (s : Stepped). IsStopped s.result.outcome) (sym same) h) (subst (λ b. IsAtMost b (limit_of common.limit)) (sym bound) low);

@@ -12,6 +12,7 @@ use Rattle.cl_forms.specs.Forms.{Form}
 use Rattle.cl_events.specs.State.{State}
 use Rattle.cl_meaning.specs.Deployed.{Contract}
 use Rattle.cl_meaning.specs.Limits.{Costs, Limited, Gave, Threw, AbortedBy, Passed, Lost}
+use Rattle.cl_rules.specs.Bills.{cost_under}
 use Rattle.cl_rules.specs.Context.{Known, Signature, known_at, signature_in, named_in, same_principal}
 use Rattle.cl_rules.specs.FormRules.{Defined}
 use Rattle.cl_rules.specs.Acceptance.{known_of}
@@ -37,14 +38,14 @@ use Rattle.cl_node_sound.proofs.BoundsSeen.{accepted_lines}
 
 -- what is told of an accepted text
 abbrev bounds_of : Costs → Defined → List Form → Bounds
-bounds_of costs defined forms = record { deploy = defined.deploy costs; functions = filter_map (bound_line costs defined) forms }
+bounds_of costs defined forms = record { deploy = cost_under costs defined.deploy; functions = filter_map (bound_line costs defined) forms }
 
 module _ (costs : Costs) where
   -- these told bounds have each function that callers see, with its bound
   record IsToldOf (k : Known) (o : Option Bounds) : Type 0 where
     pub bounds : Bounds
     pub is : o ≡ Some bounds
-    pub lines : (x : List ℕ) (g : Signature) → signature_in x k.functions ≡ Some g → named_in x bounds.functions ≡ Some (g.bound costs)
+    pub lines : (x : List ℕ) (g : Signature) → signature_in x k.functions ≡ Some g → named_in x bounds.functions ≡ Some (cost_under costs g.bound)
 
   -- so it is with each known contract
   record AreTold (ks : List Known) (told : ToldLast) : Type 0 where
@@ -144,7 +145,7 @@ module _ (costs : Costs) where
   within node (Call common contract function args) s told parts N T x = λ cost e.
       let w = calls_within costs node common contract function args s parts N x cost e in
       let own = T.each contract w.known w.there in
-      record { bounds = own.bounds; bound = w.signature.bound costs; are_told = own.is; line = own.lines function w.signature w.told; low = w.low }
+      record { bounds = own.bounds; bound = cost_under costs w.signature.bound; are_told = own.is; line = own.lines function w.signature w.told; low = w.low }
   within node (Block height) s told parts N T x = ap (λ (z : Stepped). z.result.cost) x
 
   -- ---- limits
@@ -155,7 +156,7 @@ module _ (costs : Costs) where
       let above = bound_above costs node common contract function args s parts N x h in
       let own = T.each contract above.known above.there in
       let one : own.bounds ≡ bounds = same_bounds own.bounds bounds (sym own.is ∙ are_told) in
-      let same : above.signature.bound costs ≡ bound = some_cost (above.signature.bound costs) bound (sym (own.lines function above.signature above.told) ∙ ap (λ (b : Bounds). named_in function b.functions) one ∙ line) in
+      let same : cost_under costs above.signature.bound ≡ bound = some_cost (cost_under costs above.signature.bound) bound (sym (own.lines function above.signature above.told) ∙ ap (λ (b : Bounds). named_in function b.functions) one ∙ line) in
       above.above (subst (λ b. IsAtMost b (limit_of common.limit)) (sym same) low)
   not_stopped node (Block height) s told parts N T x = λ h. subst (λ (z : Stepped). IsStopped z.result.outcome) x h
 

@@ -12,6 +12,7 @@ use Rattle.cl_events.specs.State.{State, place}
 use Rattle.cl_meaning.specs.Deployed.{Contract, contract_at, value_of}
 use Rattle.cl_meaning.specs.Deploying.{deployment}
 use Rattle.cl_meaning.specs.Limits.{Costs, Gave, limited}
+use Rattle.cl_rules.specs.Bills.{cost_under}
 use Rattle.cl_rules.specs.Context.{Known, Signature, known_at, signature_in}
 use Rattle.cl_rules.specs.Acceptance.{Accepted}
 use Rattle.cl_file.specs.declared.entry.Common.{Common}
@@ -59,7 +60,7 @@ RunsStayWithin = (costs : Costs) (file : FileSeen) (results : List TxResult) (af
 abbrev pub CallsAreNotStopped : Type 0
 CallsAreNotStopped =
     (costs : Costs) (node : NodeSeen) (common : Common) (contract : Principal) (function : List ℕ) (args : List Tree) (s : Stepped) → HasParts (Call common contract function args) → IsSoundNode costs node →
-    (known : Known) (signature : Signature) → known_at contract node.known ≡ Some known → signature_in function known.functions ≡ Some signature → IsAtMost (signature.bound costs) (limit_of common.limit) →
+    (known : Known) (signature : Signature) → known_at contract node.known ≡ Some known → signature_in function known.functions ≡ Some signature → IsAtMost (cost_under costs signature.bound) (limit_of common.limit) →
     Steps costs node (Call common contract function args) s → IsStopped s.result.outcome → ⊥
 
 -- nor is a deployment whose limit is no less than the bound that is told with it

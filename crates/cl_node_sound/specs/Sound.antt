@@ -12,6 +12,7 @@ use Rattle.cl_values.specs.Typed.{IsOf}
 use Rattle.cl_values.specs.Valid.{IsVal, IsPrincipal}
 use Rattle.cl_meaning.specs.Kept.{Whole, Kept}
 use Rattle.cl_meaning.specs.Limits.{Costs}
+use Rattle.cl_rules.specs.Bills.{cost_under}
 use Rattle.cl_rules.specs.Context.{Known, Names, Signature, known_at, named_in, signature_in}
 use Rattle.cl_contract_sound.specs.Nodes.{AreContracts}
 use Rattle.cl_file.specs.declared.entry.Entry.{Entry}
@@ -34,7 +35,7 @@ pub record IsWithinBound (costs : Costs) (ks : List Known) (p : Principal) (x : 
   pub signature : Signature
   pub there : known_at p ks ≡ Some known
   pub told : signature_in x known.functions ≡ Some signature
-  pub low : IsAtMost cost (signature.bound costs)
+  pub low : IsAtMost cost (cost_under costs signature.bound)
 
 -- the value that a call gives: an ok and an err are responses
 abbrev pub given_by : Outcome → Option Tree

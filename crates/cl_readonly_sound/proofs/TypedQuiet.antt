@@ -17,7 +17,8 @@ use Rattle.cl_forms.specs.Writes.{Call, calls_in, calls_behind, calls_of_pairs}
 use Rattle.cl_forms.proofs.Found.{is_row, named_alone}
 use Rattle.cl_meaning.specs.Deployed.{Deployed, Function}
 use Rattle.cl_rules.specs.Faults.{shape_rules, type_rules}
-use Rattle.cl_rules.specs.Context.{Context, Names, Signature, Bound, signature_in, named_in, same as same_name}
+use Rattle.cl_rules.specs.Bills.{Bill}
+use Rattle.cl_rules.specs.Context.{Context, Names, Signature, signature_in, named_in, same as same_name}
 use Rattle.cl_rules.specs.Verdicts.{Found}
 use Rattle.cl_rules.specs.Shapes.{Plan}
 use Rattle.cl_rules.specs.ControlShapes.{let_with, let_shape, optional_plan, response_plan, match_plan, match_verdict, match_shape}
@@ -33,14 +34,14 @@ use Rattle.cl_readonly_sound.proofs.Calling.{is_tuple, tuple_alone, tuple_is_nat
 module _ (W : Deployed) (Q : Principal → Function → Type 0) (p : Principal) (G : Context) (Apart : Call → Type 0) where
   -- ---- match
 
-  not_optional : (own : Bound) (f fb : Found) → type_rules (match_verdict true own (f ∷ fb ∷ [])).faults ≡ [] → ⊥
+  not_optional : (own : Bill) (f fb : Found) → type_rules (match_verdict true own (f ∷ fb ∷ [])).faults ≡ [] → ⊥
   not_optional own f fb types = cc
 
-  not_response : (own : Bound) (f : Found) → type_rules (match_verdict false own (f ∷ [])).faults ≡ [] → ⊥
+  not_response : (own : Bill) (f : Found) → type_rules (match_verdict false own (f ∷ [])).faults ≡ [] → ⊥
   not_response own f types = cc
 
   -- the branches of an optional: where the input is none, the verdict breaks a rule
-  optional_quiet : (B : Names) (x : List ℕ) (a b : Tree) (own : Bound) (f : Found) (t : PlainType) → f.type ≡ t → (fs : List Found) → PlanQuiet W Q p G Apart (optional_plan B x a b t) fs → type_rules (match_verdict true own (f ∷ fs)).faults ≡ [] → AllCalls Apart (calls_in a) → AllCalls Apart (calls_in b) → IsQuiet W Q p a × IsQuiet W Q p b
+  optional_quiet : (B : Names) (x : List ℕ) (a b : Tree) (own : Bill) (f : Found) (t : PlainType) → f.type ≡ t → (fs : List Found) → PlanQuiet W Q p G Apart (optional_plan B x a b t) fs → type_rules (match_verdict true own (f ∷ fs)).faults ≡ [] → AllCalls Apart (calls_in a) → AllCalls Apart (calls_in b) → IsQuiet W Q p a × IsQuiet W Q p b
   optional_quiet B x a b own f (OptionalType t) is (fa ∷ fb ∷ fs) q types h k = (q.0 h, q.1.0 k)
   optional_quiet B x a b own f (OptionalType t) is (fa ∷ []) q types h k = absurd q.1
   optional_quiet B x a b own f (OptionalType t) is [] q types h k = absurd q
@@ -48,7 +49,7 @@ module _ (W : Deployed) (Q : Principal → Function → Type 0) (p : Principal) 
   optional_quiet B x a b own f t is (fb ∷ fc ∷ fs) q types h k = absurd q.1
   optional_quiet B x a b own f t is [] q types h k = absurd q
 
-  response_quiet : (B : Names) (x : List ℕ) (a : Tree) (y : List ℕ) (b : Tree) (own : Bound) (f : Found) (t : PlainType) → f.type ≡ t → (fs : List Found) → PlanQuiet W Q p G Apart (response_plan B x a y b t) fs → type_rules (match_verdict false own (f ∷ fs)).faults ≡ [] → AllCalls Apart (calls_in a) → AllCalls Apart (calls_in b) → IsQuiet W Q p a × IsQuiet W Q p b
+  response_quiet : (B : Names) (x : List ℕ) (a : Tree) (y : List ℕ) (b : Tree) (own : Bill) (f : Found) (t : PlainType) → f.type ≡ t → (fs : List Found) → PlanQuiet W Q p G Apart (response_plan B x a y b t) fs → type_rules (match_verdict false own (f ∷ fs)).faults ≡ [] → AllCalls Apart (calls_in a) → AllCalls Apart (calls_in b) → IsQuiet W Q p a × IsQuiet W Q p b
   response_quiet B x a y b own f (ResponseType t u) is (fa ∷ fb ∷ fs) q types h k = (q.0 h, q.1.0 k)
   response_quiet B x a y b own f (ResponseType t u) is (fa ∷ []) q types h k = absurd q.1
   response_quiet B x a y b own f (ResponseType t u) is [] q types h k = absurd q

@@ -12,6 +12,7 @@ use Rattle.cl_forms.specs.Forms.{Form}
 use Rattle.cl_forms.specs.FormBreaks.{AreForms, IsFirstBreak as IsFirstFormRule}
 use Rattle.cl_forms.specs.Order.{ordered}
 use Rattle.cl_forms.specs.Shapes.{trees_of}
+use Rattle.cl_rules.specs.Bills.{cost_under}
 use Rattle.cl_rules.specs.Context.{CostTable, Known}
 use Rattle.cl_rules.specs.FormRules.{Defined, nothing_defined}
 use Rattle.cl_rules.specs.FormTyping.{FormsTyped}
@@ -132,4 +133,4 @@ module _ (reading : Reading) where
         (a.bounded.functions x.form x.bound (subst (λ fs. Contains fs x.form) (sym h.0) (form_in forms order x.place x.form x.there)) (ap (λ d. bound_of d x.form) (defined_same a.typed t) ∙ x.bound_is))
         x.above
     accepted_clean table rule span names a (in_deployment forms order defined dimension t q x e f g) =
-        none_some dimension (ap (λ (d : Defined). first_above most_cost (d.deploy table)) (sym (defined_same a.typed t)) ∙ a.bounded.deployment) x.above
+        none_some dimension (ap (λ (d : Defined). first_above most_cost (cost_under table d.deploy)) (sym (defined_same a.typed t)) ∙ a.bounded.deployment) x.above

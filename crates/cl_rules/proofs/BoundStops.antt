@@ -10,7 +10,8 @@ use Rattle.cl_shapes.specs.Costs.{first_above}
 use Rattle.cl_sexpr.specs.declared.sexpr.Span.{Span}
 use Rattle.cl_sexpr.specs.Tree.{Tree}
 use Rattle.cl_forms.specs.Forms.{Form, FormKind, ConstantForm, VariableForm, MapForm, FungibleForm, NonFungibleForm, FunctionForm, ExpressionForm}
-use Rattle.cl_rules.specs.Context.{CostTable, Bound, Signature, Known, Context, same, signature_in}
+use Rattle.cl_rules.specs.Bills.{Bill, cost_under}
+use Rattle.cl_rules.specs.Context.{CostTable, Signature, Known, Context, same, signature_in}
 use Rattle.cl_rules.specs.Verdicts.{Found}
 use Rattle.cl_rules.specs.FormRules.{Defined, nothing_defined, context_after}
 use Rattle.cl_rules.specs.FormTyping.{FormsTyped, form_typed, no_more, one_more}
@@ -77,19 +78,19 @@ functions_from x f D E (form ∷ forms) (one_more {E = F} (form_typed fs follows
 
 -- ---- one bound
 
-above_none : (span : Span) (table : CostTable) (o : Option Bound) → above_at span table o ≡ None → (b : Bound) → o ≡ Some b → first_above most_cost (b table) ≡ None
+above_none : (span : Span) (table : CostTable) (o : Option Bill) → above_at span table o ≡ None → (b : Bill) → o ≡ Some b → first_above most_cost (cost_under table b) ≡ None
 above_none span table None h b is = absurd cc
 above_none span table (Some c) h b is =
     let same_bound : c ≡ b = cc in
-    subst (λ (a : Bound). first_above most_cost (a table) ≡ None) same_bound (by (first_above most_cost (c table)) h)
+    subst (λ (a : Bill). first_above most_cost (cost_under table a) ≡ None) same_bound (by (first_above most_cost (cost_under table c)) h)
   where
     by : (o : Option Dimension) → option_map {U = Dimension × Span} (λ (d : Dimension). (d, span)) o ≡ None → o ≡ None
     by None h = refl
     by (Some d) h = absurd cc
 
-above_some : (span s : Span) (table : CostTable) (o : Option Bound) (d : Dimension) → above_at span table o ≡ Some (d, s) → (b : Bound) × (o ≡ Some b) × (first_above most_cost (b table) ≡ Some d) × (span ≡ s)
+above_some : (span s : Span) (table : CostTable) (o : Option Bill) (d : Dimension) → above_at span table o ≡ Some (d, s) → (b : Bill) × (o ≡ Some b) × (first_above most_cost (cost_under table b) ≡ Some d) × (span ≡ s)
 above_some span s table None d h = absurd cc
-above_some span s table (Some b) d h = (b, refl, (by (first_above most_cost (b table)) h).0, (by (first_above most_cost (b table)) h).1)
+above_some span s table (Some b) d h = (b, refl, (by (first_above most_cost (cost_under table b)) h).0, (by (first_above most_cost (cost_under table b)) h).1)
   where
     by : (o : Option Dimension) → option_map {U = Dimension × Span} (λ (d : Dimension). (d, span)) o ≡ Some (d, s) → (o ≡ Some d) × (span ≡ s)
     by None h = absurd cc
@@ -102,18 +103,18 @@ above_some span s table (Some b) d h = (b, refl, (by (first_above most_cost (b t
 module _ (table : CostTable) (D : Defined) where
   -- no bound of these is above the limit
   abbrev pub Within : List Form → Type 0
-  Within forms = (n : ℕ) (form : Form) (b : Bound) → slice_get forms n ≡ Some form → bound_of D form ≡ Some b → first_above most_cost (b table) ≡ None
+  Within forms = (n : ℕ) (form : Form) (b : Bill) → slice_get forms n ≡ Some form → bound_of D form ≡ Some b → first_above most_cost (cost_under table b) ≡ None
 
   -- the first of these that is
   pub record Stopped (forms : List Form) (d : Dimension) (s : Span) : Type 0 where
     pub place : ℕ
     pub form : Form
-    pub bound : Bound
+    pub bound : Bill
     pub there : slice_get forms place ≡ Some form
     pub bound_is : bound_of D form ≡ Some bound
-    pub above : first_above most_cost (bound table) ≡ Some d
+    pub above : first_above most_cost (cost_under table bound) ≡ Some d
     pub span_is : form.span ≡ s
-    pub least : (m : ℕ) (other : Form) (b : Bound) (e : Dimension) → slice_get forms m ≡ Some other → bound_of D other ≡ Some b → first_above most_cost (b table) ≡ Some e → place ≤ m
+    pub least : (m : ℕ) (other : Form) (b : Bill) (e : Dimension) → slice_get forms m ≡ Some other → bound_of D other ≡ Some b → first_above most_cost (cost_under table b) ≡ Some e → place ≤ m
 
   within_more : (form : Form) (forms : List Form) → above_at form.span table (bound_of D form) ≡ None → Within forms → Within (form ∷ forms)
   within_more form forms none within zero other b there is =
@@ -121,17 +122,17 @@ module _ (table : CostTable) (D : Defined) where
       above_none other.span table (bound_of D other) (subst (λ (f : Form). above_at f.span table (bound_of D f) ≡ None) same_form none) b is
   within_more form forms none within (suc n) other b there is = within n other b there is
 
-  pub stop_none : (forms : List Form) → bound_stop table D forms ≡ None → Within forms × (first_above most_cost (D.deploy table) ≡ None)
+  pub stop_none : (forms : List Form) → bound_stop table D forms ≡ None → Within forms × (first_above most_cost (cost_under table D.deploy) ≡ None)
   stop_none [] h = ((λ n form b there is. absurd cc), above_none nowhere table (Some D.deploy) h D.deploy refl)
   stop_none (form ∷ forms) h = by (above_at form.span table (bound_of D form)) refl h (stop_none forms)
     where
-      by : (o : Option (Dimension × Span)) → above_at form.span table (bound_of D form) ≡ o → or_later o (bound_stop table D forms) ≡ None → (bound_stop table D forms ≡ None → Within forms × (first_above most_cost (D.deploy table) ≡ None)) → Within (form ∷ forms) × (first_above most_cost (D.deploy table) ≡ None)
+      by : (o : Option (Dimension × Span)) → above_at form.span table (bound_of D form) ≡ o → or_later o (bound_stop table D forms) ≡ None → (bound_stop table D forms ≡ None → Within forms × (first_above most_cost (cost_under table D.deploy) ≡ None)) → Within (form ∷ forms) × (first_above most_cost (cost_under table D.deploy) ≡ None)
       by None is h rest = (within_more form forms is (rest h).0, (rest h).1)
       by (Some p) is h rest = absurd cc
 
   -- where the look stops: at the first of the forms, or behind them all
   abbrev pub Stops : List Form → Dimension → Span → Type 0
-  Stops forms d s = Stopped forms d s ⊎ (Within forms × (first_above most_cost (D.deploy table) ≡ Some d) × (s ≡ nowhere))
+  Stops forms d s = Stopped forms d s ⊎ (Within forms × (first_above most_cost (cost_under table D.deploy) ≡ Some d) × (s ≡ nowhere))
 
   some_none : (o : Option Dimension) (e : Dimension) → o ≡ None → o ≡ Some e → ⊥
   some_none o e none some = cc
@@ -148,17 +149,17 @@ module _ (table : CostTable) (D : Defined) where
     least = least;
   }
     where
-      least : (m : ℕ) (other : Form) (b : Bound) (e : Dimension) → slice_get (form ∷ forms) m ≡ Some other → bound_of D other ≡ Some b → first_above most_cost (b table) ≡ Some e → suc stop.place ≤ m
+      least : (m : ℕ) (other : Form) (b : Bill) (e : Dimension) → slice_get (form ∷ forms) m ≡ Some other → bound_of D other ≡ Some b → first_above most_cost (cost_under table b) ≡ Some e → suc stop.place ≤ m
       least zero other b e there is above =
           let same_form : form ≡ other = cc in
-          absurd (some_none (first_above most_cost (b table)) e (above_none other.span table (bound_of D other) (subst (λ (f : Form). above_at f.span table (bound_of D f) ≡ None) same_form none) b is) above)
+          absurd (some_none (first_above most_cost (cost_under table b)) e (above_none other.span table (bound_of D other) (subst (λ (f : Form). above_at f.span table (bound_of D f) ≡ None) same_form none) b is) above)
       least (suc m) other b e there is above = omega (arith, stop.least m other b e there is above)
 
   pub stop_some : (forms : List Form) (d : Dimension) (s : Span) → bound_stop table D forms ≡ Some (d, s) → Stops forms d s
   stop_some [] d s h =
       let at = above_some nowhere s table (Some D.deploy) d h in
       let same_bound : D.deploy ≡ at.0 = cc in
-      inr ((λ n form b there is. absurd cc), subst (λ (a : Bound). first_above most_cost (a table) ≡ Some d) (sym same_bound) at.2, sym at.3)
+      inr ((λ n form b there is. absurd cc), subst (λ (a : Bill). first_above most_cost (cost_under table a) ≡ Some d) (sym same_bound) at.2, sym at.3)
   stop_some (form ∷ forms) d s h = by (above_at form.span table (bound_of D form)) refl h (stop_some forms d s)
     where
       by : (o : Option (Dimension × Span)) → above_at form.span table (bound_of D form) ≡ o → or_later o (bound_stop table D forms) ≡ Some (d, s) → (bound_stop table D forms ≡ Some (d, s) → Stops forms d s) → Stops (form ∷ forms) d s
@@ -173,12 +174,12 @@ module _ (table : CostTable) (D : Defined) where
 
 -- ---- the forms of a text, in its order and by themselves
 
-signed : (o : Option Signature) (b : Bound) → bound_at o ≡ Some b → (f : Signature) × (o ≡ Some f) × (f.bound ≡ b)
+signed : (o : Option Signature) (b : Bill) → bound_at o ≡ Some b → (f : Signature) × (o ≡ Some f) × (f.bound ≡ b)
 signed None b h = absurd cc
 signed (Some f) b h = (f, refl, cc)
 
 -- a form with a bound is a function
-function_of : (D : Defined) (kind : FormKind) (name : List ℕ) (b : Bound) → bound_by D kind name ≡ Some b → bound_at (signature_in name D.context.functions) ≡ Some b
+function_of : (D : Defined) (kind : FormKind) (name : List ℕ) (b : Bill) → bound_by D kind name ≡ Some b → bound_at (signature_in name D.context.functions) ≡ Some b
 function_of D (ConstantForm e) name b h = absurd cc
 function_of D (VariableForm t e) name b h = absurd cc
 function_of D (MapForm k v) name b h = absurd cc
@@ -189,13 +190,13 @@ function_of D (ExpressionForm e) name b h = absurd cc
 
 module _ (deployed : List Known) (principal : Principal) (size : ℕ) (forms : List Form) (order : List ℕ) (D : Defined) (table : CostTable) (typed : FormsTyped (nothing_defined deployed principal size) (forms_at forms order) D) where
   -- a function is among the forms in the order
-  all_within : Within table D (forms_at forms order) → (form : Form) (b : Bound) → bound_of D form ≡ Some b → first_above most_cost (b table) ≡ None
+  all_within : Within table D (forms_at forms order) → (form : Form) (b : Bill) → bound_of D form ≡ Some b → first_above most_cost (cost_under table b) ≡ None
   all_within within form b is =
       let name : List ℕ = unwrap_or form.name [] in
       let f = signed (signature_in name D.context.functions) b (function_of D form.kind name b is) in
-      elim (functions_from name f.0 (nothing_defined deployed principal size) D (forms_at forms order) typed f.1) as (λ _. first_above most_cost (b table) ≡ None) [
+      elim (functions_from name f.0 (nothing_defined deployed principal size) D (forms_at forms order) typed f.1) as (λ _. first_above most_cost (cost_under table b) ≡ None) [
         | inl none ↦ absurd cc
-        | inr among ↦ within among.0 among.1 b among.2 ((λ i. bound_by D (among.3.kind i) (among.3.name i)) ∙ ap bound_at f.1 ∙ ap (λ (c : Bound). Some c) f.2)
+        | inr among ↦ within among.0 among.1 b among.2 ((λ i. bound_by D (among.3.kind i) (among.3.name i)) ∙ ap bound_at f.1 ∙ ap (λ (c : Bill). Some c) f.2)
       ]
 
   pub no_stop_is_bounded : bound_stop table D (forms_at forms order) ≡ None → Bounded D forms table

@@ -7,7 +7,8 @@ use Rattle.cl_sexpr.specs.declared.sexpr.Span.{Span}
 use Rattle.cl_sexpr.specs.declared.rule.Rule.{Rule}
 use Rattle.cl_sexpr.specs.declared.rule.Rule.TheVariants.{BoundTooLarge}
 use Rattle.cl_forms.specs.Forms.{Form}
-use Rattle.cl_rules.specs.Context.{CostTable, Bound, Known}
+use Rattle.cl_rules.specs.Bills.{Bill, cost_under}
+use Rattle.cl_rules.specs.Context.{CostTable, Known}
 use Rattle.cl_rules.specs.FormRules.{Defined, nothing_defined}
 use Rattle.cl_rules.specs.FormTyping.{FirstFormBreak}
 use Rattle.cl_rules.specs.Acceptance.{Ordered, TypedAs, forms_at, FirstWriting, NoneWrites, most_cost, bound_of, FirstBound, DeploymentAbove, FirstBreakBeforeBounds, unordered, in_typing, in_writing, FirstBreakOf, before_bounds, in_bounds, in_deployment}
@@ -46,7 +47,7 @@ module _ (known : Firsts) (deployed : List Known) (principal : Principal) (table
       let n : x.place ≡ z.place = omega (arith, x.least z.place z.form z.bound e z.there z.bound_is z.above, z.least x.place x.form x.bound d x.there x.bound_is x.above) in
       let f = some_same x.form z.form (sym x.there ∙ ap (slice_get (forms_at forms order)) n ∙ z.there) in
       let b = some_same x.bound z.bound (sym x.bound_is ∙ ap (bound_of D) f ∙ z.bound_is) in
-      (some_same d e (sym x.above ∙ ap (λ (k : Bound). first_above most_cost (k table)) b ∙ z.above), sym x.span_is ∙ ap (λ (g : Form). g.span) f ∙ z.span_is)
+      (some_same d e (sym x.above ∙ ap (λ (k : Bill). first_above most_cost (cost_under table k)) b ∙ z.above), sym x.span_is ∙ ap (λ (g : Form). g.span) f ∙ z.span_is)
 
   two_bounds : {forms gorms : List Form} {order places : List ℕ} {D E : Defined} {d e : Dimension} {s u : Span} → TypedAs deployed principal text forms order D → FirstBound D forms order table d s → TypedAs deployed principal text gorms places E → FirstBound E gorms places table e u → (d ≡ e) × (s ≡ u)
   two_bounds {forms = forms} {gorms = gorms} {order = order} {places = places} {D = D} {E = E} {e = e} {u = u} t x v y =
@@ -56,7 +57,7 @@ module _ (known : Firsts) (deployed : List Known) (principal : Principal) (table
 
   two_deployments : {forms gorms : List Form} {order places : List ℕ} {D E : Defined} {d e : Dimension} → TypedAs deployed principal text forms order D → DeploymentAbove D forms table d → TypedAs deployed principal text gorms places E → DeploymentAbove E gorms table e → d ≡ e
   two_deployments {d = d} {e = e} t x v y =
-      some_same d e (sym x.above ∙ ap (λ (k : Defined). first_above most_cost (k.deploy table)) (defined_same known.reading deployed principal text t v) ∙ y.above)
+      some_same d e (sym x.above ∙ ap (λ (k : Defined). first_above most_cost (cost_under table k.deploy)) (defined_same known.reading deployed principal text t v) ∙ y.above)
 
   -- a typed contract in which none writes has no break before its bounds
   none_before : {forms : List Form} {order : List ℕ} {D : Defined} {r : Rule} {s : Span} {n : List (List ℕ)} → TypedAs deployed principal text forms order D → NoneWrites deployed principal forms → FirstBreakBeforeBounds deployed principal text r s n → ⊥

@@ -20,7 +20,8 @@ use Rattle.cl_forms.specs.Order.{ordered}
 use Rattle.cl_forms.specs.Cycle.{IsOfTheCycle}
 use Rattle.cl_forms.specs.Shapes.{trees_of}
 use Rattle.cl_forms.specs.Writes.{Writes}
-use Rattle.cl_rules.specs.Context.{CostTable, Bound, Signature, Known, known_at, signature_in, another_at}
+use Rattle.cl_rules.specs.Bills.{Bill, cost_under}
+use Rattle.cl_rules.specs.Context.{CostTable, Signature, Known, known_at, signature_in, another_at}
 use Rattle.cl_rules.specs.CallShapes.{contract_literal}
 use Rattle.cl_rules.specs.FormRules.{Defined, nothing_defined}
 use Rattle.cl_rules.specs.FormTyping.{FormsTyped, FirstFormBreak}
@@ -88,38 +89,38 @@ NoneWrites deployed own forms = (form : Form) → Contains forms form → Writes
 abbrev pub most_cost : Cost5
 most_cost = in_each (2 ^ 128 - 1)
 
-abbrev pub bound_at : Option Signature → Option Bound
+abbrev pub bound_at : Option Signature → Option Bill
 bound_at None = None
 bound_at (Some f) = Some f.bound
 
-abbrev pub bound_by : Defined → FormKind → List ℕ → Option Bound
+abbrev pub bound_by : Defined → FormKind → List ℕ → Option Bill
 bound_by defined (FunctionForm access params body) name = bound_at (signature_in name defined.context.functions)
 bound_by defined kind name = None
 
 -- the bound of a form that is a function
-abbrev pub bound_of : Defined → Form → Option Bound
+abbrev pub bound_of : Defined → Form → Option Bill
 bound_of defined form = bound_by defined form.kind (unwrap_or form.name [])
 
 -- each function's bound, and that of the deployment, is within the limit
 pub record Bounded (defined : Defined) (forms : List Form) (table : CostTable) : Type 0 where
-  pub functions : (form : Form) (bound : Bound) → Contains forms form → bound_of defined form ≡ Some bound → first_above most_cost (bound table) ≡ None
-  pub deployment : first_above most_cost (defined.deploy table) ≡ None
+  pub functions : (form : Form) (bound : Bill) → Contains forms form → bound_of defined form ≡ Some bound → first_above most_cost (cost_under table bound) ≡ None
+  pub deployment : first_above most_cost (cost_under table defined.deploy) ≡ None
 
 -- the first function, in the order of evaluation, whose bound is above the limit, with its span and the first such dimension
 pub record FirstBound (defined : Defined) (forms : List Form) (order : List ℕ) (table : CostTable) (dimension : Dimension) (span : Span) : Type 0 where
   pub place : ℕ
   pub form : Form
-  pub bound : Bound
+  pub bound : Bill
   pub there : slice_get (forms_at forms order) place ≡ Some form
   pub bound_is : bound_of defined form ≡ Some bound
-  pub above : first_above most_cost (bound table) ≡ Some dimension
+  pub above : first_above most_cost (cost_under table bound) ≡ Some dimension
   pub span_is : form.span ≡ span
-  pub least : (m : ℕ) (other : Form) (b : Bound) (d : Dimension) → slice_get (forms_at forms order) m ≡ Some other → bound_of defined other ≡ Some b → first_above most_cost (b table) ≡ Some d → place ≤ m
+  pub least : (m : ℕ) (other : Form) (b : Bill) (d : Dimension) → slice_get (forms_at forms order) m ≡ Some other → bound_of defined other ≡ Some b → first_above most_cost (cost_under table b) ≡ Some d → place ≤ m
 
 -- no function's bound is above the limit, and that of the deployment is
 pub record DeploymentAbove (defined : Defined) (forms : List Form) (table : CostTable) (dimension : Dimension) : Type 0 where
-  pub functions : (form : Form) (bound : Bound) → Contains forms form → bound_of defined form ≡ Some bound → first_above most_cost (bound table) ≡ None
-  pub above : first_above most_cost (defined.deploy table) ≡ Some dimension
+  pub functions : (form : Form) (bound : Bill) → Contains forms form → bound_of defined form ≡ Some bound → first_above most_cost (cost_under table bound) ≡ None
+  pub above : first_above most_cost (cost_under table defined.deploy) ≡ Some dimension
 
 -- ---- acceptance
 

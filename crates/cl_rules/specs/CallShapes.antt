@@ -5,7 +5,6 @@ use Rattle.cl_types.specs.Types.{PlainType, NoType, ListType, admits}
 use Rattle.cl_types.specs.Lattice.{least_supertype}
 use Rattle.cl_types.specs.Sized.{length_of}
 use Rattle.cl_c32.specs.declared.principal.Principal.{Principal}
-use Rattle.cl_shapes.specs.Costs.{times}
 use Rattle.cl_sexpr.specs.Tree.{Tree, LeafAt, Named, Leaf}
 use Rattle.cl_forms.specs.Heads.{Row, native, takes, given_by_name}
 use Rattle.cl_forms.specs.declared.head.Head.{Head}
@@ -14,7 +13,8 @@ use Rattle.cl_forms.specs.Shapes.{principal_named}
 use Rattle.cl_rules.specs.Faults.{sound_shape}
 use Rattle.cl_types.specs.TypeKinds.{is_bool, is_undetermined, is_sequence, entry_of}
 use Rattle.cl_rules.specs.NativeTypes.{Ruled, fine, of_kind, if_kind, wrong_kind, undetermined, made, and_lub, and_ruled, native_type}
-use Rattle.cl_rules.specs.Context.{Context, Names, Bound, Signature, Known, charge, both, signature_in, if_callable, target_at}
+use Rattle.cl_rules.specs.Bills.{Bill, Charge, Both, Times}
+use Rattle.cl_rules.specs.Context.{Context, Names, Signature, Known, signature_in, if_callable, target_at}
 use Rattle.cl_rules.specs.Verdicts.{Found, Verdict, types_of, sizes_of, number_at, applying}
 use Rattle.cl_rules.specs.Shapes.{Shape, parts, unlooked, is_miscounted, Admitted, are_wanted, First, Absent, NoName, NoSuch, There, there_or_not, first_named, is_no_name, is_no_such, at_first}
 use Rattle.cl_rules.specs.ControlShapes.{truth_row}
@@ -34,7 +34,7 @@ is_unlike f es = not (nat_eq (length es) (length f.params))
 abbrev pub call_row : Signature → List PlainType → Ruled
 call_row f ts = of_kind (all_admit (param_types f) ts) f.returns
 
-abbrev pub call_verdict : Signature → Bound → List Found → Verdict
+abbrev pub call_verdict : Signature → Bill → List Found → Verdict
 call_verdict f own fs = applying (call_row f (types_of fs)) f.height own fs
 
 abbrev pub call_shape : Option Signature → Names → List Tree → Shape
@@ -89,7 +89,7 @@ contract_call_shape row G B es =
         bad_binding = is_no_name function;
       };
       plan = parts B (drop 2 es);
-      verdict = at_first function (λ f. call_verdict f (both (charge row.cost (length_at target)) f.bound));
+      verdict = at_first function (λ f. call_verdict f (Both (Charge row.cost (length_at target)) f.bound));
     }
 
 -- ---- what is given by name
@@ -135,9 +135,9 @@ use_row (AFunction f) ts = call_row f ts
 use_row (ANative row) ts = by_name_row row.head ts
 
 -- one application to values of these types
-abbrev pub use_bound : Usable → List PlainType → Bound
+abbrev pub use_bound : Usable → List PlainType → Bill
 use_bound (AFunction f) ts = f.bound
-use_bound (ANative row) ts = charge row.cost (number_at row.cost ts)
+use_bound (ANative row) ts = Charge row.cost (number_at row.cost ts)
 
 abbrev pub use_height : Usable → ℕ
 use_height (AFunction f) = f.height
@@ -146,10 +146,6 @@ use_height (ANative row) = 1
 abbrev pub is_native : Usable → Bool
 is_native (AFunction f) = false
 is_native (ANative row) = true
-
--- so many applications
-abbrev pub repeated : ℕ → Bound → Bound
-repeated n bound table = times (bound table) n
 
 -- an entry of no type can't be given to a native
 abbrev pub entries_row : Usable → List PlainType → (Usable → Ruled) → Ruled
@@ -166,8 +162,8 @@ using_shape row verdict G B es =
     }
 
 -- the iteration, charged by the sizes of these arguments, and so many applications to values of these types
-abbrev pub iterating : Row → Usable → List PlainType → ℕ → List PlainType → Bound
-iterating row u arguments n values = both (charge row.cost (sizes_of arguments)) (repeated n (use_bound u values))
+abbrev pub iterating : Row → Usable → List PlainType → ℕ → List PlainType → Bill
+iterating row u arguments n values = Both (Charge row.cost (sizes_of arguments)) (Times n (use_bound u values))
 
 -- ---- map
 
@@ -194,7 +190,7 @@ filter_row u s =
 
 abbrev pub filter_verdict : Row → Usable → List Found → Verdict
 filter_verdict row u (f ∷ []) = applying (filter_row u f.type) (use_height u) (iterating row u (f.type ∷ []) (length_of f.type) (entry_of f.type ∷ [])) (f ∷ [])
-filter_verdict row u fs = applying wrong_kind 0 (charge row.cost 0) fs
+filter_verdict row u fs = applying wrong_kind 0 (Charge row.cost 0) fs
 
 -- ---- fold
 
@@ -224,4 +220,4 @@ abbrev pub fold_verdict : Row → Usable → List Found → Verdict
 fold_verdict row u (s ∷ i ∷ []) =
     let ruled = fold_row u s.type i.type in
     applying ruled (use_height u) (iterating row u (s.type ∷ i.type ∷ []) (length_of s.type) (entry_of s.type ∷ ruled.type ∷ [])) (s ∷ i ∷ [])
-fold_verdict row u fs = applying wrong_kind 0 (charge row.cost 0) fs
+fold_verdict row u fs = applying wrong_kind 0 (Charge row.cost 0) fs

@@ -6,34 +6,14 @@ use Rattle.cl_types.specs.Types.{PlainType, NoType, BoolType, UintType, Principa
 use Rattle.cl_types.specs.declared.sized.Access.{Access}
 use Rattle.cl_c32.specs.declared.principal.Principal.{Principal}
 pub use Rattle.cl_c32.specs.Principals.{same_part, same_principal}
-use Rattle.cl_shapes.specs.declared.cost.Cost5.{Cost5}
-use Rattle.cl_shapes.specs.Costs.{plus, zero_cost}
 pub use Rattle.cl_shapes.specs.Names.{CostTable}
-use Rattle.cl_shapes.specs.Functions.{cost_at}
-use Rattle.cl_shapes.specs.declared.name.CostName.{CostName}
 use Rattle.cl_forms.specs.declared.keyword.Keyword.{Keyword}
 use Rattle.cl_forms.specs.declared.keyword.Keyword.TheVariants as keys
 use Rattle.cl_forms.specs.Names.{is_one_of}
 pub use Rattle.cl_forms.specs.Names.{same, named_in}
 use Rattle.cl_forms.specs.Shapes.{open_to_others}
 use Rattle.cl_forms.specs.Heads.{native, is_reserved, define_words}
-
--- ---- costs
-
--- what is counted, under a table
-abbrev pub Bound : Type 0
-Bound = CostTable → Cost5
-
--- one charge
-abbrev pub charge : CostName → ℕ → Bound
-charge name n table = cost_at (table name) n
-
-abbrev pub free : Bound
-free table = zero_cost
-
--- two bounds one after the other
-abbrev pub both : Bound → Bound → Bound
-both a b table = plus (a table) (b table)
+use Rattle.cl_rules.specs.Bills.{Bill}
 
 -- ---- functions and contracts
 
@@ -44,7 +24,7 @@ pub record Signature : Type 0 where
   pub params : List (List ℕ × PlainType)
   pub returns : PlainType
   pub height : ℕ
-  pub bound : Bound
+  pub bound : Bill
 
 -- a deployed contract as its callers see it: its functions, and the length of its text
 pub record Known : Type 0 where

@@ -2,9 +2,8 @@
 use Rattle.std.specs.Prelude.{ℕ, suc, ◌||◌, not, nat_eq, Bool, true, false, List, [], ◌∷◌, take, drop, length, filter_map, Option, Some, None, is_some}
 use Rattle.std.specs.List.{list_all}
 use Rattle.cl_types.specs.Types.{PlainType, NoType, IntType, UintType, BoolType, PrincipalType, BuffType, AsciiType, Utf8Type, OptionalType, ResponseType, size_of}
-use Rattle.cl_shapes.specs.Costs.{greater, zero_cost, plus}
 use Rattle.cl_shapes.specs.declared.name.CostName.TheVariants.{Literal, Lookup, Bind}
-use Rattle.cl_sexpr.specs.Tree.{Tree, LeafAt, ListAt, Leaf, Named, Signed, Unsigned, Bytes, Ascii, Unicode, Standing, Local}
+use Rattle.cl_sexpr.specs.Tree.{Tree, ListAt, Leaf, Named, Signed, Unsigned, Bytes, Ascii, Unicode, Standing, Local}
 use Rattle.cl_forms.specs.declared.keyword.Keyword.{Keyword}
 use Rattle.cl_forms.specs.Keywords.{keyword_of, keyword_cost}
 use Rattle.cl_forms.specs.Heads.{Row}
@@ -13,7 +12,8 @@ use Rattle.cl_forms.specs.Shapes.{trees_of, binding_of, bindings_of, MatchParts,
 use Rattle.cl_rules.specs.Faults.{sound_shape, sound_types}
 use Rattle.cl_types.specs.TypeKinds.{is_bool, is_response, is_undetermined}
 use Rattle.cl_rules.specs.NativeTypes.{Ruled, fine, of_kind, if_kind, wrong_kind, made, lubbed, part_row, err_row}
-use Rattle.cl_rules.specs.Context.{Context, Names, Bound, charge, both, named_in, is_taken, is_no_value, bind, keyword_type}
+use Rattle.cl_rules.specs.Bills.{Bill, Free, Charge, Both, Greater}
+use Rattle.cl_rules.specs.Context.{Context, Names, named_in, is_taken, is_no_value, bind, keyword_type}
 use Rattle.cl_rules.specs.Verdicts.{Found, Verdict, types_of, concluded, summed}
 use Rattle.cl_rules.specs.Shapes.{Plan, Ends, Part, Gives, Shape, parts, no_verdict, unlooked, value_shape, is_miscounted}
 
@@ -86,13 +86,9 @@ tried t = None
 abbrev pub try_row : PlainType → Ruled
 try_row e = record (part_row e) { throws = tried e }
 
--- of two bounds the greater in each dimension
-abbrev pub either : Bound → Bound → Bound
-either a b table = greater (a table) (b table)
-
 -- a condition and two branches, of which the greater counts
-abbrev pub if_verdict : Bound → List Found → Verdict
-if_verdict own (c ∷ a ∷ b ∷ []) = concluded (if_kind (is_bool c.type) (lubbed a.type b.type)) 0 (both own (both c.bound (either a.bound b.bound))) (c ∷ a ∷ b ∷ [])
+abbrev pub if_verdict : Bill → List Found → Verdict
+if_verdict own (c ∷ a ∷ b ∷ []) = concluded (if_kind (is_bool c.type) (lubbed a.type b.type)) 0 (Both own (Both c.bound (Greater a.bound b.bound))) (c ∷ a ∷ b ∷ [])
 if_verdict own fs = no_verdict fs
 
 -- ---- let
@@ -111,19 +107,19 @@ let_plan body B [] = parts B body
 let_plan body B (p ∷ ps) = Gives B p.1 (λ f. let_plan body (bind p.0 f.type B) ps)
 
 -- one bind for each of these types
-abbrev pub binds : List PlainType → Bound
-binds [] table = zero_cost
-binds (t ∷ ts) table = plus (charge Bind (size_of t) table) (binds ts table)
+abbrev pub binds : List PlainType → Bill
+binds [] = Free
+binds (t ∷ ts) = Both (Charge Bind (size_of t)) (binds ts)
 
 -- the first so many parts are bound
-abbrev pub let_verdict : ℕ → Bound → List Found → Verdict
-let_verdict bindings own fs = summed (last_row (types_of (drop bindings fs))) (both own (binds (types_of (take bindings fs)))) fs
+abbrev pub let_verdict : ℕ → Bill → List Found → Verdict
+let_verdict bindings own fs = summed (last_row (types_of (drop bindings fs))) (Both own (binds (types_of (take bindings fs)))) fs
 
 abbrev pub let_with : Row → Context → Names → List Tree → List Tree → Shape
 let_with row G B bs body = record {
   faults = record sound_shape { argument_count = nat_eq (length body) 0; shadowed_name = is_shadowed G B (filter_map bound_name bs); bad_binding = not (is_some (bindings_of bs)) };
   plan = let_plan body B (filter_map binding_of bs);
-  verdict = let_verdict (length bs) (charge row.cost (suc (length body)));
+  verdict = let_verdict (length bs) (Charge row.cost (suc (length body)));
 }
 
 -- bindings in round brackets, and one expression or more
@@ -154,25 +150,25 @@ match_plan B (Some (ResponseMatch i x a y b)) = Gives B i (λ f. response_plan B
 match_plan B None = Ends
 
 -- a branch that binds a name begins with that bind
-abbrev pub bound_branch : PlainType → Found → Bound
-bound_branch t f = both (charge Bind (size_of t)) f.bound
+abbrev pub bound_branch : PlainType → Found → Bill
+bound_branch t f = Both (Charge Bind (size_of t)) f.bound
 
 abbrev pub if_determined : Bool → Ruled → Ruled
 if_determined holds ruled = record ruled { faults = record (ruled.faults) { undetermined = ruled.faults.undetermined || not holds } }
 
 -- the branches' least supertype; what is bound has to be determined; the greater branch counts
-abbrev pub matched : Bool → Bound → Found → Found → Found → Bound → Bound → Verdict
-matched determined own i a b first second = concluded (if_determined determined (lubbed a.type b.type)) 0 (both own (both i.bound (either first second))) (i ∷ a ∷ b ∷ [])
+abbrev pub matched : Bool → Bill → Found → Found → Found → Bill → Bill → Verdict
+matched determined own i a b first second = concluded (if_determined determined (lubbed a.type b.type)) 0 (Both own (Both i.bound (Greater first second))) (i ∷ a ∷ b ∷ [])
 
-abbrev pub optional_verdict : Bound → Found → Found → Found → PlainType → Verdict
+abbrev pub optional_verdict : Bill → Found → Found → Found → PlainType → Verdict
 optional_verdict own i a b (OptionalType t) = matched (not (is_undetermined t)) own i a b (bound_branch t a) b.bound
 optional_verdict own i a b t = summed wrong_kind own (i ∷ a ∷ b ∷ [])
 
-abbrev pub response_verdict : Bound → Found → Found → Found → PlainType → Verdict
+abbrev pub response_verdict : Bill → Found → Found → Found → PlainType → Verdict
 response_verdict own i a b (ResponseType t e) = matched (not (is_undetermined t || is_undetermined e)) own i a b (bound_branch t a) (bound_branch e b)
 response_verdict own i a b t = summed wrong_kind own (i ∷ a ∷ b ∷ [])
 
-abbrev pub match_verdict : Bool → Bound → List Found → Verdict
+abbrev pub match_verdict : Bool → Bill → List Found → Verdict
 match_verdict true own (i ∷ a ∷ b ∷ []) = optional_verdict own i a b i.type
 match_verdict false own (i ∷ a ∷ b ∷ []) = response_verdict own i a b i.type
 match_verdict optional own fs = summed wrong_kind own fs
@@ -181,5 +177,5 @@ abbrev pub match_shape : Row → Context → Names → List Tree → Shape
 match_shape row G B es = record {
   faults = record sound_shape { argument_count = is_miscounted row es; shadowed_name = is_shadowed G B (filter_map atom_of (name_places es)); bad_binding = not (list_all is_atom (name_places es)) };
   plan = match_plan B (match_of es);
-  verdict = match_verdict (nat_eq (length es) 4) (charge row.cost (length es));
+  verdict = match_verdict (nat_eq (length es) 4) (Charge row.cost (length es));
 }

@@ -12,7 +12,8 @@ use Rattle.cl_forms.specs.declared.head.TokenNative.TheVariants.{MintFt, BurnFt,
 use Rattle.cl_forms.specs.Shapes.{binding_of, bindings_of}
 use Rattle.cl_rules.specs.Faults.{ShapeFaults, sound_shape}
 use Rattle.cl_rules.specs.NativeTypes.{Ruled, fine, made, one, get_row, max_len_row}
-use Rattle.cl_rules.specs.Context.{Context, Names, charge, same, named_in}
+use Rattle.cl_rules.specs.Bills.{Charge}
+use Rattle.cl_rules.specs.Context.{Context, Names, same, named_in}
 use Rattle.cl_rules.specs.Verdicts.{Found, Verdict, types_of, sizes_of, summed}
 use Rattle.cl_rules.specs.Shapes.{Shape, parts, no_verdict, is_miscounted, evaluated, native_shape, Wanted, AUint, APrincipal, Admitted, stated, First, Absent, NoSuch, There, first_named, is_no_such, named_faults, named_shape}
 
@@ -30,7 +31,7 @@ abbrev pub tuple_row : List (List ℕ) → List PlainType → Ruled
 tuple_row keys ts = made (TupleType (fields_by keys ts))
 
 abbrev pub tuple_verdict : List (List ℕ) → List Found → Verdict
-tuple_verdict keys fs = summed (tuple_row keys (types_of fs)) (charge Make (sizes_of (types_of fs))) fs
+tuple_verdict keys fs = summed (tuple_row keys (types_of fs)) (Charge Make (sizes_of (types_of fs))) fs
 
 -- a tuple of these pairs, whose expressions are evaluated in the order of the text
 abbrev pub tuple_shape : ShapeFaults → Names → List (List ℕ × Tree) → Shape
@@ -81,14 +82,14 @@ map_shape row verdict G B es =
 
 -- a read is charged by the size of what is read
 abbrev pub var_get : Row → PlainType → List Found → Verdict
-var_get row t fs = summed (fine t) (charge row.cost (size_of t)) fs
+var_get row t fs = summed (fine t) (Charge row.cost (size_of t)) fs
 
 abbrev pub var_set : Row → PlainType → List Found → Verdict
 var_set row t = evaluated row (stated (Admitted t ∷ []) (fine BoolType))
 
 -- a read of a map is charged by the key and what is given
 abbrev pub map_get : Row → PlainType × PlainType → List Found → Verdict
-map_get row m fs = summed (stated (Admitted m.0 ∷ []) (made (OptionalType m.1)) (types_of fs)) (charge row.cost (sizes_of (types_of fs) + size_of (OptionalType m.1))) fs
+map_get row m fs = summed (stated (Admitted m.0 ∷ []) (made (OptionalType m.1)) (types_of fs)) (Charge row.cost (sizes_of (types_of fs) + size_of (OptionalType m.1))) fs
 
 abbrev pub map_put : Row → PlainType × PlainType → List Found → Verdict
 map_put row m = evaluated row (stated (Admitted m.0 ∷ Admitted m.1 ∷ []) (fine BoolType))

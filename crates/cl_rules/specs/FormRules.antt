@@ -8,7 +8,8 @@ use Rattle.cl_shapes.specs.declared.name.CostName.TheVariants.{Call, Define, Dep
 use Rattle.cl_forms.specs.Forms.{Form, FormKind, ConstantForm, VariableForm, MapForm, FungibleForm, NonFungibleForm, FunctionForm, ExpressionForm}
 use Rattle.cl_rules.specs.Faults.{FormFaults, sound_form}
 use Rattle.cl_types.specs.TypeKinds.{is_response}
-use Rattle.cl_rules.specs.Context.{Bound, charge, free, both, Signature, Known, Context}
+use Rattle.cl_rules.specs.Bills.{Bill, Free, Charge, Both}
+use Rattle.cl_rules.specs.Context.{Signature, Known, Context}
 use Rattle.cl_rules.specs.Verdicts.{Found, Thrown, thrown_after}
 use Rattle.cl_rules.specs.Shapes.{Plan, Ends, Part}
 use Rattle.cl_rules.specs.ControlShapes.{binds}
@@ -20,13 +21,13 @@ most_height = 256
 -- what the forms so far define, and the bound of their deployment
 pub record Defined : Type 0 where
   pub context : Context
-  pub deploy : Bound
+  pub deploy : Bill
 
 -- before all forms: the charge of a deployment, with the length of the text
 abbrev pub nothing_defined : List Known → Principal → ℕ → Defined
 nothing_defined deployed principal size = record {
   context = record { principal = principal; deployed = deployed; constants = []; variables = []; maps = []; fungibles = []; nonfungibles = []; functions = [] };
-  deploy = charge Deploy size;
+  deploy = Charge Deploy size;
 }
 
 -- the expression of a form, with its parameters bound
@@ -78,8 +79,8 @@ form_faults kind fs = sound_form
 -- ---- what a form adds
 
 -- the application of a function: its call, a bind for each parameter, and the body
-abbrev pub application : List (List ℕ × PlainType) → Found → Bound
-application params f = both (charge Call (length params)) (both (binds (map (λ (p : List ℕ × PlainType). p.1) params)) f.bound)
+abbrev pub application : List (List ℕ × PlainType) → Found → Bill
+application params f = Both (Charge Call (length params)) (Both (binds (map (λ (p : List ℕ × PlainType). p.1) params)) f.bound)
 
 abbrev pub signature_of : List ℕ → Access → List (List ℕ × PlainType) → Found → Signature
 signature_of name access params f = record {
@@ -102,16 +103,16 @@ context_after G name (FunctionForm access params body) (f ∷ fs) = record G { f
 context_after G name kind fs = G
 
 -- what a form is charged when it is deployed: its expression, and its definition
-abbrev pub form_charges : FormKind → List Found → Bound
-form_charges (ConstantForm e) (f ∷ fs) = both f.bound (charge Define (size_of f.type))
-form_charges (VariableForm t e) (f ∷ fs) = both f.bound (charge Define (size_of f.type))
-form_charges (FungibleForm (Some e)) (f ∷ fs) = both f.bound (charge Define (size_of UintType))
+abbrev pub form_charges : FormKind → List Found → Bill
+form_charges (ConstantForm e) (f ∷ fs) = Both f.bound (Charge Define (size_of f.type))
+form_charges (VariableForm t e) (f ∷ fs) = Both f.bound (Charge Define (size_of f.type))
+form_charges (FungibleForm (Some e)) (f ∷ fs) = Both f.bound (Charge Define (size_of UintType))
 form_charges (ExpressionForm e) (f ∷ fs) = f.bound
-form_charges (ExpressionForm e) [] = free
-form_charges kind fs = charge Define 0
+form_charges (ExpressionForm e) [] = Free
+form_charges kind fs = Charge Define 0
 
 abbrev pub defined_after : Defined → Form → List Found → Defined
 defined_after D form fs = record {
   context = context_after D.context (unwrap_or form.name []) form.kind fs;
-  deploy = both D.deploy (form_charges form.kind fs);
+  deploy = Both D.deploy (form_charges form.kind fs);
 }

@@ -1,5 +1,6 @@
 pub mod Faults
 pub mod NativeTypes
+pub mod Bills
 pub mod Context
 pub mod Verdicts
 pub mod Shapes

@@ -14,7 +14,8 @@ use Rattle.cl_sexpr.specs.Text.{token_at}
 use Rattle.cl_forms.specs.Forms.{Form}
 use Rattle.cl_forms.specs.Items.{form_of}
 use Rattle.cl_forms.specs.Order.{ordered}
-use Rattle.cl_rules.specs.Context.{CostTable, Bound, Signature, Known, signature_in}
+use Rattle.cl_rules.specs.Bills.{Bill, cost_under}
+use Rattle.cl_rules.specs.Context.{CostTable, Signature, Known, signature_in}
 use Rattle.cl_rules.specs.FormRules.{Defined, nothing_defined}
 use Rattle.cl_rules.specs.Acceptance.{forms_at, most_cost, bound_of, nowhere}
 use Rattle.cl_rules.specs.Judging.{Judged, Holds, Fails, Deeper, forms_judged}
@@ -124,9 +125,9 @@ abbrev pub or_later : {A : Type 0} → Option A → Option A → Option A
 or_later (Some a) later = Some a
 or_later None later = later
 
-abbrev pub above_at : Span → CostTable → Option Bound → Option (Dimension × Span)
+abbrev pub above_at : Span → CostTable → Option Bill → Option (Dimension × Span)
 above_at span table None = None
-above_at span table (Some bound) = option_map (λ d. (d, span)) (first_above most_cost (bound table))
+above_at span table (Some bound) = option_map (λ d. (d, span)) (first_above most_cost (cost_under table bound))
 
 -- the first form whose bound is above the limit, with the first such dimension, and the deployment last
 abbrev pub bound_stop : CostTable → Defined → List Form → Option (Dimension × Span)
@@ -145,7 +146,7 @@ bound_stop_of table (Some p) Deeper = Deeper
 -- a line of the report: a function's bound and return type
 abbrev pub line_in : CostTable → Option Signature → Option (Cost5 × PlainType)
 line_in table None = None
-line_in table (Some f) = Some (f.bound table, f.returns)
+line_in table (Some f) = Some (cost_under table f.bound, f.returns)
 
 abbrev pub line_by : CostTable → List ℕ → Judged Defined → Option (Cost5 × PlainType)
 line_by table name (Holds defined) = line_in table (signature_in name defined.context.functions)
@@ -153,6 +154,6 @@ line_by table name (Fails r s) = None
 line_by table name Deeper = None
 
 abbrev pub deployment_by : CostTable → Judged Defined → Option Cost5
-deployment_by table (Holds defined) = Some (defined.deploy table)
+deployment_by table (Holds defined) = Some (cost_under table defined.deploy)
 deployment_by table (Fails r s) = None
 deployment_by table Deeper = None

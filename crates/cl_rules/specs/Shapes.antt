@@ -8,7 +8,8 @@ use Rattle.cl_forms.specs.Heads.{Row, takes}
 use Rattle.cl_rules.specs.Faults.{ShapeFaults, sound_shape}
 use Rattle.cl_types.specs.TypeKinds.{is_uint, is_principal}
 use Rattle.cl_rules.specs.NativeTypes.{Ruled, fine, if_kind}
-use Rattle.cl_rules.specs.Context.{Names, charge, free}
+use Rattle.cl_rules.specs.Bills.{Free, Charge}
+use Rattle.cl_rules.specs.Context.{Names}
 use Rattle.cl_rules.specs.Verdicts.{Found, Verdict, types_of, number_at, summed}
 
 -- The parts that are looked at, from the left, each with the names that are bound there. The names at later parts need
@@ -30,7 +31,7 @@ parts B (e ∷ es) = Part B e (parts B es)
 
 -- the verdict where nothing is asked of it
 abbrev pub no_verdict : List Found → Verdict
-no_verdict fs = summed (fine NoType) free fs
+no_verdict fs = summed (fine NoType) Free fs
 
 -- a shape with these faults, of which no part is looked at
 abbrev pub unlooked : ShapeFaults → Shape
@@ -38,7 +39,7 @@ unlooked faults = record { faults = faults; plan = Ends; verdict = no_verdict }
 
 -- an expression without parts, which is charged by the size of its type
 abbrev pub value_shape : CostName → Ruled → Shape
-value_shape name ruled = record { faults = sound_shape; plan = Ends; verdict = λ fs. summed ruled (charge name (size_of ruled.type)) fs }
+value_shape name ruled = record { faults = sound_shape; plan = Ends; verdict = λ fs. summed ruled (Charge name (size_of ruled.type)) fs }
 
 -- ---- natives all of whose arguments are evaluated
 
@@ -48,7 +49,7 @@ is_miscounted row es = not (takes row.arity (length es))
 
 -- the ruling at the types of the arguments, and the row's charge
 abbrev pub evaluated : Row → (List PlainType → Ruled) → List Found → Verdict
-evaluated row ruled fs = summed (ruled (types_of fs)) (charge row.cost (number_at row.cost (types_of fs))) fs
+evaluated row ruled fs = summed (ruled (types_of fs)) (Charge row.cost (number_at row.cost (types_of fs))) fs
 
 abbrev pub native_shape : Row → (List Found → Verdict) → Names → List Tree → Shape
 native_shape row verdict B es = record { faults = record sound_shape { argument_count = is_miscounted row es }; plan = parts B es; verdict = verdict }

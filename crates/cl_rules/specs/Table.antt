@@ -8,7 +8,8 @@ use Rattle.cl_forms.specs.declared.head.Head.TheVariants.{OnValues, OnToken, Tup
 use Rattle.cl_forms.specs.Shapes.{trees_of, pairs_of}
 use Rattle.cl_rules.specs.Faults.{sound_shape}
 use Rattle.cl_rules.specs.NativeTypes.{fine, one, two, native_type}
-use Rattle.cl_rules.specs.Context.{Context, Names, Signature, charge, signature_in}
+use Rattle.cl_rules.specs.Bills.{Charge}
+use Rattle.cl_rules.specs.Context.{Context, Names, Signature, signature_in}
 use Rattle.cl_rules.specs.Shapes.{Shape, unlooked, evaluated, native_shape, APrincipal}
 use Rattle.cl_rules.specs.ControlShapes.{leaf_shape, last_row, truth_row, asserts_row, unwrap_row, unwrap_err_row, try_row, if_verdict, let_shape, match_shape}
 use Rattle.cl_rules.specs.DataShapes.{tuple_shape, pairs_shape, get_shape, max_len_shape, variable_shape, var_get, var_set, map_shape, map_get, map_put, map_delete, fungible_shape, nonfungible_shape, stated_shape, token_shape}
@@ -32,7 +33,7 @@ head_shape FtSupply row G B es = fungible_shape row [] UintType G B es
 head_shape StxBalance row G B es = stated_shape row (APrincipal ∷ []) UintType B es
 head_shape NftOwner row G B es = nonfungible_shape row [] (OptionalType PrincipalType) G B es
 head_shape Print row G B es = native_shape row (evaluated row (one fine)) B es
-head_shape If row G B es = native_shape row (if_verdict (charge row.cost (length es))) B es
+head_shape If row G B es = native_shape row (if_verdict (Charge row.cost (length es))) B es
 head_shape Let row G B es = let_shape row G B es
 head_shape Begin row G B es = native_shape row (evaluated row last_row) B es
 head_shape And row G B es = native_shape row (evaluated row truth_row) B es

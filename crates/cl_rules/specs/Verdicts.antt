@@ -4,12 +4,11 @@ use Rattle.cl_types.specs.Types.{PlainType, size_of}
 use Rattle.cl_types.specs.Lattice.{least_supertype}
 use Rattle.cl_types.specs.declared.sized.TyRefusal.{TyRefusal}
 use Rattle.cl_types.specs.declared.sized.TyRefusal.TheVariants.{Differ}
-use Rattle.cl_shapes.specs.Costs.{plus, zero_cost}
 use Rattle.cl_shapes.specs.declared.name.CostName.{CostName}
 use Rattle.cl_shapes.specs.declared.name.CostName.TheVariants.{Arith, Control}
 use Rattle.cl_rules.specs.Faults.{TypeFaults}
 use Rattle.cl_rules.specs.NativeTypes.{Ruled}
-use Rattle.cl_rules.specs.Context.{Bound, both}
+use Rattle.cl_rules.specs.Bills.{Bill, Free, Both}
 
 -- what is found of an expression
 pub record Found : Type 0 where
@@ -17,7 +16,7 @@ pub record Found : Type 0 where
   -- the type of what it may throw
   pub thrown : Option PlainType
   pub height : ℕ
-  pub bound : Bound
+  pub bound : Bill
 
 -- what an expression breaks at what is found of its parts, and what is found of it where that is nothing
 pub record Verdict : Type 0 where
@@ -65,9 +64,9 @@ highest [] = 0
 highest (f ∷ fs) = max f.height (highest fs)
 
 -- the bounds of all parts
-abbrev pub sum_of : List Found → Bound
-sum_of [] table = zero_cost
-sum_of (f ∷ fs) table = plus (f.bound table) (sum_of fs table)
+abbrev pub sum_of : List Found → Bill
+sum_of [] = Free
+sum_of (f ∷ fs) = Both f.bound (sum_of fs)
 
 -- the sum of the sizes of types
 abbrev pub sizes_of : List PlainType → ℕ
@@ -86,7 +85,7 @@ abbrev pub faults_with : TypeFaults → Thrown → TypeFaults
 faults_with faults thrown = record faults { too_large = faults.too_large || thrown.large; thrown_differ = faults.thrown_differ || thrown.differ }
 
 -- An expression with this ruling and this bound. What it applies counts as a part of this height.
-abbrev pub concluded : Ruled → ℕ → Bound → List Found → Verdict
+abbrev pub concluded : Ruled → ℕ → Bill → List Found → Verdict
 concluded ruled applied bound fs =
     let thrown = thrown_by fs ruled.throws in
     record {
@@ -95,9 +94,9 @@ concluded ruled applied bound fs =
     }
 
 -- an expression with these charges of its own, whose parts all count in its bound
-abbrev pub summed : Ruled → Bound → List Found → Verdict
-summed ruled own fs = concluded ruled 0 (both own (sum_of fs)) fs
+abbrev pub summed : Ruled → Bill → List Found → Verdict
+summed ruled own fs = concluded ruled 0 (Both own (sum_of fs)) fs
 
 -- the same, of an expression that applies a function of this height
-abbrev pub applying : Ruled → ℕ → Bound → List Found → Verdict
-applying ruled height own fs = concluded ruled height (both own (sum_of fs)) fs
+abbrev pub applying : Ruled → ℕ → Bill → List Found → Verdict
+applying ruled height own fs = concluded ruled height (Both own (sum_of fs)) fs

@@ -17,7 +17,8 @@ use Rattle.cl_meaning.specs.Deployed.{Contract, Function, contract_at, function_
 use Rattle.cl_meaning.specs.Deploying.{deployment}
 use Rattle.cl_meaning.specs.Limits.{Costs, limited}
 use Rattle.cl_meaning.specs.Top.{call_from}
-use Rattle.cl_rules.specs.Context.{Bound, Known, Signature, known_at, signature_in}
+use Rattle.cl_rules.specs.Bills.{Bill, cost_under}
+use Rattle.cl_rules.specs.Context.{Known, Signature, known_at, signature_in}
 use Rattle.cl_rules.specs.FormRules.{Defined}
 use Rattle.cl_rules.specs.Acceptance.{Accepted, FirstBreakOf, bound_of, known_of}
 use Rattle.cl_file.specs.declared.entry.Common.{Common}
@@ -72,7 +73,7 @@ call_step costs node common contract function args = if_deployed costs node comm
 
 -- a form that is a function: its name with its bound, and the type that it returns
 abbrev pub bound_line : Costs → Defined → Form → Option (List ℕ × Cost5)
-bound_line costs defined form = option_map (λ (bound : Bound). (unwrap_or form.name [], bound costs)) (bound_of defined form)
+bound_line costs defined form = option_map (λ (bound : Bill). (unwrap_or form.name [], cost_under costs bound)) (bound_of defined form)
 
 abbrev pub return_by : Defined → FormKind → List ℕ → Option PlainType
 return_by defined (FunctionForm access params body) name = option_map (λ (f : Signature). f.returns) (signature_in name defined.context.functions)
@@ -84,7 +85,7 @@ return_of defined form = return_by defined form.kind (unwrap_or form.name [])
 -- the bounds and return types of an accepted contract, in the order of its text
 abbrev pub told_of : Costs → Defined → List Form → Told
 told_of costs defined forms = record {
-  bounds = Some (record { deploy = defined.deploy costs; functions = filter_map (bound_line costs defined) forms });
+  bounds = Some (record { deploy = cost_under costs defined.deploy; functions = filter_map (bound_line costs defined) forms });
   types = filter_map (return_of defined) forms;
 }
 

@@ -12,9 +12,9 @@ use Rattle.cl_types.specs.declared.sized.TyRefusal.TheVariants.{Differ, TooLarge
 use Rattle.cl_sexpr.specs.declared.rule.Rule.{Rule}
 use Rattle.cl_sexpr.specs.declared.rule.Rule.TheVariants.{ArgumentKind}
 use Rattle.cl_rules.specs.NativeTypes.{Ruled, fine, wrong_kind, and_lub, one, part_row}
-use Rattle.cl_rules.specs.Context.{Bound, both}
+use Rattle.cl_rules.specs.Bills.{Bill, Both, Greater}
 use Rattle.cl_rules.specs.Verdicts.{Found, types_of, sum_of, summed, concluded}
-use Rattle.cl_rules.specs.ControlShapes.{if_determined, tried, try_row, match_verdict, optional_verdict, response_verdict, either, bound_branch}
+use Rattle.cl_rules.specs.ControlShapes.{if_determined, tried, try_row, match_verdict, optional_verdict, response_verdict, bound_branch}
 use Rattle.cl_typing.specs.Verdicts.{Rules, RulesWith}
 use Rattle.cl_typing.specs.Branches.{optional_row, response_row, tried_of}
 
@@ -68,30 +68,30 @@ pub response_else : (ts : List PlainType) → (length ts ≡ 3 → ⊥) → Rule
 response_else [] h = (refl, refl)
 response_else (t ∷ ts) h = wrong (response_row (t ∷ ts)) (far_response t ts (unlike_three t ts h))
 
-optional_by : (own : Bound) (i a b : Found) (t : PlainType) → (bound : Bound) × (optional_verdict own i a b t ≡ concluded (optional_row (t ∷ a.type ∷ b.type ∷ [])) 0 bound (i ∷ a ∷ b ∷ []))
-optional_by own i a b (OptionalType t) = (both own (both i.bound (either (bound_branch t a) b.bound)), refl)
-optional_by own i a b t = (both own (sum_of (i ∷ a ∷ b ∷ [])), refl)
+optional_by : (own : Bill) (i a b : Found) (t : PlainType) → (bound : Bill) × (optional_verdict own i a b t ≡ concluded (optional_row (t ∷ a.type ∷ b.type ∷ [])) 0 bound (i ∷ a ∷ b ∷ []))
+optional_by own i a b (OptionalType t) = (Both own (Both i.bound (Greater (bound_branch t a) b.bound)), refl)
+optional_by own i a b t = (Both own (sum_of (i ∷ a ∷ b ∷ [])), refl)
 
-response_by : (own : Bound) (i a b : Found) (t : PlainType) → (bound : Bound) × (response_verdict own i a b t ≡ concluded (response_row (t ∷ a.type ∷ b.type ∷ [])) 0 bound (i ∷ a ∷ b ∷ []))
-response_by own i a b (ResponseType t e) = (both own (both i.bound (either (bound_branch t a) (bound_branch e b))), refl)
-response_by own i a b t = (both own (sum_of (i ∷ a ∷ b ∷ [])), refl)
+response_by : (own : Bill) (i a b : Found) (t : PlainType) → (bound : Bill) × (response_verdict own i a b t ≡ concluded (response_row (t ∷ a.type ∷ b.type ∷ [])) 0 bound (i ∷ a ∷ b ∷ []))
+response_by own i a b (ResponseType t e) = (Both own (Both i.bound (Greater (bound_branch t a) (bound_branch e b))), refl)
+response_by own i a b t = (Both own (sum_of (i ∷ a ∷ b ∷ [])), refl)
 
-at_row : (own : Bound) (fs : List Found) (R : Ruled) → R ≡ wrong_kind → summed wrong_kind own fs ≡ concluded R 0 (both own (sum_of fs)) fs
-at_row own fs R is = ap (λ (S : Ruled). concluded S 0 (both own (sum_of fs)) fs) (sym is)
+at_row : (own : Bill) (fs : List Found) (R : Ruled) → R ≡ wrong_kind → summed wrong_kind own fs ≡ concluded R 0 (Both own (sum_of fs)) fs
+at_row own fs R is = ap (λ (S : Ruled). concluded S 0 (Both own (sum_of fs)) fs) (sym is)
 
-pub optional_is : (own : Bound) (fs : List Found) → (bound : Bound) × (match_verdict true own fs ≡ concluded (optional_row (types_of fs)) 0 bound fs)
-optional_is own [] = (both own (sum_of []), refl)
-optional_is own (i ∷ []) = (both own (sum_of (i ∷ [])), at_row own (i ∷ []) (optional_row (types_of (i ∷ []))) (far_optional i.type [] (λ e. absurd (omega (arith, e)))))
-optional_is own (i ∷ a ∷ []) = (both own (sum_of (i ∷ a ∷ [])), at_row own (i ∷ a ∷ []) (optional_row (types_of (i ∷ a ∷ []))) (far_optional i.type (a.type ∷ []) (λ e. absurd (omega (arith, e)))))
+pub optional_is : (own : Bill) (fs : List Found) → (bound : Bill) × (match_verdict true own fs ≡ concluded (optional_row (types_of fs)) 0 bound fs)
+optional_is own [] = (Both own (sum_of []), refl)
+optional_is own (i ∷ []) = (Both own (sum_of (i ∷ [])), at_row own (i ∷ []) (optional_row (types_of (i ∷ []))) (far_optional i.type [] (λ e. absurd (omega (arith, e)))))
+optional_is own (i ∷ a ∷ []) = (Both own (sum_of (i ∷ a ∷ [])), at_row own (i ∷ a ∷ []) (optional_row (types_of (i ∷ a ∷ []))) (far_optional i.type (a.type ∷ []) (λ e. absurd (omega (arith, e)))))
 optional_is own (i ∷ a ∷ b ∷ []) = optional_by own i a b i.type
-optional_is own (i ∷ a ∷ b ∷ c ∷ fs) = (both own (sum_of (i ∷ a ∷ b ∷ c ∷ fs)), at_row own (i ∷ a ∷ b ∷ c ∷ fs) (optional_row (types_of (i ∷ a ∷ b ∷ c ∷ fs))) (far_optional i.type (a.type ∷ b.type ∷ c.type ∷ types_of fs) (λ e. absurd (omega (arith, e)))))
+optional_is own (i ∷ a ∷ b ∷ c ∷ fs) = (Both own (sum_of (i ∷ a ∷ b ∷ c ∷ fs)), at_row own (i ∷ a ∷ b ∷ c ∷ fs) (optional_row (types_of (i ∷ a ∷ b ∷ c ∷ fs))) (far_optional i.type (a.type ∷ b.type ∷ c.type ∷ types_of fs) (λ e. absurd (omega (arith, e)))))
 
-pub response_is : (own : Bound) (fs : List Found) → (bound : Bound) × (match_verdict false own fs ≡ concluded (response_row (types_of fs)) 0 bound fs)
-response_is own [] = (both own (sum_of []), refl)
-response_is own (i ∷ []) = (both own (sum_of (i ∷ [])), at_row own (i ∷ []) (response_row (types_of (i ∷ []))) (far_response i.type [] (λ e. absurd (omega (arith, e)))))
-response_is own (i ∷ a ∷ []) = (both own (sum_of (i ∷ a ∷ [])), at_row own (i ∷ a ∷ []) (response_row (types_of (i ∷ a ∷ []))) (far_response i.type (a.type ∷ []) (λ e. absurd (omega (arith, e)))))
+pub response_is : (own : Bill) (fs : List Found) → (bound : Bill) × (match_verdict false own fs ≡ concluded (response_row (types_of fs)) 0 bound fs)
+response_is own [] = (Both own (sum_of []), refl)
+response_is own (i ∷ []) = (Both own (sum_of (i ∷ [])), at_row own (i ∷ []) (response_row (types_of (i ∷ []))) (far_response i.type [] (λ e. absurd (omega (arith, e)))))
+response_is own (i ∷ a ∷ []) = (Both own (sum_of (i ∷ a ∷ [])), at_row own (i ∷ a ∷ []) (response_row (types_of (i ∷ a ∷ []))) (far_response i.type (a.type ∷ []) (λ e. absurd (omega (arith, e)))))
 response_is own (i ∷ a ∷ b ∷ []) = response_by own i a b i.type
-response_is own (i ∷ a ∷ b ∷ c ∷ fs) = (both own (sum_of (i ∷ a ∷ b ∷ c ∷ fs)), at_row own (i ∷ a ∷ b ∷ c ∷ fs) (response_row (types_of (i ∷ a ∷ b ∷ c ∷ fs))) (far_response i.type (a.type ∷ b.type ∷ c.type ∷ types_of fs) (λ e. absurd (omega (arith, e)))))
+response_is own (i ∷ a ∷ b ∷ c ∷ fs) = (Both own (sum_of (i ∷ a ∷ b ∷ c ∷ fs)), at_row own (i ∷ a ∷ b ∷ c ∷ fs) (response_row (types_of (i ∷ a ∷ b ∷ c ∷ fs))) (far_response i.type (a.type ∷ b.type ∷ c.type ∷ types_of fs) (λ e. absurd (omega (arith, e)))))
 
 -- ---- try
 

@@ -13,7 +13,8 @@ use Rattle.cl_types.specs.declared.sized.TyRefusal.TheVariants.{Differ, TooLarge
 use Rattle.cl_sexpr.specs.declared.rule.Rule.{Rule}
 use Rattle.cl_sexpr.specs.declared.rule.Rule.TheVariants.{ArgumentKind}
 use Rattle.cl_rules.specs.NativeTypes.{Ruled, made, of_kind, if_kind, wrong_kind, and_lub, and_ruled}
-use Rattle.cl_rules.specs.Context.{Signature, both}
+use Rattle.cl_rules.specs.Bills.{Both}
+use Rattle.cl_rules.specs.Context.{Signature}
 use Rattle.cl_rules.specs.Verdicts.{types_of, sum_of, concluded}
 use Rattle.cl_rules.specs.CallShapes.{Usable, AFunction, ANative, use_row, use_height, entries_row, least_length, map_row, filter_row, fold_row, fold_function, admits_first, iterating, map_verdict, filter_verdict, fold_verdict}
 use Rattle.cl_code.specs.Typed.{type_of}
@@ -113,15 +114,15 @@ second_type ts = NoType
 module _ (used : CodeUsable) (height : ℕ) (high : (u : Usable) → IsUsed used u → height ≡ use_height u) (ruled : Result PlainType (Fault Rule)) (result : Result Concluded (Fault Rule)) where
   pub map_judged : (cs : List Checked) (ts : List PlainType) → ts ≡ types_at cs → RulesUse (λ u. map_row u ts) used ruled → ConcludesAs ruled None height cs result → Iterates map_verdict used cs result
   map_judged cs ts types h k u is row fs same =
-      subst (λ (n : ℕ). Concludes (concluded (map_row u (types_of fs)) n (both (iterating row u (types_of fs) (least_length (types_of fs)) (map entry_of (types_of fs))) (sum_of fs)) fs) result) (high u is)
-      (k (map_row u (types_of fs)) (both (iterating row u (types_of fs) (least_length (types_of fs)) (map entry_of (types_of fs))) (sum_of fs)) fs (subst (λ (us : List PlainType). Rules (map_row u us) ruled) (types ∙ sym (types_seen fs cs same)) (h u is)) same)
+      subst (λ (n : ℕ). Concludes (concluded (map_row u (types_of fs)) n (Both (iterating row u (types_of fs) (least_length (types_of fs)) (map entry_of (types_of fs))) (sum_of fs)) fs) result) (high u is)
+      (k (map_row u (types_of fs)) (Both (iterating row u (types_of fs) (least_length (types_of fs)) (map entry_of (types_of fs))) (sum_of fs)) fs (subst (λ (us : List PlainType). Rules (map_row u us) ruled) (types ∙ sym (types_seen fs cs same)) (h u is)) same)
 
   pub filter_judged : (c : Checked) → RulesUse (λ u. filter_row u (type_of c.code)) used ruled → ConcludesAs ruled None height (c ∷ []) result → Iterates filter_verdict used (c ∷ []) result
   filter_judged c h k u is row [] same = absurd cc
   filter_judged c h k u is row (f ∷ []) same =
       let type : f.type ≡ type_of c.code = ap first_type (types_seen (f ∷ []) (c ∷ []) same) in
-      subst (λ (n : ℕ). Concludes (concluded (filter_row u f.type) n (both (iterating row u (f.type ∷ []) (length_of f.type) (entry_of f.type ∷ [])) (sum_of (f ∷ []))) (f ∷ [])) result) (high u is)
-      (k (filter_row u f.type) (both (iterating row u (f.type ∷ []) (length_of f.type) (entry_of f.type ∷ [])) (sum_of (f ∷ []))) (f ∷ []) (subst (λ (t : PlainType). Rules (filter_row u t) ruled) (sym type) (h u is)) same)
+      subst (λ (n : ℕ). Concludes (concluded (filter_row u f.type) n (Both (iterating row u (f.type ∷ []) (length_of f.type) (entry_of f.type ∷ [])) (sum_of (f ∷ []))) (f ∷ [])) result) (high u is)
+      (k (filter_row u f.type) (Both (iterating row u (f.type ∷ []) (length_of f.type) (entry_of f.type ∷ [])) (sum_of (f ∷ []))) (f ∷ []) (subst (λ (t : PlainType). Rules (filter_row u t) ruled) (sym type) (h u is)) same)
   filter_judged c h k u is row (f ∷ g ∷ fs) same = absurd cc
 
   pub fold_judged : (c d : Checked) → RulesUse (λ u. fold_row u (type_of c.code) (type_of d.code)) used ruled → ConcludesAs ruled None height (c ∷ d ∷ []) result → Iterates fold_verdict used (c ∷ d ∷ []) result
@@ -132,7 +133,7 @@ module _ (used : CodeUsable) (height : ℕ) (high : (u : Usable) → IsUsed used
       let first : f.type ≡ type_of c.code = ap first_type types in
       let second : g.type ≡ type_of d.code = ap second_type types in
       let R = fold_row u f.type g.type in
-      let bound = both (iterating row u (f.type ∷ g.type ∷ []) (length_of f.type) (entry_of f.type ∷ R.type ∷ [])) (sum_of (f ∷ g ∷ [])) in
+      let bound = Both (iterating row u (f.type ∷ g.type ∷ []) (length_of f.type) (entry_of f.type ∷ R.type ∷ [])) (sum_of (f ∷ g ∷ [])) in
       subst (λ (n : ℕ). Concludes (concluded R n bound (f ∷ g ∷ [])) result) (high u is)
       (k R bound (f ∷ g ∷ []) (subst (λ (t : PlainType). Rules (fold_row u t g.type) ruled) (sym first) (subst (λ (t : PlainType). Rules (fold_row u (type_of c.code) t) ruled) (sym second) (h u is))) same)
   fold_judged c d h k u is row (f ∷ g ∷ e ∷ fs) same = absurd cc

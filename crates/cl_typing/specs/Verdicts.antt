@@ -12,7 +12,7 @@ use Rattle.cl_values.specs.declared.native.Native.TheVariants.{Add, Subtract, Mu
 use Rattle.cl_sexpr.specs.declared.rule.Rule.TheVariants.{ArgumentKind, NotSame, TooLarge, ThrownDiffer, UnusedResponse, NoSuchKey}
 use Rattle.cl_rules.specs.Faults.{type_rules}
 use Rattle.cl_rules.specs.NativeTypes.{Ruled, and_lub, lub_then}
-use Rattle.cl_rules.specs.Context.{Bound}
+use Rattle.cl_rules.specs.Bills.{Bill}
 use Rattle.cl_rules.specs.Verdicts.{Found, Verdict, Thrown, so_far, and_throws, thrown_after, concluded, types_of}
 use Rattle.cl_sexpr.specs.Tree.{Tree}
 use Rattle.cl_code.specs.Typed.{expression_of, type_of}
@@ -151,7 +151,7 @@ fault_with NoMemory refusal = NoMemory
 -- What the code concludes from the type that a row gives, what the node throws itself, the height of what it applies and its
 -- parts: whatever the ruling, the bound and what is found of the parts, so far as the code knows them.
 abbrev pub ConcludesAs : Result PlainType (Fault Rule) → Option PlainType → ℕ → List Checked → Result Concluded (Fault Rule) → Type 0
-ConcludesAs ruled own applied parts result = (R : Ruled) (bound : Bound) (fs : List Found) → RulesWith own R ruled → map facts fs ≡ map facts_of parts → Concludes (concluded R applied bound fs) result
+ConcludesAs ruled own applied parts result = (R : Ruled) (bound : Bill) (fs : List Found) → RulesWith own R ruled → map facts fs ≡ map facts_of parts → Concludes (concluded R applied bound fs) result
 
 -- the expressions of the parts
 abbrev pub texts_of : List Checked → List Tree
@@ -164,4 +164,4 @@ types_at cs = map (λ (c : Checked). type_of c.code) cs
 -- The verdict of a ruling on the types of the parts, which applies something of this height: whatever the bound and what is
 -- found of the parts, so far as the code knows them.
 abbrev pub ConcludesRow : (List PlainType → Ruled) → ℕ → List Checked → Result Concluded (Fault Rule) → Type 0
-ConcludesRow row applied parts result = (bound : Bound) (fs : List Found) → map facts fs ≡ map facts_of parts → Concludes (concluded (row (types_of fs)) applied bound fs) result
+ConcludesRow row applied parts result = (bound : Bill) (fs : List Found) → map facts fs ≡ map facts_of parts → Concludes (concluded (row (types_of fs)) applied bound fs) result

@@ -1,6 +1,7 @@
 use Rattle.std.proofs.Common.{◌≡◌, List, Some, filter_map, refl, sym, ap, subst, ◌∙◌}
 use Rattle.cl_shapes.specs.declared.function.CostFn.{CostFn}
 use Rattle.cl_costs.specs.Tables.{function_of}
+use Rattle.cl_rules.specs.Bills.{cost_under}
 use Rattle.cl_rules.specs.Acceptance.{Bounded}
 use Rattle.cl_contracts.specs.Seen.{forms_of}
 use Rattle.cl_tx.specs.Step.{bound_line}
@@ -17,7 +18,7 @@ returns-in-Some-clause-broken c = (
       let done = c.in_ok-deployment.ensures.defined known c.args.checked.now.principal D (c.new-prices.ensures.shown known c.args.checked.now.source_length (are known knows)) stands in
       first_above_all c.what_callers_know.ensures.typed known c.args.checked.now D stands c.the_first_bound_is_found.ensures.first c.deployment.new.prices.costs c.args.costs.now c.in-Some.dimension c.in-Some.span c.of.result.span
       (c.in_ok-deployment.ensures.costs ∙ c.new-prices.ensures.costs) c.of.ensures.span
-      (c.in-Some.ensures D done.0 (done.1 ∙ ap (λ (t : List CostFn). told (D.deploy (function_of t))) (sym c.in_ok-deployment.ensures.costs))),
+      (c.in-Some.ensures D done.0 (done.1 ∙ ap (λ (t : List CostFn). told (cost_under (function_of t) D.deploy)) (sym c.in_ok-deployment.ensures.costs))),
 )
 
 pub returns-in_ok-functions-in-None-clause-bounded : goal.returns-in_ok-functions-in-None-clause-bounded
@@ -25,7 +26,7 @@ returns-in_ok-functions-in-None-clause-bounded c deployed known D are knows stan
     let done = c.in_ok-deployment.ensures.defined known c.args.checked.now.principal D (c.new-prices.ensures.shown known c.args.checked.now.source_length (are known knows)) stands in
     all_bounded c.what_callers_know.ensures.typed known c.args.checked.now D stands c.the_first_bound_is_found.ensures.none c.deployment.new.prices.costs c.args.costs.now
     (c.in_ok-deployment.ensures.costs ∙ c.new-prices.ensures.costs)
-    (c.in-None.ensures D done.0 (done.1 ∙ ap (λ (t : List CostFn). told (D.deploy (function_of t))) (sym c.in_ok-deployment.ensures.costs)))
+    (c.in-None.ensures D done.0 (done.1 ∙ ap (λ (t : List CostFn). told (cost_under (function_of t) D.deploy)) (sym c.in_ok-deployment.ensures.costs)))
 
 pub returns-in_ok-functions-in-None-clause-told : goal.returns-in_ok-functions-in-None-clause-told
 returns-in_ok-functions-in-None-clause-told c deployed known D are knows stands =
@@ -33,8 +34,8 @@ returns-in_ok-functions-in-None-clause-told c deployed known D are knows stands 
     let same : c.deployment.new.prices.costs ≡ c.args.costs.now = c.in_ok-deployment.ensures.costs ∙ c.new-prices.ensures.costs in
     let bounded : Bounded D (forms_of c.args.checked.now) (function_of c.args.costs.now) =
     all_bounded c.what_callers_know.ensures.typed known c.args.checked.now D stands c.the_first_bound_is_found.ensures.none c.deployment.new.prices.costs c.args.costs.now same
-    (c.in-None.ensures D done.0 (done.1 ∙ ap (λ (t : List CostFn). told (D.deploy (function_of t))) (sym c.in_ok-deployment.ensures.costs))) in
-    let deploy = c.saturated.ensures (D.deploy (function_of c.args.costs.now)) (done.1 ∙ ap (λ (t : List CostFn). told (D.deploy (function_of t))) c.new-prices.ensures.costs) bounded.deployment in
+    (c.in-None.ensures D done.0 (done.1 ∙ ap (λ (t : List CostFn). told (cost_under (function_of t) D.deploy)) (sym c.in_ok-deployment.ensures.costs))) in
+    let deploy = c.saturated.ensures (cost_under (function_of c.args.costs.now) D.deploy) (done.1 ∙ ap (λ (t : List CostFn). told (cost_under (function_of t) D.deploy)) c.new-prices.ensures.costs) bounded.deployment in
     let lines = c.new.ensures ∙ c.in_ok-functions-in-None.ensures D done.0 (subst (λ (t : List CostFn). Bounded D (forms_of c.args.checked.now) (function_of t)) (sym same) bounded) ∙ ap (λ (t : List CostFn). filter_map (bound_line (function_of t) D) (forms_of c.args.checked.now)) same in
     λ i. Some (record { deploy = sym deploy i; functions = sym lines i })
 

@@ -1,6 +1,7 @@
 use Rattle.std.proofs.Common.{ℕ, List, refl, subst, ◌≡◌}
 use Rattle.cl_types.specs.Types.{PlainType}
 use Rattle.cl_costs.specs.Tables.{function_of}
+use Rattle.cl_rules.specs.Bills.{cost_under}
 use Rattle.cl_rules.specs.FormRules.{application}
 use Rattle.cl_contracts.specs.Standing.{Stands}
 use Rattle.cl_bound.specs.Sums.{told}
@@ -12,5 +13,5 @@ returns-clause-shown c =
     on_ok c.keep.result (λ kept D fs shows stands.
     defined_shows c.args.prices.now (record c.args.prices.now { functions = c.keep.new.functions }) D fs c.args.function.now (record { access = c.args.function.now.access; bound = c.application-bound.result })
     kept refl
-    (λ g. subst (λ (ps : List (List ℕ × PlainType)). Stands D.context ps c.args.function.now.body g → c.application-bound.result ≡ told (application ps g (function_of c.args.prices.now.costs))) c.deref.ensures.value (λ s. c.application-bound.ensures D.context g shows s))
+    (λ g. subst (λ (ps : List (List ℕ × PlainType)). Stands D.context ps c.args.function.now.body g → c.application-bound.result ≡ told (cost_under (function_of c.args.prices.now.costs) (application ps g))) c.deref.ensures.value (λ s. c.application-bound.ensures D.context g shows s))
     shows stands) c.keep.ensures

@@ -3,6 +3,7 @@ use Rattle.cl_costs.specs.Tables.{function_of}
 use Rattle.cl_bound.proofs.Adding.{again}
 use Rattle.cl_bound.proofs.Stopping.{next_stop, last_stop}
 use Rattle.cl_bound.proofs.stop.first_stop.Goals as goal
+use Rattle.cl_rules.specs.Bills.{cost_under}
 
 pub returns-in-Some : goal.returns-in-Some
 returns-in-Some c D shows deploy =
@@ -20,8 +21,8 @@ loop-place-preserved c D shows =
 
 pub returns-in-Some-above : goal.returns-in-Some-above
 returns-in-Some-above c D shows deploy =
-    last_stop c.args.checked.now (function_of c.args.prices.now.costs) D c.loop-place.place-index (Some c.in-Some-above.dimension) (subst (λ (xs : List ℕ). length xs ≤ c.loop-place.place-index) c.deref-place-items.ensures.value c.loop-place-test.false) (c.in-Some-above.ensures (D.deploy (function_of c.args.prices.now.costs)) deploy) (c.loop-place.invariant D shows)
+    last_stop c.args.checked.now (function_of c.args.prices.now.costs) D c.loop-place.place-index (Some c.in-Some-above.dimension) (subst (λ (xs : List ℕ). length xs ≤ c.loop-place.place-index) c.deref-place-items.ensures.value c.loop-place-test.false) (c.in-Some-above.ensures (cost_under (function_of c.args.prices.now.costs) D.deploy) deploy) (c.loop-place.invariant D shows)
 
 pub returns-in-None : goal.returns-in-None
 returns-in-None c D shows deploy =
-    last_stop c.args.checked.now (function_of c.args.prices.now.costs) D c.loop-place.place-index None (subst (λ (xs : List ℕ). length xs ≤ c.loop-place.place-index) c.deref-place-items.ensures.value c.loop-place-test.false) (c.in-None.ensures (D.deploy (function_of c.args.prices.now.costs)) deploy) (c.loop-place.invariant D shows)
+    last_stop c.args.checked.now (function_of c.args.prices.now.costs) D c.loop-place.place-index None (subst (λ (xs : List ℕ). length xs ≤ c.loop-place.place-index) c.deref-place-items.ensures.value c.loop-place-test.false) (c.in-None.ensures (cost_under (function_of c.args.prices.now.costs) D.deploy) deploy) (c.loop-place.invariant D shows)

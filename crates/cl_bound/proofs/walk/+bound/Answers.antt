@@ -9,20 +9,21 @@ use Rattle.cl_bound.specs.Own.{own, inside, inside_by}
 use Rattle.cl_bound.proofs.Adding.{sum_more}
 use Rattle.cl_bound.proofs.TreeBounds.{bound_is, sums_none, sums_turn, sums_end, part_falls, three_sum, no_branches}
 use Rattle.cl_bound.proofs.walk.+bound.Goals as goal
+use Rattle.cl_rules.specs.Bills.{cost_under}
 
 pub add_bound-returns-in-Some : goal.add_bound-returns-in-Some
 add_bound-returns-in-Some t c G B f shows stands =
     bound_is G B f (function_of c.args.prices.now.costs) c.code.inside.op c.code.inside.parts.items c.code.inside.span c.code.inside.ty c.args.code.now c.args.sum.now c.add_own.new.sum c.increase.new.self c.code.invariant.named c.code.view_is stands
-    (subst (λ (qs : List Typed). Increases c.args.sum.now c.add_own.new.sum (own G c.code.inside.op c.code.inside.ty (map type_of qs) (function_of c.args.prices.now.costs))) c.deref.ensures.value (c.add_own.ensures G shows))
-    (λ p gs s. sum_more c.add_own.new.sum c.branches_bound.result c.increase.new.self (inside c.code.inside.op gs (function_of c.args.prices.now.costs))
-    (c.branches_bound.ensures G p gs shows (subst (λ (qs : List Typed). StandAll G p (typeds qs) gs) (sym c.deref-in-Some.ensures.value) s) ∙ ap (λ (o : Option (Branch × Branch)). told (inside_by o gs (function_of c.args.prices.now.costs))) c.in-Some.ensures)
+    (subst (λ (qs : List Typed). Increases c.args.sum.now c.add_own.new.sum (cost_under (function_of c.args.prices.now.costs) (own G c.code.inside.op c.code.inside.ty (map type_of qs)))) c.deref.ensures.value (c.add_own.ensures G shows))
+    (λ p gs s. sum_more c.add_own.new.sum c.branches_bound.result c.increase.new.self (cost_under (function_of c.args.prices.now.costs) (inside c.code.inside.op gs))
+    (c.branches_bound.ensures G p gs shows (subst (λ (qs : List Typed). StandAll G p (typeds qs) gs) (sym c.deref-in-Some.ensures.value) s) ∙ ap (λ (o : Option (Branch × Branch)). told (cost_under (function_of c.args.prices.now.costs) (inside_by o gs))) c.in-Some.ensures)
     c.increase.ensures)
 
 pub add_bound-returns-in-None : goal.add_bound-returns-in-None
 add_bound-returns-in-None t c G B f shows stands =
     bound_is G B f (function_of c.args.prices.now.costs) c.code.inside.op c.code.inside.parts.items c.code.inside.span c.code.inside.ty c.args.code.now c.args.sum.now c.add_own.new.sum c.add_parts.new.sum c.code.invariant.named c.code.view_is stands
-    (subst (λ (qs : List Typed). Increases c.args.sum.now c.add_own.new.sum (own G c.code.inside.op c.code.inside.ty (map type_of qs) (function_of c.args.prices.now.costs))) c.deref.ensures.value (c.add_own.ensures G shows))
-    (λ p gs s. subst (λ (o : Option (Branch × Branch)). Increases c.add_own.new.sum c.add_parts.new.sum (inside_by o gs (function_of c.args.prices.now.costs))) c.in-None.ensures (c.add_parts.ensures G p gs shows (subst (λ (qs : List Typed). StandAll G p (typeds qs) gs) (sym c.deref-in-None.ensures.value) s)))
+    (subst (λ (qs : List Typed). Increases c.args.sum.now c.add_own.new.sum (cost_under (function_of c.args.prices.now.costs) (own G c.code.inside.op c.code.inside.ty (map type_of qs)))) c.deref.ensures.value (c.add_own.ensures G shows))
+    (λ p gs s. subst (λ (o : Option (Branch × Branch)). Increases c.add_own.new.sum c.add_parts.new.sum (cost_under (function_of c.args.prices.now.costs) (inside_by o gs))) c.in-None.ensures (c.add_parts.ensures G p gs shows (subst (λ (qs : List Typed). StandAll G p (typeds qs) gs) (sym c.deref-in-None.ensures.value) s)))
 
 pub branches_bound-returns-in-len3 : goal.branches_bound-returns-in-len3
 branches_bound-returns-in-len3 t c G p fs shows stands =
