@@ -6,7 +6,6 @@ pub mod Components
 pub mod SameTexts
 pub mod Digits
 pub mod WordSources
-pub mod Returned
 pub mod Judged
 pub mod ReadSo
 pub mod HeardSo

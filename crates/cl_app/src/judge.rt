@@ -15,13 +15,13 @@ use crate::pieces::Reply;
 use crate::sources::Source;
 use cl_bound::{ContractBounds, KnownBounds, Priced, bound};
 use cl_check::check;
-use cl_code::Definition;
 use cl_contracts::{Checked, Contract, Deployed, what_callers_know};
 use cl_costs::CostTable;
+use cl_engine::types_of;
 use cl_report::{accepted_lines, refused_line};
 use cl_sexpr::Refusal;
 use cl_tx::{Bounds, SourceRefusal};
-use cl_types::{Fault, NoMemory, SizedTy};
+use cl_types::{Fault, NoMemory};
 use indexmap::IndexMap;
 use std::alloc::Global;
 
@@ -30,19 +30,6 @@ use std::alloc::Global;
 pub(crate) enum Judged {
     Accepted(Vec<u8>),
     Refused(Vec<u8>),
-}
-
-/// The type that each function returns, in the order of the text.
-fn types_of(alloc: Global, definitions: &[Definition]) -> Result<Vec<SizedTy>, NoMemory>
-    ensures { IfOk result (λ types. types.items ≡ filter_map type_returned definitions.now) }
-{
-    let mut types = Vec::new(alloc);
-    for definition in definitions {
-        if let Definition::Function(function) = definition {
-            types.push(function.returns.copy(alloc)?)?;
-        }
-    }
-    Ok(types)
 }
 
 /// The lines of an accepted contract.

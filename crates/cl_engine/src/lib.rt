@@ -16,3 +16,4 @@ mod told;
 
 pub use laws::nodes_are_known_in_one_way;
 pub use node::Node;
+pub use told::types_of;

@@ -39,8 +39,8 @@ fn push_type(
     }
 }
 
-/// The type that each function returns.
-fn types_of(alloc: Global, definitions: &[Definition]) -> Result<Vec<SizedTy>, NoMemory>
+/// The type that each function returns, in the order of the text.
+pub fn types_of(alloc: Global, definitions: &[Definition]) -> Result<Vec<SizedTy>, NoMemory>
     ensures { IfOk result (λ v. v.items ≡ filter_map type_returned definitions.now) }
 {
     let mut types = Vec::new(alloc);
