@@ -6,7 +6,6 @@ mod branches;
 mod contract;
 mod forms;
 mod known;
-mod measure;
 mod native_costs;
 mod own;
 mod prices;

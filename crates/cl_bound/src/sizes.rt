@@ -9,10 +9,9 @@ ghost use Rattle.cl_rules.specs.CallShapes.{least_length};
 ghost use Rattle.cl_code.specs.Typed.{type_of};
 ghost use Rattle.cl_bound.specs.Own.{good_part, bad_part, least_with};
 
-use crate::measure::measured;
 use cl_code::Code;
 use cl_shapes::CostName;
-use cl_types::{SizedTy, Ty, TyKind, size};
+use cl_types::{SizedTy, Ty, TyKind, measured, size};
 
 /// The sum of the sizes of the parts' types.
 pub(crate) fn sizes(parts: &[Code]) -> u64

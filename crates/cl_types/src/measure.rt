@@ -38,7 +38,7 @@ fn name_size(name: &Name) -> u32
 
 /// The size of a type, or none where it or a part of it is above the limit in size or length.
 #[cycle(measure)]
-pub(crate) fn measured(ty: &Ty) -> Option<u32>
+pub fn measured(ty: &Ty) -> Option<u32>
     ensures counted { result ≡ (if everywhere is_within ty.now then Some (size_of ty.now) else None) }
     ensures within { IfSome result (λ n. n ≤ 1048576) }
     ensures named { IfSome result (λ _. everywhere keys_are_names ty.now ≡ true) }

@@ -8,7 +8,6 @@ mod iterations;
 mod joining;
 mod kinds;
 mod making;
-mod measure;
 mod native_types;
 mod rows;
 mod sequences;

@@ -7,9 +7,8 @@ ghost use Rattle.cl_types.specs.TypeView.{plain_of};
 ghost use Rattle.cl_rules.specs.NativeTypes.{made, fine, lubbed, of_kind};
 ghost use Rattle.cl_typing.specs.Verdicts.{Rules, Lubs, is_fit};
 
-use crate::measure::measured;
 use cl_sexpr::Rule;
-use cl_types::{Fault, NoMemory, SizedTy, Ty, TyKind, TyRefusal, lub};
+use cl_types::{Fault, NoMemory, SizedTy, Ty, TyKind, TyRefusal, lub, measured};
 use std::alloc::{AllocError, Global};
 
 /// The least supertype of two types.
