@@ -1,5 +1,5 @@
 -- Each function of each deployed contract is sound, and so is each typed expression in its code.
-use Rattle.std.proofs.Common.{◌≡◌, ℕ, ◌<◌, ◌≤◌, ◌^◌, true, List, [], Some, refl, sym, ap, subst, ◌∙◌, append-nil}
+use Rattle.std.proofs.Common.{◌≡◌, ℕ, ◌<◌, ◌≤◌, ◌^◌, true, List, [], Some, sym, ap, subst, ◌∙◌}
 use Rattle.cl_types.specs.Types.{PlainType}
 use Rattle.cl_types.specs.declared.sized.Access.{Access}
 use Rattle.cl_types.specs.declared.sized.Access.TheVariants.{Public, ReadOnly, Private}
@@ -16,7 +16,6 @@ use Rattle.cl_rules.specs.Bills.{cost_under}
 use Rattle.cl_rules.specs.Context.{CostTable, Context, Names, Known, Signature, known_at, signature_in}
 use Rattle.cl_rules.specs.Verdicts.{Found}
 use Rattle.cl_rules.specs.FormRules.{may_answer}
-use Rattle.cl_rules.specs.FormTyping.{no_more}
 use Rattle.cl_rules.specs.Typing.{Typed}
 use Rattle.cl_sexpr.specs.Tree.{Tree}
 use Rattle.cl_sexpr.specs.Fits.{Fits}
@@ -29,7 +28,7 @@ use Rattle.cl_expression_sound.proofs.Calls.{is_return}
 use Rattle.cl_expression_sound.proofs.Depth.{each_depth}
 use Rattle.cl_contract_sound.proofs.Contexts.{stands_in}
 use Rattle.cl_contract_sound.proofs.OfTexts.{are_known}
-use Rattle.cl_contract_sound.proofs.Serving.{known_there, as_served, constants_serve, functions_serve, across_serve}
+use Rattle.cl_contract_sound.proofs.Serving.{known_there, whole_context, as_served, constants_serve, functions_serve, across_serve}
 use Rattle.cl_contract_sound.proofs.States.{variables_serve, set_variable_serves, maps_serve, entries_serve, put_entry_serves, remove_entry_serves, events_serve}
 use Rattle.cl_contract_sound.proofs.Holdings.{fungibles_serve, stx_serves, nonfungibles_serve, acts_serve}
 use Rattle.cl_values.specs.Typed.{IsOf, AreOf}
@@ -73,22 +72,7 @@ answers_of K p g fn served = subst (λ (g : Signature). Answers g.access g.retur
 pub function_is_sound : (costs : CostTable) (W : Deployed) (ks : List Known) → AreContracts costs W ks → (table : CostTable) → (p : Principal) (k : Known) → known_at p ks ≡ Some k → (x : List ℕ) (g : Signature) → signature_in x k.functions ≡ Some g → IsSoundFunction table W p x g
 function_is_sound costs W ks contracts table p k at x g told =
     let a = known_there W Whole ks (are_known costs W ks contracts.texts) p k at in
-    let inside : IsContext W Whole a.defined.context = record {
-      before = a.before;
-      known = a.known;
-      contract = a.contract;
-      defined = a.defined;
-      accepted = a.accepted;
-      there = a.there;
-      so_far = a.defined;
-      done = a.accepted.order;
-      rest = [];
-      order = sym (append-nil a.accepted.order);
-      typed = a.accepted.typed;
-      more = no_more refl;
-      context = refl;
-    } in
-    let T = stands_in W Whole a.defined.context inside in
+    let T = stands_in W Whole a.defined.context (whole_context W Whole p k a) in
     let f = as_served table W Whole a.contract x g (T.functions x g (ap (λ (k : Known). signature_in x k.functions) a.is ∙ told)) in
     record {
       function = f.0;

@@ -69,6 +69,24 @@ pub record IsKnownAt (W : Deployed) (stage : Stage) (p : Principal) (k : Known) 
   pub is : known_of contract.principal contract.source_length defined ≡ k
   pub at : contract.principal ≡ p
 
+-- the context behind all forms of a contract that callers see
+abbrev pub whole_context : (W : Deployed) (stage : Stage) (p : Principal) (k : Known) (a : IsKnownAt W stage p k) → IsContext W stage a.defined.context
+whole_context W stage p k a = record {
+  before = a.before;
+  known = a.known;
+  contract = a.contract;
+  defined = a.defined;
+  accepted = a.accepted;
+  there = a.there;
+  so_far = a.defined;
+  done = a.accepted.order;
+  rest = [];
+  order = sym (append-nil a.accepted.order);
+  typed = a.accepted.typed;
+  more = no_more refl;
+  context = refl;
+}
+
 pub known_split : (p : Principal) (ks : List Known) (n k : Known) → known_at p (ks ++ n ∷ []) ≡ Some k → (known_at p ks ≡ Some k) ⊎ ((n.principal ≡ p) × (n ≡ k))
 known_split p [] n k h = by (same_principal n.principal p) refl h
   where
@@ -149,23 +167,8 @@ module _ (costs : CostTable) (W : Deployed) (stage : Stage) where
       let o = other_is (same_principal p G.principal) (known_at p G.deployed) k h in
       let deployed : I.before ≡ G.deployed = sym (deployed_same (nothing_defined I.before I.contract.principal I.contract.source_length) I.so_far I.done I.typed) ∙ ap (λ (G : Context). G.deployed) I.context in
       let a = known_there W stage I.before I.known p k (ap (known_at p) deployed ∙ o.1) in
-      let inside : IsContext W stage a.defined.context = record {
-        before = a.before;
-        known = a.known;
-        contract = a.contract;
-        defined = a.defined;
-        accepted = a.accepted;
-        there = a.there;
-        so_far = a.defined;
-        done = a.accepted.order;
-        rest = [];
-        order = sym (append-nil a.accepted.order);
-        typed = a.accepted.typed;
-        more = no_more refl;
-        context = refl;
-      } in
       let there_g = callable_is (signature_in x k.functions) g j in
-      let T = stands_in W stage a.defined.context inside in
+      let T = stands_in W stage a.defined.context (whole_context W stage p k a) in
       let f = as_served a.contract x g (T.functions x g (ap (λ (k : Known). signature_in x k.functions) a.is ∙ there_g.0)) in
       record {
         contract = a.contract;

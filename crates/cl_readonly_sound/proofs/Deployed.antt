@@ -1,5 +1,5 @@
 -- Functions of accepted contracts that don't write are quiet, and what their bodies call is quiet.
-use Rattle.std.proofs.Common.{◌≡◌, ◌⊎◌, inl, inr, ℕ, Bool, true, false, List, [], ◌∷◌, Option, Some, None, refl, sym, ap, subst, ◌∙◌, append-nil}
+use Rattle.std.proofs.Common.{◌≡◌, ◌⊎◌, inl, inr, ℕ, Bool, true, false, List, [], ◌∷◌, Option, Some, None, refl, sym, ap, subst, ◌∙◌}
 use Rattle.std.specs.Prelude.{if◌then◌else◌, option_and_then, codes, Contains}
 use Rattle.std.proofs.lemmas.List.Elements.{Contains-push, Contains-append_left, Contains-append_right}
 use Rattle.cl_types.specs.declared.sized.Access.{Access}
@@ -22,14 +22,12 @@ use Rattle.cl_rules.specs.Faults.{shape_rules}
 use Rattle.cl_rules.specs.Context.{CostTable, Context, Known, Names, Signature, signature_in, known_at, another_at, same_principal, target_at, if_callable}
 use Rattle.cl_rules.specs.Shapes.{there_or_not, is_no_name, is_no_such}
 use Rattle.cl_rules.specs.CallShapes.{contract_literal, contract_call_shape, target_or_not, function_of as rule_function}
-use Rattle.cl_rules.specs.FormTyping.{no_more}
 use Rattle.cl_rules.specs.Acceptance.{is_public, is_public_there, is_public_in, is_public_at, calls_public}
 use Rattle.cl_expression_sound.proofs.Rules.{fine_shape}
-use Rattle.cl_expression_sound.specs.Stages.{IsContext}
 use Rattle.cl_contract_sound.specs.Nodes.{IsOfText, AreOfTexts, none_yet, and_one}
 use Rattle.cl_contract_sound.proofs.Contexts.{stands_in}
 use Rattle.cl_contract_sound.proofs.OfTexts.{are_known}
-use Rattle.cl_contract_sound.proofs.Serving.{IsKnownAt, known_split, known_there, as_served}
+use Rattle.cl_contract_sound.proofs.Serving.{IsKnownAt, known_split, known_there, whole_context, as_served}
 use Rattle.cl_contract_sound.proofs.States.{some_contract}
 use Rattle.cl_readonly_sound.specs.Laws.{StandsForText, DoesNotWrite}
 use Rattle.cl_readonly_sound.proofs.Quiet.{scope, IsQuietOne, IsQuietUse, IsQuietAcross, IsQuiet}
@@ -109,24 +107,6 @@ read_only_apart costs W q t x f there access =
       });
     }
 
--- the context behind all forms of a contract that callers see
-whole_context : (W : Deployed) (q : Principal) (k : Known) (a : IsKnownAt W Whole q k) → IsContext W Whole a.defined.context
-whole_context W q k a = record {
-  before = a.before;
-  known = a.known;
-  contract = a.contract;
-  defined = a.defined;
-  accepted = a.accepted;
-  there = a.there;
-  so_far = a.defined;
-  done = a.accepted.order;
-  rest = [];
-  order = sym (append-nil a.accepted.order);
-  typed = a.accepted.typed;
-  more = no_more refl;
-  context = refl;
-}
-
 same_access : (f s : Function) (o : Option Function) (g : Signature) → o ≡ Some s → o ≡ Some f → s.access ≡ g.access → g.access ≡ f.access
 same_access f s o g h k e = sym e ∙ ap (λ (f : Function). f.access) (same_function (sym h ∙ k))
   where
@@ -134,9 +114,8 @@ same_access f s o g h k e = sym e ∙ ap (λ (f : Function). f.access) (same_fun
     same_function e = cc
 
 access_served : (costs : CostTable) (W : Deployed) (q : Principal) (k : Known) (a : IsKnownAt W Whole q k) (x : List ℕ) (g : Signature) → signature_in x k.functions ≡ Some g → (f : Function) → function_in x a.contract.forms ≡ Some f → g.access ≡ f.access
-unfolding whole_context
 access_served costs W q k a x g told f is =
-    let T = stands_in W Whole a.defined.context (whole_context W q k a) in
+    let T = stands_in W Whole a.defined.context (whole_context W Whole q k a) in
     let s = as_served costs W Whole a.contract x g (T.functions x g (ap (λ (k : Known). signature_in x k.functions) a.is ∙ told)) in
     same_access f s.0 (function_in x a.contract.forms) g s.1 is (ap (λ (g : Signature). g.access) s.2.signature)
 
