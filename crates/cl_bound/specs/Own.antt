@@ -4,7 +4,6 @@ use Rattle.cl_types.specs.Types.{PlainType, NoType, OptionalType, ResponseType, 
 use Rattle.cl_types.specs.Sized.{length_of}
 use Rattle.cl_shapes.specs.declared.name.CostName.{CostName}
 use Rattle.cl_shapes.specs.declared.name.CostName.TheVariants.{Literal, Lookup, Control, Make, ReadVar, ReadMap, Iterate, ContractCall as ContractCallCost}
-use Rattle.cl_values.specs.declared.native.Native.{Native}
 use Rattle.cl_forms.specs.declared.head.Head.TheVariants as heads
 use Rattle.cl_forms.specs.Keywords.{keyword_cost}
 use Rattle.cl_forms.specs.Heads.{row_of}
@@ -16,9 +15,7 @@ use Rattle.cl_rules.specs.Verdicts.{Found, number_at, sizes_of, sum_of}
 use Rattle.cl_rules.specs.ControlShapes.{binds, bound_branch}
 use Rattle.cl_rules.specs.CallShapes.{Usable, ANative, use_bound, usable_function, least_length, target_or_not, contract_literal}
 use Rattle.cl_rules.specs.Shapes.{First, There}
-use Rattle.cl_sexpr.specs.Tree.{Leaf, Standing as Standing_leaf, Local as Local_leaf}
-use Rattle.cl_code.specs.declared.op.Target.{Target}
-use Rattle.cl_code.specs.declared.op.Target.TheVariants.{Standing as StandingAt, Local as LocalAt}
+use Rattle.cl_code.specs.Expression.{target_leaf}
 use Rattle.cl_code.specs.declared.op.PartsNative.{PartsNative}
 use Rattle.cl_code.specs.declared.op.PartsNative.TheVariants.{If}
 use Rattle.cl_code.specs.declared.op.NameNative.{NameNative}
@@ -34,9 +31,6 @@ use Rattle.cl_bound.specs.declared.branches.Branch.{Branch}
 use Rattle.cl_bound.specs.declared.branches.Branch.TheVariants.{Plain, Good, Bad}
 
 -- ---- by name
-
-abbrev pub values_cost : Native → CostName
-values_cost native = (row_of (heads.OnValues native)).cost
 
 abbrev pub parts_cost : PartsNative → CostName
 parts_cost native = (row_of (parts_head native)).cost
@@ -83,11 +77,6 @@ iteration Map u t ts = iterated u ts (least_length ts) (map entry_of ts)
 iteration Filter u t ts = iterated u ts (length_of (first_of ts)) (entry_of (first_of ts) ∷ [])
 iteration Fold u t ts = iterated u ts (length_of (first_of ts)) (entry_of (first_of ts) ∷ t ∷ [])
 
--- the literal of a contract
-abbrev pub leaf_of : Target → Leaf
-leaf_of (StandingAt p at) = Standing_leaf p
-leaf_of (LocalAt c at) = Local_leaf c
-
 -- a function of another contract: the charge with the length of that contract's text, and the application
 abbrev pub called_at : First Known → List ℕ → Bill
 called_at (There k) x = Both (Charge ContractCallCost k.length) (applied (if_callable (signature_in x k.functions)))
@@ -98,7 +87,7 @@ abbrev pub own : Context → Op → PlainType → List PlainType → Bill
 own G (KeywordOp k) t ts = Charge (keyword_cost k) (size_of t)
 own G (BoundOp x) t ts = Charge Lookup (size_of t)
 own G (Constant x) t ts = Charge Lookup (size_of t)
-own G (OnValues native head) t ts = counted (values_cost native) ts
+own G (OnValues native head) t ts = counted (row_of (heads.OnValues native)).cost ts
 own G (OnParts native head) t ts = counted (parts_cost native) ts
 own G (OnName native head name) t ts = named native t ts
 own G (IterateOp kind head what) t ts = iteration kind (given G what) t ts
@@ -109,7 +98,7 @@ own G (Let head at bindings) t ts = Both (Charge Control (suc (length ts - lengt
 own G (MatchOptional head part) t ts = Charge Control 4
 own G (MatchResponse head good bad) t ts = Charge Control 5
 own G (Call f) t ts = applied (signature_in f.name G.functions)
-own G (ContractCall head target function callee) t ts = called_at (target_or_not G (contract_literal G.principal (leaf_of target))) function.name
+own G (ContractCall head target function callee) t ts = called_at (target_or_not G (contract_literal G.principal (target_leaf target))) function.name
 own G op t ts = Charge Literal (size_of t)
 
 -- ---- the parts

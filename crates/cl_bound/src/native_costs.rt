@@ -1,46 +1,11 @@
 //! What natives are charged as.
 ghost use Rattle.std.specs.Prelude.{◌≡◌};
 ghost use Rattle.cl_forms.specs.Keywords.{keyword_cost};
-ghost use Rattle.cl_bound.specs.Own.{values_cost, parts_cost, name_cost};
+ghost use Rattle.cl_bound.specs.Own.{parts_cost, name_cost};
 
 use cl_code::{NameNative, PartsNative};
 use cl_forms::Keyword;
 use cl_shapes::CostName;
-use cl_values::Native;
-
-pub(crate) fn values_cost(native: Native) -> CostName
-    ensures { result ≡ values_cost native }
-{
-    match native {
-        Native::Add
-        | Native::Subtract
-        | Native::Multiply
-        | Native::Divide
-        | Native::Modulo
-        | Native::Power
-        | Native::Xor
-        | Native::SquareRoot
-        | Native::Log2
-        | Native::ToInt
-        | Native::ToUint
-        | Native::Not => CostName::Arith,
-        Native::Less | Native::AtMost | Native::Greater | Native::AtLeast | Native::Same =>
-            CostName::Compare,
-        Native::Sha256 | Native::Sha512 | Native::Sha512Of256 => CostName::Hash,
-        Native::MakeSome
-        | Native::MakeOk
-        | Native::MakeErr
-        | Native::IsSome
-        | Native::IsNone
-        | Native::IsOk
-        | Native::IsErr
-        | Native::DefaultTo
-        | Native::UnwrapPanic
-        | Native::UnwrapErrPanic => CostName::Wrap,
-        Native::MakeList | Native::Merge | Native::Append | Native::Concat => CostName::Make,
-        Native::Len | Native::ElementAt | Native::IndexOf => CostName::Scan,
-    }
-}
 
 pub(crate) fn parts_cost(native: PartsNative) -> CostName
     ensures { result ≡ parts_cost native }

@@ -14,12 +14,12 @@ ghost use Rattle.cl_code.specs.Nodes.{has_parts};
 ghost use Rattle.cl_code.specs.OpNames.{name_head};
 ghost use Rattle.cl_forms.specs.Heads.{row_of, takes};
 
-use crate::native_costs::{keyword_cost, name_cost, parts_cost, values_cost};
+use crate::native_costs::{keyword_cost, name_cost, parts_cost};
 use crate::prices::Prices;
 use crate::sizes::{entry_sizes, first_sequence, least_length, number, sizes};
 use crate::sum::Sum;
 use crate::using::{Values, iterated};
-use cl_code::{Applied, Code, Iteration, NameNative, Op};
+use cl_code::{Applied, Code, Iteration, NameNative, Op, native_cost};
 use cl_shapes::CostName;
 use cl_types::{SizedTy, size};
 
@@ -130,7 +130,7 @@ pub(crate) fn add_own(prices: &Prices, op: &Op, ty: &SizedTy, parts: &[Code], su
     match op {
         Op::Keyword(keyword) => add_sized(prices, keyword_cost(*keyword), ty, sum),
         Op::Bound(_) | Op::Constant(_) => add_sized(prices, CostName::Lookup, ty, sum),
-        Op::OnValues { native, .. } => add_counted(prices, values_cost(*native), parts, sum),
+        Op::OnValues { native, .. } => add_counted(prices, native_cost(*native), parts, sum),
         Op::OnParts { native, .. } => add_counted(prices, parts_cost(*native), parts, sum),
         Op::OnName { native, .. } => add_named(prices, *native, ty, parts, sum),
         Op::Iterate {

@@ -1,6 +1,7 @@
 //! What bounds rest on.
 ghost use Rattle.std.specs.Prelude.{◌≡◌, ℕ, ◌<◌, ◌^◌, List};
 ghost use Rattle.cl_costs.specs.Tables.{function_of};
+ghost use Rattle.cl_code.specs.Expression.{target_leaf};
 ghost use Rattle.cl_shapes.specs.Functions.{cost_at, shape_at, log2};
 ghost use Rattle.cl_rules.specs.Bills.{Charge, cost_under};
 ghost use Rattle.cl_rules.specs.Context.{Context, Known, Signature, CostTable as Table, signature_in, if_callable, target_at};
@@ -9,12 +10,13 @@ ghost use Rattle.cl_rules.specs.CallShapes.{target_or_not, contract_literal};
 ghost use Rattle.cl_rules.specs.Shapes.{there_or_not};
 ghost use Rattle.cl_bound.specs.Sums.{told, Increases};
 ghost use Rattle.cl_bound.specs.Seen.{ShowsPrices, ShowDeployed, ShowFunctions};
-ghost use Rattle.cl_bound.specs.Own.{applied, called_at, leaf_of};
+ghost use Rattle.cl_bound.specs.Own.{applied, called_at};
 
 use crate::known::KnownBounds;
 use crate::sum::Sum;
 use cl_c32::Principal;
 use cl_code::Target;
+use cl_contracts::contract_of_literal;
 use cl_costs::CostTable;
 use cl_shapes::{Cost5, CostFn, CostName, Shape};
 use cl_types::{Access, Name};
@@ -47,22 +49,6 @@ fn callable(functions: &IndexMap<Name, Application>, name: &Name) -> Sum
             _ => application.bound,
         },
         None => Sum::ZERO,
-    }
-}
-
-/// The contract that a literal stands for.
-fn literal(own: &Principal, target: &Target) -> Option<Principal>
-    ensures { result ≡ contract_literal own.now (leaf_of target.now) }
-{
-    match target {
-        Target::Standing(principal, _) => match principal.contract {
-            Some(_) => Some(*principal),
-            None => None,
-        },
-        Target::Local(name, _) => Some(Principal {
-            address: own.address,
-            contract: Some(*name),
-        }),
     }
 }
 
@@ -178,9 +164,9 @@ impl<'a> Prices<'a> {
 
     /// A call of a function of the contract that a literal stands for.
     pub(crate) fn abroad(&self, target: &Target, name: &Name) -> Sum
-        ensures { (G : Context) → ShowsPrices self.now G → result ≡ told (cost_under (function_of self.now.costs) (called_at (target_or_not G (contract_literal G.principal (leaf_of target.now))) name.now)) }
+        ensures { (G : Context) → ShowsPrices self.now G → result ≡ told (cost_under (function_of self.now.costs) (called_at (target_or_not G (contract_literal G.principal (target_leaf target.now))) name.now)) }
     {
-        match literal(&self.principal, target) {
+        match contract_of_literal(&self.principal, target) {
             Some(principal) => self.call_at(&principal, name),
             None => Sum::ZERO,
         }

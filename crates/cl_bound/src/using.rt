@@ -1,5 +1,5 @@
 //! Applications of what is given by name.
-ghost use Rattle.std.specs.Prelude.{◌≡◌, ℕ, ◌<◌, ◌^◌, List, length, map};
+ghost use Rattle.std.specs.Prelude.{◌≡◌, ◌<◌, ◌^◌, List, length, map};
 ghost use Rattle.cl_types.specs.Types.{PlainType};
 ghost use Rattle.cl_costs.specs.Tables.{function_of};
 ghost use Rattle.cl_rules.specs.Bills.{cost_under};
@@ -10,11 +10,10 @@ ghost use Rattle.cl_bound.specs.Sums.{told};
 ghost use Rattle.cl_bound.specs.Seen.{ShowsPrices};
 ghost use Rattle.cl_bound.specs.Own.{applied_to, given, iterated};
 
-use crate::native_costs::values_cost;
 use crate::prices::Prices;
 use crate::sizes::sizes;
 use crate::sum::Sum;
-use cl_code::{Applied, Code};
+use cl_code::{Applied, Code, native_cost};
 use cl_shapes::CostName;
 
 /// Values by their number and the sum of their sizes.
@@ -44,7 +43,7 @@ fn applied_to(prices: &Prices, applied: &Applied, values: Values) -> Sum
     match applied {
         Applied::Function(function) => prices.function(&function.name),
         Applied::OnValues(native, _) => {
-            let cost = values_cost(*native);
+            let cost = native_cost(*native);
             prices.charge(cost, number_of(cost, values))
         }
         Applied::And(_) | Applied::Or(_) => prices.charge(CostName::Control, values.count),

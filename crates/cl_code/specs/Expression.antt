@@ -1,7 +1,7 @@
 -- The expression that a node stands for.
 use Rattle.std.specs.Prelude.{ℕ, length, drop, List, [], ◌∷◌, codes}
 use Rattle.cl_sexpr.specs.declared.sexpr.Span.{Span}
-use Rattle.cl_sexpr.specs.Tree.{Tree, LeafAt, ListAt, TupleAt, Named, Signed, Unsigned, Bytes, Ascii, Unicode, Standing, Local, Empty, Then, Pairs, NoPair, Pair, forest}
+use Rattle.cl_sexpr.specs.Tree.{Tree, Leaf, LeafAt, ListAt, TupleAt, Named, Signed, Unsigned, Bytes, Ascii, Unicode, Standing, Local, Empty, Then, Pairs, NoPair, Pair, forest}
 use Rattle.cl_forms.specs.declared.head.Head.TheVariants.{OnValues, And, Or}
 use Rattle.cl_forms.specs.HeadNames.{name_of}
 use Rattle.cl_code.specs.declared.op.Word.{Word}
@@ -17,6 +17,11 @@ use Rattle.cl_code.specs.OpNames.{parts_head, name_head, iteration_head}
 
 abbrev pub word : Word → Tree
 word w = LeafAt (Named w.name) w.span
+
+-- the leaf that stands for a contract
+abbrev pub target_leaf : Target → Leaf
+target_leaf (StandingAt p at) = Standing p
+target_leaf (LocalAt c at) = Local c
 
 abbrev pub target : Target → Tree
 target (StandingAt p at) = LeafAt (Standing p) at

@@ -1,5 +1,5 @@
 -- What a node needs besides its parts: as many of them as it takes, and names that are its own.
-use Rattle.std.specs.Prelude.{ℕ, suc, ◌==◌, ◌&&◌, not, nat_le, nat_lt, Bool, true, List, [], ◌∷◌, length, map, is_some}
+use Rattle.std.specs.Prelude.{ℕ, suc, ◌==◌, ◌&&◌, not, nat_lt, Bool, true, List, [], ◌∷◌, length, map, is_some}
 use Rattle.std.specs.List.{list_any}
 use Rattle.std.specs.Str.{bytes_eq}
 use Rattle.cl_forms.specs.declared.head.Head.TheVariants.{OnValues}

@@ -2,11 +2,13 @@
 //! place in the text.
 #![tactic(auto)]
 
+mod charges;
 mod code;
 mod definition;
 mod op;
 mod watch;
 
+pub use charges::native_cost;
 pub use code::Code;
 pub use definition::{
     Constant, Definition, Function, Fungible, MapOf, NonFungible, TopLevel, Variable,

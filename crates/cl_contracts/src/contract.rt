@@ -2,7 +2,6 @@
 ghost use Rattle.std.specs.Prelude.{◌≡◌, option_map, option_copied, Some};
 ghost use Rattle.cl_c32.specs.declared.principal.Principal.{Principal};
 ghost use Rattle.cl_meaning.specs.Deployed.{constant_of, form_of, function_of};
-ghost use Rattle.cl_rules.specs.Context.{named_in};
 ghost use Rattle.cl_contracts.specs.Seen.{IsIndexed, contract_seen, definition_under, forms_of, function_seen, function_under, kind_at};
 
 use crate::checked::Checked;

@@ -34,9 +34,9 @@ use Rattle.cl_code.specs.declared.op.Iteration.TheVariants.{Map}
 use Rattle.cl_code.specs.declared.op.Op.{Op}
 use Rattle.cl_code.specs.declared.op.Op.TheVariants.{Int, Uint, Buff, Ascii, Utf8, Standing, Local, Keyword, Bound, Constant, OnValues, OnParts, OnName, Iterate, AsMaxLen, Tuple, TupleOf, Let, MatchOptional, MatchResponse, Call as CallOp, ContractCall}
 use Rattle.cl_code.specs.OpNames.{parts_head, name_head, iteration_head}
-use Rattle.cl_code.specs.Expression.{expression, headed, word, target, applied_name, bound_items, keyed, behind_first}
+use Rattle.cl_code.specs.Expression.{expression, headed, word, target, applied_name, bound_items, keyed, behind_first, target_leaf}
 use Rattle.cl_code.specs.Nodes.{has_own_name, has_parts}
-use Rattle.cl_readonly.specs.Writing.{applied_writes, target_leaf, node_writes, AreFunctions}
+use Rattle.cl_readonly.specs.Writing.{applied_writes, node_writes, AreFunctions}
 use Rattle.cl_forms.proofs.FreeNames.{no_native}
 use Rattle.cl_readonly.proofs.Heads.{writes_head, applies_head, crosses_head, is_tuple, writes_name, applies_name, crosses_name, tuple_name, is_native, no_writing, no_applying, no_crossing, no_tuple}
 

@@ -1,6 +1,6 @@
 -- Whether a node by itself calls what writes, where it is told which functions of the contract write.
 use Rattle.std.specs.Prelude.{◌≡◌, ℕ, Bool, true, false, List, is_some, None}
-use Rattle.cl_sexpr.specs.Tree.{Leaf, Standing, Local}
+use Rattle.cl_sexpr.specs.Tree.{Leaf}
 use Rattle.cl_forms.specs.Heads.{native}
 use Rattle.cl_forms.specs.HeadNames.{name_of}
 use Rattle.cl_forms.specs.Names.{is_one_of}
@@ -8,10 +8,9 @@ use Rattle.cl_forms.specs.Writes.{writing_natives}
 use Rattle.cl_rules.specs.Context.{Context, signature_in}
 use Rattle.cl_code.specs.declared.op.Applied.{Applied}
 use Rattle.cl_code.specs.declared.op.Applied.TheVariants.{Function}
-use Rattle.cl_code.specs.declared.op.Target.{Target}
-use Rattle.cl_code.specs.declared.op.Target.TheVariants.{Standing as StandingAt, Local as LocalAt}
 use Rattle.cl_code.specs.declared.op.Op.{Op}
 use Rattle.cl_code.specs.declared.op.Op.TheVariants.{OnParts, OnName, Iterate, Call as CallOp, ContractCall}
+use Rattle.cl_code.specs.Expression.{target_leaf}
 use Rattle.cl_code.specs.OpNames.{parts_head, name_head}
 
 -- ---- a node by itself
@@ -19,10 +18,6 @@ use Rattle.cl_code.specs.OpNames.{parts_head, name_head}
 abbrev pub applied_writes : List (List ℕ) → Applied → Bool
 applied_writes functions (Function f) = is_one_of functions f.name
 applied_writes functions applied = false
-
-abbrev pub target_leaf : Target → Leaf
-target_leaf (StandingAt p at) = Standing p
-target_leaf (LocalAt c at) = Local c
 
 -- what a node calls by itself writes
 abbrev pub node_writes : List (List ℕ) → (Leaf → List ℕ → Bool) → Op → Bool

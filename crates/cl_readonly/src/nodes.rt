@@ -3,18 +3,18 @@ ghost use Rattle.std.specs.Prelude.{◌≡◌, List};
 ghost use Rattle.cl_forms.specs.HeadNames.{name_of};
 ghost use Rattle.cl_forms.specs.Names.{is_one_of};
 ghost use Rattle.cl_forms.specs.Writes.{writing_natives};
+ghost use Rattle.cl_code.specs.Expression.{target_leaf};
 ghost use Rattle.cl_code.specs.OpNames.{name_head, parts_head};
 ghost use Rattle.cl_rules.specs.Acceptance.{calls_public, is_public_in};
-ghost use Rattle.cl_rules.specs.CallShapes.{contract_literal};
 ghost use Rattle.cl_rules.specs.Context.{Known, another_at, same_principal};
 ghost use Rattle.cl_contracts.specs.Seen.{AreIndexed, contract_under};
 ghost use Rattle.cl_contracts.specs.Standings.{Knows};
 ghost use Rattle.cl_readonly.specs.Publics.{public_in, public_under};
-ghost use Rattle.cl_readonly.specs.Writing.{applied_writes, node_writes, target_leaf};
+ghost use Rattle.cl_readonly.specs.Writing.{applied_writes, node_writes};
 
 use cl_c32::Principal;
 use cl_code::{Applied, NameNative, Op, PartsNative, Target};
-use cl_contracts::{Contract, Deployed, what_callers_know};
+use cl_contracts::{Contract, Deployed, contract_of_literal, what_callers_know};
 use cl_types::{Access, Name};
 use indexmap::IndexSet;
 
@@ -58,22 +58,6 @@ fn applied_writes(writing: &IndexSet<Name>, applied: &Applied) -> bool
     match applied {
         Applied::Function(function) => is_among(writing, &function.name),
         _ => false,
-    }
-}
-
-/// The contract that a literal stands for.
-fn literal(own: &Principal, target: &Target) -> Option<Principal>
-    ensures { result ≡ contract_literal own.now (target_leaf target.now) }
-{
-    match target {
-        Target::Standing(principal, _) => match principal.contract {
-            Some(_) => Some(*principal),
-            None => None,
-        },
-        Target::Local(name, _) => Some(Principal {
-            address: own.address,
-            contract: Some(*name),
-        }),
     }
 }
 
@@ -121,7 +105,7 @@ fn is_public(deployed: &Deployed, own: &Principal, target: &Target, name: &Name)
     requires { AreIndexed deployed.now }
     ensures { (known : List Known) → Knows deployed.now known → result ≡ calls_public known own.now (target_leaf target.now) name.now }
 {
-    match literal(own, target) {
+    match contract_of_literal(own, target) {
         Some(principal) => is_public_at(deployed, own, &principal, name),
         None => false,
     }

@@ -1,6 +1,5 @@
 //! The natives on values.
 ghost use Rattle.std.specs.Prelude.{◌≡◌, ◌<◌, ◌^◌, length};
-ghost use Rattle.cl_shapes.specs.Limits.{Purse};
 ghost use Rattle.cl_events.specs.State.{State};
 ghost use Rattle.cl_forms.specs.declared.head.Head.TheVariants.{OnValues};
 ghost use Rattle.cl_forms.specs.Heads.{row_of};
@@ -11,6 +10,7 @@ ghost use Rattle.cl_meaning.specs.Values.{number_of, on_values};
 ghost use Rattle.cl_frames.specs.Runs.{Computes, Runs};
 
 use cl_apply::apply_native;
+use cl_code::native_cost;
 use cl_frames::{Context, Stop, pay, total_size};
 use cl_shapes::{CostName, Meter};
 use cl_types::Fault;
@@ -25,42 +25,6 @@ fn charged_number(cost: CostName, values: &[Val]) -> u64
     match cost {
         CostName::Arith | CostName::Control => values.len() as u64,
         _ => total_size(values),
-    }
-}
-
-/// What a native on values is charged as.
-fn native_cost(native: Native) -> CostName
-    ensures { result ≡ (row_of (OnValues native)).cost }
-{
-    match native {
-        Native::Add
-        | Native::Subtract
-        | Native::Multiply
-        | Native::Divide
-        | Native::Modulo
-        | Native::Power
-        | Native::Xor
-        | Native::SquareRoot
-        | Native::Log2
-        | Native::ToInt
-        | Native::ToUint
-        | Native::Not => CostName::Arith,
-        Native::Less | Native::AtMost | Native::Greater | Native::AtLeast | Native::Same => {
-            CostName::Compare
-        }
-        Native::Sha256 | Native::Sha512Of256 | Native::Sha512 => CostName::Hash,
-        Native::MakeSome
-        | Native::MakeOk
-        | Native::MakeErr
-        | Native::IsSome
-        | Native::IsNone
-        | Native::IsOk
-        | Native::IsErr
-        | Native::DefaultTo
-        | Native::UnwrapPanic
-        | Native::UnwrapErrPanic => CostName::Wrap,
-        Native::MakeList | Native::Merge | Native::Append | Native::Concat => CostName::Make,
-        Native::Len | Native::ElementAt | Native::IndexOf => CostName::Scan,
     }
 }
 
