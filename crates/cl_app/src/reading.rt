@@ -2,7 +2,7 @@
 ghost use Rattle.std.specs.Prelude.{◌≡◌, ◌≢◌, ◌++◌, ◌∷◌, [], IfOk, IfErr, OnOk, map};
 ghost use Rattle.cl_ports.specs.Growth.{Grows, GrowsPart};
 ghost use Rattle.cl_app.specs.Reading.{sources_seen, AreRead, AsksPaths, IsRead};
-ghost use Rattle.cl_app.specs.Reply.{answer_of, CountsReadStop};
+ghost use Rattle.cl_app.specs.Reply.{CountsReadStop};
 ghost use Rattle.cl_app.specs.Sources.{contract_at};
 ghost use Rattle.cl_app.specs.Top.{IsOwnStatus};
 ghost use Rattle.cl_app.specs.Words.{texts};

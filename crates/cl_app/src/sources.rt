@@ -1,9 +1,8 @@
 //! The paths of sources, and whose contracts they are.
-ghost use Rattle.std.specs.Prelude.{◌≡◌, ◌≤◌, length};
+ghost use Rattle.std.specs.Prelude.{◌≡◌};
 ghost use Rattle.std.specs.List.{list_all, list_any};
-ghost use Rattle.cl_rules.specs.Context.{same_part};
 ghost use Rattle.cl_file.specs.Kinds.{short_name};
-ghost use Rattle.cl_app.specs.Sources.{is_slash, last_component, name_of_file, source_name, has_name, have_one_name, names_differ, are_sources, contract_at};
+ghost use Rattle.cl_app.specs.Sources.{last_component, name_of_file, source_name, has_name, have_one_name, names_differ, are_sources, contract_at};
 ghost use Rattle.cl_app.specs.Words.{texts};
 
 use cl_c32::{Address, ContractName, Principal};

@@ -3,7 +3,7 @@ ghost use Rattle.std.specs.Prelude.{◌≡◌, ◌≢◌, ◌++◌, IfOk, string
 ghost use Rattle.cl_values.specs.Reading.{decoded};
 ghost use Rattle.cl_report.specs.Refusals.{span_text};
 ghost use Rattle.cl_app.specs.Reply.{answer_of};
-ghost use Rattle.cl_app.specs.Spelling.{refused_answer, line_answer, digits_in, fault_text, bytes_answer, hex_answer, value_answer, outcome_text, no_value_answer, wire_answer};
+ghost use Rattle.cl_app.specs.Spelling.{refused_answer, line_answer, digits_in, fault_text, bytes_answer, value_answer, outcome_text, no_value_answer, wire_answer};
 ghost use Rattle.cl_app.specs.Answer.{IsWireAnswer};
 ghost use Rattle.cl_app.specs.Top.{IsOwnStatus};
 ghost use Rattle.cl_text.specs.Parsed.{Stands, outcome_of};

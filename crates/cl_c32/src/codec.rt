@@ -1,5 +1,5 @@
 //! Addresses and their texts.
-ghost use Rattle.std.specs.Prelude.{◌≡◌, ◌<◌, ◌≤◌, ◌+◌, ◌-◌, ◌++◌, length, take, drop, map, replicate};
+ghost use Rattle.std.specs.Prelude.{◌≡◌, ◌<◌, ◌≤◌, ◌+◌, ◌-◌, ◌++◌, length, map, replicate};
 ghost use Rattle.std.specs.List.{All};
 ghost use Rattle.cl_c32.specs.Digits.{regrouped_digits};
 ghost use Rattle.cl_c32.specs.Alphabet.{character_of, digit_value};

@@ -22,12 +22,12 @@ use Rattle.cl_rules.specs.FormRules.{Defined, form_plan, form_faults, defined_af
 use Rattle.cl_rules.specs.Judging.{Judged, Holds, Fails, Deeper, and_judged, unless_broken, walked, judged, nesting, form_judged}
 use Rattle.cl_contracts.specs.Standing.{Stands, StandAll}
 use Rattle.cl_typing.specs.declared.concluding.Checked.{Checked}
-use Rattle.cl_typing.specs.Verdicts.{Facts, facts, facts_of}
+use Rattle.cl_typing.specs.Verdicts.{Facts, facts}
 use Rattle.cl_judging.specs.declared.context.Context.{Context as CodeContext}
 use Rattle.cl_judging.specs.declared.context.Signature.{Signature as CodeSignature}
 use Rattle.cl_judging.specs.Seen.{Shown, Shows, seen_under, shown}
 use Rattle.cl_check.specs.declared.kinds.Body.{Body}
-use Rattle.cl_check.specs.JudgingForms.{kind_judged, HoldsKind, FindsKind, FindsBody, HoldsForm, IsDefined, FindsForm, AddsName}
+use Rattle.cl_check.specs.JudgingForms.{kind_judged, HoldsKind, FindsKind, FindsBody, IsDefined, FindsForm, AddsName}
 
 -- ---- a form is judged as its kind is
 

@@ -1,5 +1,5 @@
 -- Forms are judged by what is found of their expressions.
-use Rattle.std.proofs.Common.{◌≡◌, ℕ, zero, suc, append_assoc, append-nil, length, get_or, ◌<◌, ◌≤◌, ◌+◌, Bool, true, false, List, [], ◌∷◌, Option, Some, None, Ok, Err, refl, ap, sym, subst, ◌∙◌, arith}
+use Rattle.std.proofs.Common.{◌≡◌, ℕ, zero, suc, append_assoc, append-nil, length, get_or, ◌<◌, ◌≤◌, ◌+◌, Bool, true, false, List, [], ◌∷◌, Some, Ok, Err, refl, ap, sym, subst, ◌∙◌, arith}
 use Rattle.std.specs.Prelude.{nat_lt, nat_eq, not, ◌&&◌, ◌++◌, map, take, slice_get, is_some, if◌then◌else◌}
 use Rattle.std.specs.List.{list_any}
 use Rattle.std.specs.Cmp.{both_ways}
@@ -16,27 +16,26 @@ use Rattle.cl_types.specs.declared.sized.TyRefusal.{TyRefusal}
 use Rattle.cl_types.specs.declared.sized.TyRefusal.TheVariants.{Differ, TooLarge as LargeType, TooDeep, EmptyTuple, KeyTwice}
 use Rattle.cl_sexpr.specs.declared.sexpr.Span.{Span}
 use Rattle.cl_sexpr.specs.declared.rule.Rule.{Rule}
-use Rattle.cl_sexpr.specs.declared.rule.Rule.TheVariants.{ArgumentKind, TooDeepCalls, NotResponse, ThrownDiffer, TooLarge}
+use Rattle.cl_sexpr.specs.declared.rule.Rule.TheVariants.{ArgumentKind, TooDeepCalls, NotResponse}
 use Rattle.cl_sexpr.specs.declared.rule.Break.{Break}
 use Rattle.cl_sexpr.specs.Tree.{Tree, tree_depth}
 use Rattle.cl_forms.specs.Forms.{FormKind, VariableForm, FungibleForm, FunctionForm}
-use Rattle.cl_code.specs.Typed.{Typed, Typeds, TypedAs, MoreTyped, NoTyped, expression_of, type_of}
+use Rattle.cl_code.specs.Typed.{MoreTyped, NoTyped, expression_of, type_of}
 use Rattle.cl_rules.specs.Faults.{form_rules, when}
 use Rattle.cl_forms.specs.Names.{stands_twice}
 use Rattle.cl_forms.proofs.Twice.{repeats, twice_is}
-use Rattle.cl_rules.specs.Context.{Context, Names, same, named_in, is_named}
-use Rattle.cl_rules.specs.Verdicts.{Found, Thrown, so_far, thrown_after}
+use Rattle.cl_rules.specs.Context.{Names, same, named_in, is_named}
+use Rattle.cl_rules.specs.Verdicts.{Found, Thrown, thrown_after}
 use Rattle.cl_rules.specs.Shapes.{Plan, Part, Ends}
-use Rattle.cl_rules.specs.Table.{shape}
 use Rattle.cl_rules.specs.FormRules.{Defined, form_plan, form_faults, most_height, is_too_high, may_answer, return_of, answer_faults}
 use Rattle.cl_rules.specs.Judging.{Judged, Holds, Fails, and_judged, unless_broken, walked, judged, nesting}
 use Rattle.cl_forms.proofs.SameNames.{same_turned}
-use Rattle.cl_contracts.specs.Standing.{Stands, StandAll}
+use Rattle.cl_contracts.specs.Standing.{StandAll}
 use Rattle.cl_typing.specs.declared.concluding.Checked.{Checked}
 use Rattle.cl_typing.specs.Verdicts.{Facts, facts, facts_of, counted, refused_throws}
 use Rattle.cl_judging.specs.declared.context.Context.{Context as CodeContext}
 use Rattle.cl_judging.specs.Seen.{Shows}
-use Rattle.cl_check.specs.JudgingForms.{Checks, kind_judged, HoldsKind, FindsKind, FindsBody, Returns, return_fault, return_rule}
+use Rattle.cl_check.specs.JudgingForms.{Checks, kind_judged, FindsKind, FindsBody, Returns, return_fault, return_rule}
 
 module _ (c : CodeContext) (kind : FormKind) (B : Names) (e : Tree) (at : Span) (plan : form_plan kind ≡ Part B e Ends) (nested : tree_depth e < nesting) where
   abbrev ended : List Found → Judged (List Found)

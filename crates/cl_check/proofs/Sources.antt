@@ -1,5 +1,5 @@
 -- The forms of a source in their order, what is known of them, and what is refused before.
-use Rattle.std.proofs.Common.{◌≡◌, ℕ, zero, suc, ◌+◌, ◌*◌, ◌^◌, ◌≤◌, ◌<◌, List, [], ◌∷◌, length, slice_get, Option, Some, None, ap, Ok, refl, sym, subst, arith}
+use Rattle.std.proofs.Common.{◌≡◌, ℕ, zero, suc, ◌*◌, ◌^◌, ◌≤◌, ◌<◌, List, [], ◌∷◌, length, slice_get, Option, Some, None, ap, Ok, refl, sym, subst, arith}
 use Rattle.cl_types.specs.Fault.{IsRefusal}
 use Rattle.cl_types.specs.declared.fault.Fault.{Fault}
 use Rattle.cl_types.specs.declared.fault.Fault.TheVariants.{Refused, NoMemory}

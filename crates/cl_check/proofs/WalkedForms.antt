@@ -1,8 +1,8 @@
 -- Forms in their order, one more each time.
-use Rattle.std.proofs.Common.{◌≡◌, ◌⊎◌, inl, inr, ℕ, zero, suc, ◌+◌, ◌<◌, ◌≤◌, Bool, true, false, List, [], ◌∷◌, ◌++◌, length, map, take, drop, get_or, filter_map, slice_get, Option, Some, None, Ok, Err, refl, ap, sym, subst, ◌∙◌, add-one, arith}
-use Rattle.std.specs.Prelude.{◌||◌, nat_eq, option_and_then, is_none}
-use Rattle.std.specs.List.{cons_option, list_any, IsDistinct, AllByRecursion}
-use Rattle.std.proofs.lemmas.Bool.{false_from_ne_true, true≢false, eqb-true}
+use Rattle.std.proofs.Common.{◌≡◌, ◌⊎◌, inl, inr, ℕ, zero, suc, ◌+◌, ◌<◌, ◌≤◌, Bool, true, false, List, [], ◌∷◌, ◌++◌, length, map, take, drop, get_or, slice_get, Option, Some, None, Err, refl, ap, sym, subst, ◌∙◌, add-one, arith}
+use Rattle.std.specs.Prelude.{◌||◌, nat_eq, option_and_then}
+use Rattle.std.specs.List.{cons_option, IsDistinct, AllByRecursion}
+use Rattle.std.proofs.lemmas.Bool.{false_from_ne_true, true≢false}
 use Rattle.std.proofs.lemmas.Cmp.{nat_eq_equiv}
 use Rattle.std.proofs.lemmas.List.{take_more}
 use Rattle.cl_types.specs.declared.fault.Fault.{Fault}
@@ -17,7 +17,7 @@ use Rattle.cl_code.specs.Definitions.{form_defined}
 use Rattle.cl_rules.specs.Verdicts.{Found}
 use Rattle.cl_rules.specs.FormRules.{Defined, defined_after}
 use Rattle.cl_rules.specs.Acceptance.{forms_at}
-use Rattle.cl_rules.specs.Judging.{Judged, Holds, Fails, and_judged, form_judged, forms_judged}
+use Rattle.cl_rules.specs.Judging.{Judged, Fails, and_judged, form_judged, forms_judged}
 use Rattle.cl_contracts.specs.Standings.{AllStand, StandsAs}
 use Rattle.cl_judging.specs.declared.context.Context.{Context as CodeContext}
 use Rattle.cl_judging.specs.Seen.{Shows, top_level_in}

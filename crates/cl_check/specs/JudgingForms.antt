@@ -3,7 +3,6 @@ use Rattle.std.specs.Prelude.{◌≡◌, ◌⊎◌, ℕ, ◌+◌, ◌^◌, ◌<�
 use Rattle.cl_types.specs.Types.{PlainType}
 use Rattle.cl_types.specs.declared.fault.Fault.{Fault}
 use Rattle.cl_types.specs.declared.fault.Fault.TheVariants.{Refused, NoMemory}
-use Rattle.cl_types.specs.declared.sized.Access.{Access}
 use Rattle.cl_types.specs.declared.sized.TyRefusal.{TyRefusal}
 use Rattle.cl_sexpr.specs.declared.sexpr.Span.{Span}
 use Rattle.cl_types.specs.declared.sized.TyRefusal.TheVariants.{Differ}
@@ -17,11 +16,11 @@ use Rattle.cl_forms.specs.Heads.{native}
 use Rattle.cl_forms.specs.Names.{name_at}
 use Rattle.cl_forms.specs.Names.{stands_twice}
 use Rattle.cl_code.specs.declared.definition.Definition.{Definition}
-use Rattle.cl_code.specs.Typed.{Typeds, NoTyped, MoreTyped, type_of}
+use Rattle.cl_code.specs.Typed.{NoTyped, MoreTyped, type_of}
 use Rattle.cl_code.specs.Definitions.{form_defined}
 use Rattle.cl_rules.specs.Faults.{form_rules}
 use Rattle.cl_rules.specs.Context.{Context, Names}
-use Rattle.cl_rules.specs.Verdicts.{Found, Thrown, so_far, thrown_after}
+use Rattle.cl_rules.specs.Verdicts.{Found, so_far, thrown_after}
 use Rattle.cl_rules.specs.FormRules.{Defined, form_plan, form_faults, defined_after, return_of}
 use Rattle.cl_rules.specs.Judging.{Judged, Holds, Fails, and_judged, unless_broken, walked, judged, nesting, form_judged, forms_judged}
 use Rattle.cl_contracts.specs.Standing.{StandAll}

@@ -1,5 +1,5 @@
 //! Names of forms are added to what stands around an expression.
-ghost use Rattle.std.specs.Prelude.{◌≡◌, ◌++◌, ◌∷◌, [], false, Some, List, ℕ, OnOk};
+ghost use Rattle.std.specs.Prelude.{◌≡◌, ◌++◌, ◌∷◌, [], false, Some, OnOk};
 ghost use Rattle.cl_rules.specs.Context.{Context as Around, Signature as Signed};
 ghost use Rattle.cl_judging.specs.Seen.{Shows, top_level_in, seen_under, shown};
 ghost use Rattle.cl_check.specs.JudgingForms.{AddsName};

@@ -1,5 +1,5 @@
 //! The checker of whole texts.
-ghost use Rattle.std.specs.Prelude.{◌≡◌, ◌≤◌, ℕ, List, false, length, map, filter_map, slice_get, IfOk};
+ghost use Rattle.std.specs.Prelude.{◌≡◌, ◌≤◌, ℕ, List, false, length, map, IfOk};
 ghost use Rattle.cl_types.specs.Fault.{IfRefused};
 ghost use Rattle.cl_forms.specs.Order.{IsGoodOrder};
 ghost use Rattle.cl_code.specs.Definitions.{form_defined};

@@ -1,5 +1,5 @@
 //! Reading the wire form.
-ghost use Rattle.std.specs.Prelude.{◌≡◌, ◌≤◌, ◌∷◌, IfOk, Ok, Err, Option, Some, None, List, ℕ, length};
+ghost use Rattle.std.specs.Prelude.{◌≡◌, ◌∷◌, IfOk, Ok, Err, Option, Some, None, List};
 ghost use Rattle.cl_types.specs.Fault.{IfRefused};
 ghost use Rattle.cl_values.specs.Tree.{items_of, entries_of};
 ghost use Rattle.cl_values.specs.Reading.{decoded, place, read_value, read_if_prefix, prefix_at, read_some, read_response, read_list, read_items, read_tuple, read_entries};

@@ -1,5 +1,5 @@
 //! Reading values with no values inside.
-ghost use Rattle.std.specs.Prelude.{◌≡◌, ◌≤◌, ◌++◌, IfOk, Ok, Err, List, ℕ, length, drop};
+ghost use Rattle.std.specs.Prelude.{◌≡◌, ◌≤◌, ◌++◌, IfOk, Ok, Err, length, drop};
 ghost use Rattle.std.specs.Str.{chars};
 ghost use Rattle.cl_types.specs.Fault.{IfRefused};
 ghost use Rattle.cl_values.specs.Reading.{place, good_len, read_int, read_uint, read_buff, read_ascii, read_utf8, read_standard, read_contract};

@@ -1,5 +1,5 @@
 //! Reading the parts of a wire form: numbers, names, addresses, and bytes behind their length.
-ghost use Rattle.std.specs.Prelude.{◌≡◌, ◌≤◌, ◌<◌, ◌^◌, ◌∷◌, [], IfOk, Ok, Err, Option, Some, None, List, ℕ, length};
+ghost use Rattle.std.specs.Prelude.{◌≡◌, ◌≤◌, ◌<◌, ◌^◌, ◌∷◌, [], IfOk, Ok, Err, Option, Some, None, length};
 ghost use Rattle.cl_types.specs.Fault.{IfRefused};
 ghost use Rattle.cl_types.specs.Name.{fits_pattern};
 ghost use Rattle.cl_c32.specs.ContractName.{fits_pattern as fits_contract_pattern};

@@ -1,6 +1,6 @@
 -- What is charged and given at a sound node.
 use Rattle.std.specs.Prelude.{IfOk}
-use Rattle.std.proofs.Common.{◌≡◌, ℕ, List, [], Result, Ok, Err, ap}
+use Rattle.std.proofs.Common.{List, [], Result, Ok, Err, ap}
 use Rattle.cl_types.specs.declared.fault.NoMemory.{NoMemory}
 use Rattle.cl_rules.specs.Context.{Known}
 use Rattle.cl_node_sound.specs.Sound.{HasParts, IsSoundNode}

@@ -1,5 +1,5 @@
 -- What there is to a call that is made.
-use Rattle.std.specs.Prelude.{◌≡◌, List, length, Option, Some, None, Result, Ok, Err}
+use Rattle.std.specs.Prelude.{◌≡◌, List, length, Some, None, Result, Ok, Err}
 use Rattle.cl_types.specs.declared.fault.Fault.{Fault}
 use Rattle.cl_types.specs.declared.fault.Fault.TheVariants.{Refused, NoMemory as OutOfMemory}
 use Rattle.cl_types.specs.declared.sized.Access.{Access}

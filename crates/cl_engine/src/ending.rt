@@ -1,8 +1,8 @@
 //! How a call ends.
-ghost use Rattle.std.specs.Prelude.{◌≡◌, ◌∷◌, [], List, Some, IfOk, OnErr, length, Result, Ok, Err};
+ghost use Rattle.std.specs.Prelude.{◌≡◌, ◌∷◌, [], Some, IfOk, OnErr, length, Result, Ok, Err};
 ghost use Rattle.cl_shapes.specs.Limits.{Purse};
 ghost use Rattle.cl_values.specs.Tree.{Tree, ResponseV};
-ghost use Rattle.cl_events.specs.State.{State, at_rest};
+ghost use Rattle.cl_events.specs.State.{at_rest};
 ghost use Rattle.cl_meaning.specs.Limits.{Limited};
 ghost use Rattle.cl_frames.specs.Aborts.{Answers};
 ghost use Rattle.cl_tx.specs.Nodes.{NodeSeen, nothing_told, result_of, settled, answered, call_ended};

@@ -1,5 +1,5 @@
 //! The layer on which an entry is evaluated.
-ghost use Rattle.std.specs.Prelude.{◌≡◌, ◌∷◌, [], length, take, IfOk, OnOk, OnErr};
+ghost use Rattle.std.specs.Prelude.{◌≡◌, ◌∷◌, [], length, IfOk, OnOk, OnErr};
 ghost use Rattle.cl_events.specs.State.{at_rest};
 ghost use Rattle.cl_post.specs.Post.{holds};
 

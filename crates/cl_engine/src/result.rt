@@ -1,5 +1,5 @@
 //! Results of entries.
-ghost use Rattle.std.specs.Prelude.{◌≡◌, [], Option, Some, None};
+ghost use Rattle.std.specs.Prelude.{◌≡◌, [], Option, None};
 ghost use Rattle.cl_tx.specs.Nodes.{nothing_told, purse_of, result_of};
 ghost use Rattle.cl_engine.specs.Calling.{stop_by, cost_by};
 

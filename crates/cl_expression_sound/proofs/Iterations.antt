@@ -6,7 +6,7 @@ use Rattle.cl_types.specs.Sized.{length_of}
 use Rattle.cl_shapes.specs.declared.cost.Cost5.{Cost5}
 use Rattle.cl_shapes.specs.declared.name.CostName.{CostName}
 use Rattle.cl_shapes.specs.declared.name.CostName.TheVariants.{Iterate}
-use Rattle.cl_shapes.specs.Costs.{plus, times, zero_cost}
+use Rattle.cl_shapes.specs.Costs.{plus, times}
 use Rattle.cl_sexpr.specs.declared.sexpr.Span.{Span}
 use Rattle.cl_sexpr.specs.Tree.{Tree, LeafAt, Named}
 use Rattle.cl_values.specs.Tree.{Tree as Val, ListV, items_of}
@@ -15,7 +15,7 @@ use Rattle.cl_values.specs.Computed.{Gives}
 use Rattle.cl_values.specs.Sequences.{entries_of, like}
 use Rattle.cl_forms.specs.declared.head.Head.TheVariants.{Map, Filter, Fold}
 use Rattle.cl_events.specs.State.{State}
-use Rattle.cl_meaning.specs.Answers.{Answer, Given, charged}
+use Rattle.cl_meaning.specs.Answers.{Answer, charged}
 use Rattle.cl_meaning.specs.Scope.{Callee, sizes}
 use Rattle.cl_meaning.specs.Sequences.{callee_of, side_by_side, all_entries, rows_of, mapped, map_form, filtered, filter_form, fold_of, fold_form}
 use Rattle.cl_rules.specs.Faults.{type_rules}
@@ -28,7 +28,7 @@ use Rattle.cl_rules.specs.Table.{head_shape}
 use Rattle.cl_expression_sound.specs.Fitted.{Follows, ends, part}
 use Rattle.cl_expression_sound.specs.Sound.{World, IsSound, IsAsFound, NoThrow, IsKept}
 use Rattle.cl_expression_sound.proofs.Costs.{two_behind, more_of_both, same_cost, less_charged, more_times}
-use Rattle.cl_expression_sound.proofs.Logic.{sound_more, sound_less, sound_stop, sound_charged, sound_then, sound_last, sound_known}
+use Rattle.cl_expression_sound.proofs.Logic.{sound_more, sound_less, sound_charged, sound_then, sound_last, sound_known}
 use Rattle.cl_expression_sound.proofs.Thrown.{ruling_unbroken}
 use Rattle.cl_expression_sound.proofs.Strict.{computed_sound, strict_sound, single_sound}
 use Rattle.cl_expression_sound.proofs.Natives.{one_low}

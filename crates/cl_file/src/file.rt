@@ -1,5 +1,5 @@
 //! The transaction file.
-ghost use Rattle.std.specs.Prelude.{◌≡◌, [], IfOk, Ok, Err};
+ghost use Rattle.std.specs.Prelude.{◌≡◌, IfOk, Ok, Err};
 ghost use Rattle.serde_json.specs.View.{view, items_view};
 ghost use Rattle.cl_types.specs.Fault.{IfRefused};
 ghost use Rattle.cl_file.specs.Objects.{Values, Texts, needed};

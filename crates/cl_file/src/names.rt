@@ -1,5 +1,5 @@
 //! The names of an object's members.
-ghost use Rattle.std.specs.Prelude.{◌≡◌, List, ℕ, [], ◌∷◌, map, IfSome, IfNone};
+ghost use Rattle.std.specs.Prelude.{◌≡◌, [], ◌∷◌, map, IfSome, IfNone};
 ghost use Rattle.cl_file.specs.Names.{names_of, condition_kind, entry_kind};
 
 /// The objects whose members have names.

@@ -1,5 +1,5 @@
 //! Objects.
-ghost use Rattle.std.specs.Prelude.{◌≡◌, List, ℕ, IfOk, Ok, Err, map, option_map};
+ghost use Rattle.std.specs.Prelude.{◌≡◌, IfOk, Ok, Err, map, option_map};
 ghost use Rattle.serde_json.specs.View.{view, members_view};
 ghost use Rattle.cl_types.specs.Fault.{IfRefused};
 ghost use Rattle.cl_json.specs.Json.{unknown_member};

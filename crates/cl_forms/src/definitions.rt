@@ -4,7 +4,6 @@ ghost use Rattle.std.specs.List.{list_any};
 ghost use Rattle.std.specs.Option.{option_or};
 ghost use Rattle.indexmap.specs.IndexMap.{get as lookup};
 ghost use Rattle.cl_types.specs.Fault.{IfRefused};
-ghost use Rattle.cl_sexpr.specs.Tree.{Tree};
 ghost use Rattle.cl_forms.specs.Names.{same, stands_twice};
 ghost use Rattle.cl_forms.specs.Heads.{is_reserved};
 ghost use Rattle.cl_forms.specs.ItemView.{plain_draft, plain_item};

@@ -1,5 +1,5 @@
 -- Definitions of a contract that is being deployed, one after another.
-use Rattle.std.proofs.Common.{◌≡◌, ℕ, zero, suc, get_or, add-one, ◌+◌, ◌<◌, ◌≤◌, Bool, true, false, List, [], ◌∷◌, ◌++◌, length, drop, map, Option, Some, None, Result, Ok, Err, refl, sym, ap, ◌∙◌, subst, arith, Bor}
+use Rattle.std.proofs.Common.{◌≡◌, ℕ, zero, suc, get_or, add-one, ◌+◌, ◌<◌, Bool, true, List, [], ◌∷◌, length, drop, Option, Some, None, Result, Ok, Err, refl, sym, ap, ◌∙◌, subst}
 use Rattle.std.specs.Prelude.{unwrap_or, slice_get, nat_eq, option_map, if◌then◌else◌}
 use Rattle.std.specs.Cmp.{nat_eq_equiv}
 use Rattle.std.proofs.Math.Seq.{drop-cons}
@@ -19,7 +19,7 @@ use Rattle.cl_values.specs.Wire.{size_of}
 use Rattle.cl_maps.specs.Maps.{Map, put, get, empty}
 use Rattle.cl_maps.proofs.MapLaws.{self_equal}
 use Rattle.cl_tokens.specs.Ledger.{no_tokens}
-use Rattle.cl_forms.specs.Forms.{Form, FormKind, ConstantForm, VariableForm, MapForm, FungibleForm, NonFungibleForm, FunctionForm, ExpressionForm}
+use Rattle.cl_forms.specs.Forms.{Form, ConstantForm, VariableForm, MapForm, FungibleForm, NonFungibleForm, FunctionForm, ExpressionForm}
 use Rattle.cl_forms.specs.Order.{ordered, is_in, IsGoodOrder}
 use Rattle.cl_code.specs.declared.definition.Function.{Function as TypedFunction}
 use Rattle.cl_code.specs.declared.definition.MapOf.{MapOf as MapDefined}
@@ -29,13 +29,12 @@ use Rattle.cl_code.specs.Typed.{Typed, expression_of}
 use Rattle.cl_code.specs.Definitions.{form_defined, expression_if}
 use Rattle.cl_contracts.specs.declared.checked.Checked.{Checked}
 use Rattle.cl_contracts.proofs.Places.{get_map}
-use Rattle.cl_events.specs.State.{State, holder, is_principal, place, with_variables, with_fungibles, with_nonfungibles}
-use Rattle.cl_contracts.specs.declared.deployed.Deployed.{Deployed as DeployedOfCode}
+use Rattle.cl_events.specs.State.{State, holder, place, with_variables, with_fungibles, with_nonfungibles}
 use Rattle.cl_contracts.specs.Seen.{forms_of, deployed_seen, IsIndexed}
-use Rattle.cl_meaning.specs.Answers.{Answer, Given, Wrong, give, wrong, charged, and_then, with_known, stop}
+use Rattle.cl_meaning.specs.Answers.{Answer, Given, Wrong, give, wrong, charged, and_then, with_known}
 use Rattle.cl_meaning.specs.Deployed.{Contract, Deployed, contract_at}
-use Rattle.cl_meaning.specs.Deploying.{defined, all_defined, forms_at, forms_by, in_order, deployment, with_constant, put_variable, put_fungible, put_nonfungible, with_cap}
-use Rattle.cl_meaning.specs.Limits.{Costs, cost_of, Limited, Gave, Lost, limited}
+use Rattle.cl_meaning.specs.Deploying.{defined, all_defined, forms_at, forms_by, deployment, with_constant, put_variable, put_fungible, put_nonfungible, with_cap}
+use Rattle.cl_meaning.specs.Limits.{Costs, cost_of, Gave, limited}
 use Rattle.cl_meaning.specs.Meaning.{means}
 use Rattle.cl_meaning.specs.Scope.{Frame}
 use Rattle.cl_meaning.specs.Top.{top}
@@ -47,13 +46,10 @@ use Rattle.cl_frames.proofs.WatchSteps as steps
 use Rattle.cl_frames.proofs.Unseen.{IsUnseen, stopped, paid}
 use Rattle.cl_frames.specs.declared.stop.Stop.{Stop}
 use Rattle.cl_frames.specs.declared.home.Home.{Home}
-use Rattle.cl_frames.specs.declared.context.Context.{Context}
 use Rattle.cl_frames.specs.declared.deploying.Deploying.{Deploying}
-use Rattle.cl_frames.specs.Named.{Named}
 use Rattle.cl_frames.specs.Homes.{frame_seen, home_seen, IsHome}
-use Rattle.cl_frames.specs.Seen.{scope, scope_of, Fits}
 use Rattle.cl_frames.specs.Runs.{Stops, Ends, Pays}
-use Rattle.cl_frames.specs.Deploys.{HasNoTokens, IsDeploying, contract_with, contract_so_far, contract_in, costs_of, top_of, defined_by, all_by, all_charged, cap_of, Makes, Builds}
+use Rattle.cl_frames.specs.Deploys.{HasNoTokens, IsDeploying, contract_so_far, contract_in, costs_of, defined_by, all_by, all_charged, cap_of, Makes, Builds}
 use Rattle.cl_frames.proofs.Steps.{Handed, stops_then, stops_eq, charge_stops, ends_so}
 
 -- ---- the context at the top

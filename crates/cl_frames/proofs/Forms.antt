@@ -1,5 +1,5 @@
 -- What the form of each kind of node is, as equations over the expressions of its parts.
-use Rattle.std.proofs.Common.{◌≡◌, ◌≢◌, ℕ, zero, suc, true, false, ◌-◌, ◌<◌, List, [], ◌∷◌, length, get_or, map, refl, sym, ap, ◌∙◌, arith}
+use Rattle.std.proofs.Common.{◌≡◌, ◌≢◌, ℕ, zero, suc, true, ◌-◌, ◌<◌, List, [], ◌∷◌, length, get_or, map, refl, sym, ap, ◌∙◌, arith}
 use Rattle.std.proofs.lemmas.List.{length-map}
 use Rattle.cl_shapes.specs.Limits.{Purse}
 use Rattle.cl_shapes.specs.declared.name.CostName.{CostName}
@@ -12,10 +12,10 @@ use Rattle.cl_values.specs.Tree.{Tree as Val, BoolV}
 use Rattle.cl_values.specs.Natives.{native_value}
 use Rattle.cl_events.specs.State.{State}
 use Rattle.cl_code.specs.Typed.{Typed, expression_of}
-use Rattle.cl_meaning.specs.Answers.{Answer, Deeper, stop, give, wrong, charged, and_then, with_known, outcome_of, ending}
+use Rattle.cl_meaning.specs.Answers.{Deeper, stop, give, charged, and_then, with_known, outcome_of, ending}
 use Rattle.cl_meaning.specs.Deployed.{Function, function_of}
-use Rattle.cl_meaning.specs.Scope.{Scope, home, OwnFunction, ByName, Callee, Take, Enter, parts, sizes, in_frame, as_contract}
-use Rattle.cl_meaning.specs.Control.{if_form, begin_form, last_of, choice, and_on, or_on, and_form, or_form, throwing, throw, wanted_part, err_part, asserts_form, unwrap_form, unwrap_err_form, tried, try_form, as_contract_form}
+use Rattle.cl_meaning.specs.Scope.{Scope, home, OwnFunction, ByName, Callee, Take, Enter, parts, in_frame, as_contract}
+use Rattle.cl_meaning.specs.Control.{if_form, begin_form, last_of, choice, and_on, or_on, and_form, or_form, throwing, wanted_part, err_part, asserts_form, unwrap_form, unwrap_err_form, tried, try_form, as_contract_form}
 use Rattle.cl_meaning.specs.Values.{strict_form, on_values, number_of}
 use Rattle.cl_forms.specs.declared.head.TokenNative.TheVariants as natives
 use Rattle.cl_meaning.specs.Tokens.{print_form, stx_balance_form, token_form}

@@ -1,6 +1,6 @@
 -- Natives by their names, and what each that isn't on values alone is.
-use Rattle.std.proofs.Common.{◌≡◌, ◌<◌, ◌∷◌, [], ℕ, suc, List, length, get_or, map, true, false, Bool, Option, Some, None, refl, sym, ap, ◌∙◌, arith}
-use Rattle.std.specs.Prelude.{◌==◌, nat_le, not, is_some}
+use Rattle.std.proofs.Common.{◌≡◌, ◌<◌, ◌∷◌, [], ℕ, suc, List, length, get_or, map, true, Option, Some, None, refl, sym, ap, ◌∙◌, arith}
+use Rattle.std.specs.Prelude.{◌==◌, nat_le}
 use Rattle.std.proofs.lemmas.Bool.Decides.{nat_tests}
 use Rattle.cl_shapes.specs.declared.name.CostName.{CostName}
 use Rattle.cl_sexpr.specs.declared.sexpr.Span.{Span}
@@ -9,7 +9,7 @@ use Rattle.cl_values.specs.Tree.{Tree as Val}
 use Rattle.cl_forms.specs.declared.head.Head.{Head}
 use Rattle.cl_forms.specs.declared.head.TokenNative.TheVariants as tokens
 use Rattle.cl_forms.specs.Heads.{Row, row_of, native, takes}
-use Rattle.cl_forms.specs.HeadNames.{name_of, head_of_row, head_of}
+use Rattle.cl_forms.specs.HeadNames.{name_of, head_of_row}
 use Rattle.cl_forms.proofs.Found.{found_by_name, is_row}
 use Rattle.cl_forms.proofs.Bindings.{trees_forest}
 use Rattle.cl_events.specs.State.{State}

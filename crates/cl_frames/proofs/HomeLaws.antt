@@ -1,5 +1,5 @@
 -- The contracts of principals, as the code finds them.
-use Rattle.std.proofs.Common.{◌≡◌, Bool, true, false, List, [], ◌∷◌, Option, Some, None, refl, sym, ap, ◌∙◌, subst, rules}
+use Rattle.std.proofs.Common.{◌≡◌, Bool, true, false, [], ◌∷◌, Option, Some, None, refl, sym, ap, ◌∙◌, subst, rules}
 use Rattle.std.specs.Prelude.{if◌then◌else◌, option_and_then, IfSome}
 use Rattle.cl_c32.specs.declared.principal.Principal.{Principal}
 use Rattle.cl_maps.proofs.MapLaws.{same_keys}

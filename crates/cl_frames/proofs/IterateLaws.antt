@@ -1,5 +1,5 @@
 -- map, filter and fold, as equations over the expressions of their parts; and what is given by name.
-use Rattle.std.proofs.Common.{◌≡◌, ◌<◌, ℕ, zero, suc, List, [], ◌∷◌, length, get_or, map, true, false, Bool, Option, Some, None, refl, sym, ap, ◌∙◌, arith}
+use Rattle.std.proofs.Common.{◌≡◌, ◌<◌, ℕ, suc, List, [], ◌∷◌, length, get_or, map, true, false, Bool, Option, Some, None, refl, sym, ap, ◌∙◌, arith}
 use Rattle.std.specs.Prelude.{if◌then◌else◌, not, is_some}
 use Rattle.cl_shapes.specs.Limits.{Purse}
 use Rattle.cl_shapes.specs.declared.name.CostName.TheVariants.{Iterate}
@@ -22,9 +22,9 @@ use Rattle.cl_code.specs.OpNames.{iteration_head}
 use Rattle.cl_code.specs.Expression.{applied_name}
 use Rattle.cl_code.specs.Typed.{Typed, expression_of}
 use Rattle.cl_shapes.specs.declared.name.CostName.{CostName}
-use Rattle.cl_meaning.specs.Answers.{Answer, Deeper, Wrong, give, charged, and_then, with_known}
+use Rattle.cl_meaning.specs.Answers.{Deeper, Wrong, give, charged, and_then, with_known}
 use Rattle.cl_meaning.specs.Deployed.{Function, function_of}
-use Rattle.cl_meaning.specs.Scope.{Scope, home, Callee, OwnFunction, ByName, Take, Enter, parts, sizes}
+use Rattle.cl_meaning.specs.Scope.{Scope, home, Callee, ByName, Take, Enter, parts, sizes}
 use Rattle.cl_meaning.specs.Sequences.{own, by_row, callee_of, map_form, mapped, filter_form, filtered, fold_form, fold_of}
 use Rattle.cl_meaning.specs.Meaning.{head_form, applied}
 use Rattle.cl_meaning.specs.Calls.{native_form, truths, truth_value}

@@ -1,5 +1,5 @@
 -- The applications to the entries of sequences, one after another.
-use Rattle.std.proofs.Common.{◌≡◌, ℕ, suc, ◌+◌, ◌<◌, ◌≤◌, List, [], ◌∷◌, ◌++◌, length, map, Bool, true, false, Option, Some, None, Result, refl, sym, ap, ◌∙◌, arith}
+use Rattle.std.proofs.Common.{◌≡◌, ◌+◌, List, [], ◌∷◌, ◌++◌, Bool, true, false, Option, Some, None, Result, refl, sym, ap, ◌∙◌}
 use Rattle.std.proofs.lemmas.List.{append-nil}
 use Rattle.std.specs.Prelude.{option_map}
 use Rattle.cl_shapes.specs.Limits.{Purse}
@@ -14,7 +14,7 @@ use Rattle.cl_meaning.specs.Limits.{Costs, limited}
 use Rattle.cl_frames.specs.Watching.{Seen, Watched, Gave, Threw, AbortedBy, Passed, Lost, watched, after, Stops, Ends}
 use Rattle.cl_frames.proofs.WatchLaws.{watched-then, watched-stop, then_gave, start_here, starts}
 use Rattle.cl_frames.specs.declared.stop.Stop.{Stop}
-use Rattle.cl_frames.specs.Kept.{flags_of, chosen, sieved, kept_of}
+use Rattle.cl_frames.specs.Kept.{flags_of, chosen, kept_of}
 use Rattle.cl_frames.proofs.WatchSteps.{stops_eq, stops_after, stops_then, ends_so, unseen_ends}
 use Rattle.cl_frames.proofs.Unseen.{kept_unseen}
 use Rattle.cl_frames.specs.Runs as runs

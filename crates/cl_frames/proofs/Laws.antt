@@ -1,5 +1,5 @@
 -- Literals, names, variables and maps: what each is, as equations.
-use Rattle.std.proofs.Common.{◌≡◌, ◌≢◌, ℕ, ◌+◌, Bool, true, false, List, [], ◌∷◌, ◌++◌, length, Option, Some, None, Result, Ok, Err, refl, sym, ap, ◌∙◌, subst, ◌≤◌, arith}
+use Rattle.std.proofs.Common.{◌≡◌, ◌≢◌, ℕ, ◌+◌, Bool, true, false, List, [], ◌∷◌, ◌++◌, length, Option, Some, None, Result, refl, sym, ap, ◌∙◌, subst, ◌≤◌, arith}
 use Rattle.std.proofs.lemmas.Bool.Decides.{nat_tests}
 use Rattle.std.specs.Prelude.{if◌then◌else◌, not, is_some, nat_le, option_map}
 use Rattle.std.specs.Str.{bytes_eq}
@@ -12,7 +12,7 @@ use Rattle.cl_values.specs.Tree.{Tree as Val, BoolV, NoneV, SomeV}
 use Rattle.cl_values.specs.Wire.{size_of}
 use Rattle.cl_values.specs.Computed.{Gives, Undefined}
 use Rattle.cl_values.specs.Sequences.{optional, entries_of, on_entries, within_length}
-use Rattle.cl_maps.specs.Maps.{Map, get, put, without}
+use Rattle.cl_maps.specs.Maps.{get, put, without}
 use Rattle.cl_c32.specs.declared.principal.Principal.{Principal}
 use Rattle.cl_events.specs.declared.event.EventKind.TheVariants.{Print}
 use Rattle.cl_meaning.specs.Limits.{Costs, Gave, Lost, limited}
@@ -35,7 +35,7 @@ use Rattle.cl_meaning.specs.Answers.{Answer, Wrong, stop, give, wrong, charged, 
 use Rattle.cl_meaning.specs.Deployed.{Contract, value_of, constant_of, has_map}
 use Rattle.cl_meaning.specs.Scope.{Scope, home}
 use Rattle.cl_meaning.specs.Names.{standing, literal, keyword_form, known_form, keyword_or, name_form}
-use Rattle.cl_meaning.specs.Data.{here, variable_set, only_if, with_map, found_at, entry_at, key_and_value, insert_entry, set_entry, delete_entry}
+use Rattle.cl_meaning.specs.Data.{here, variable_set, only_if, with_map, found_at, entry_at, key_and_value, insert_entry, delete_entry}
 use Rattle.cl_frames.specs.Tails.{variable_read, entry_read, with_nothing, with_one, with_all}
 
 -- ---- literals and names

@@ -1,5 +1,5 @@
 -- match and let, and the bodies of functions.
-use Rattle.std.proofs.Common.{◌≡◌, ℕ, ◌+◌, ◌-◌, ◌<◌, ◌≤◌, zero, suc, List, [], ◌∷◌, ◌++◌, length, map, take, drop, get_or, append_assoc, true, false, Result, Ok, Err, refl, sym, ap, ◌∙◌, subst, arith}
+use Rattle.std.proofs.Common.{◌≡◌, ℕ, ◌+◌, ◌-◌, ◌<◌, ◌≤◌, zero, suc, List, [], ◌∷◌, ◌++◌, length, map, take, drop, get_or, append_assoc, true, false, Result, Err, refl, sym, ap, ◌∙◌, subst, arith}
 use Rattle.std.proofs.lemmas.List.{length-map, length-drop, drop_all, append-nil}
 use Rattle.std.proofs.Common.{Vec, Global}
 use Rattle.cl_shapes.specs.Limits.{Purse}
@@ -14,7 +14,7 @@ use Rattle.cl_code.specs.Typed.{Typed, expression_of}
 use Rattle.cl_code.specs.Expression.{bound_items, optional_branches, response_branches}
 use Rattle.cl_code.specs.declared.op.Word.{Word}
 use Rattle.cl_code.specs.declared.op.Binding.{Binding}
-use Rattle.cl_meaning.specs.Answers.{Answer, wrong, charged, and_then}
+use Rattle.cl_meaning.specs.Answers.{wrong, charged, and_then}
 use Rattle.cl_meaning.specs.Deployed.{Function}
 use Rattle.cl_meaning.specs.Scope.{Scope, Take, BoundValues, parts, binding, with_bound, taken_with}
 use Rattle.cl_meaning.specs.Control.{match_optional, match_response, match_form, let_form, let_in, last_of}

@@ -1,8 +1,8 @@
 -- The loops of and, or; and the frame of as-contract.
-use Rattle.std.proofs.Common.{◌≡◌, ℕ, ◌+◌, ◌<◌, ◌≤◌, List, [], ◌∷◌, length, map, drop, get_or, refl, sym, ap, ◌∙◌}
+use Rattle.std.proofs.Common.{◌≡◌, ℕ, ◌+◌, ◌<◌, ◌≤◌, List, length, map, drop, get_or, sym, ap, ◌∙◌}
 use Rattle.std.proofs.lemmas.List.{drop_all}
 use Rattle.cl_shapes.specs.Limits.{Purse}
-use Rattle.cl_values.specs.Tree.{Tree as Val, BoolV}
+use Rattle.cl_values.specs.Tree.{BoolV}
 use Rattle.cl_events.specs.State.{State}
 use Rattle.cl_code.specs.Typed.{Typed, expression_of}
 use Rattle.cl_meaning.specs.Answers.{give, and_then}

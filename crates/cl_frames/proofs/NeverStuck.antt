@@ -37,7 +37,7 @@ use Rattle.cl_frames.specs.declared.stop.Stop.TheVariants as stops
 use Rattle.cl_frames.specs.Aborts.{IsNotStuck, StopsCall, abort_of, fault_of}
 use Rattle.cl_frames.specs.Deploys.{contract_with}
 use Rattle.cl_frames.specs.Runs.{Stops}
-use Rattle.cl_frames.specs.Sound.{DeploySpendsWithin, IsAcceptedAfter, IsFittingCall, IsKeptWorld, IsReturnOf, SpendsWithin}
+use Rattle.cl_frames.specs.Sound.{IsAcceptedAfter, IsFittingCall, IsKeptWorld, IsReturnOf, SpendsWithin}
 
 -- principals and the height of a frame are within the limits
 pub record IsValidFrame (F : Frame) : Type 0 where

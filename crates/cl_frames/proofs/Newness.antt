@@ -1,5 +1,5 @@
 -- What isn't defined yet is new: no constant has its name, and no token of the contract's.
-use Rattle.std.proofs.Common.{◌≡◌, ℕ, suc, ◌+◌, ◌<◌, ◌≤◌, Bool, true, false, cond, List, [], ◌∷◌, ◌++◌, length, get_or, drop, Option, Some, None, Result, Ok, Err, refl, sym, ap, ◌∙◌, subst, arith}
+use Rattle.std.proofs.Common.{◌≡◌, ℕ, ◌+◌, Bool, true, false, cond, List, [], ◌∷◌, ◌++◌, drop, Option, Some, None, refl, sym, ap, ◌∙◌, subst, arith}
 use Rattle.std.specs.Prelude.{unwrap_or, slice_get, nat_eq, if◌then◌else◌, option_and_then}
 use Rattle.std.specs.Str.{bytes_eq}
 use Rattle.std.specs.Ordering.{eq_by_cmp}
@@ -18,18 +18,17 @@ use Rattle.cl_tokens.specs.Ledger.{no_tokens}
 use Rattle.cl_maps.proofs.MapLaws.{get-put, same_keys}
 use Rattle.cl_sexpr.specs.Tree.{Tree}
 use Rattle.cl_forms.specs.Forms.{Form, FungibleForm}
-use Rattle.cl_forms.specs.Names.{name_at}
 use Rattle.cl_events.specs.State.{State, holder, place}
 use Rattle.cl_code.specs.declared.definition.Definition.{Definition}
 use Rattle.cl_code.specs.declared.definition.Definition.TheVariants.{Constant, Variable, MapOf, Fungible, NonFungible, Function, TopLevel}
-use Rattle.cl_code.specs.Typed.{Typed, expression_of}
+use Rattle.cl_code.specs.Typed.{expression_of}
 use Rattle.cl_code.specs.Definitions.{form_defined, expression_if}
 use Rattle.cl_contracts.specs.declared.checked.Checked.{Checked}
 use Rattle.cl_contracts.specs.Seen.{forms_of, deployed_seen, IsIndexed}
 use Rattle.cl_meaning.specs.Answers.{Outcome, Given, Thrown, Aborted, Wrong, Deeper, Answer, Note, stop, give, charged, and_then, then_on}
 use Rattle.cl_meaning.specs.Deployed.{Contract, Deployed, has_name, value_of}
 use Rattle.cl_meaning.specs.Deploying.{defined, with_cap}
-use Rattle.cl_meaning.specs.Limits.{Costs, Paid, Within, Past, pay, limit_on, Limited, Gave, limited}
+use Rattle.cl_meaning.specs.Limits.{Costs, Paid, Within, Past, pay, limit_on, Gave, limited}
 use Rattle.cl_meaning.specs.Scope.{Frame}
 use Rattle.cl_meaning.specs.Top.{top}
 use Rattle.cl_frames.specs.declared.deploying.Deploying.{Deploying}

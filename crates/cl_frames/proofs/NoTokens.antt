@@ -1,20 +1,15 @@
 -- No evaluation makes a token: states in which a form ends.
-use Rattle.std.proofs.Common.{◌≡◌, ℕ, zero, suc, Bool, true, false, cond, List, [], ◌∷◌, ◌++◌, length, map, Option, Some, None, Result, Ok, Err, refl, sym, ap, ◌∙◌}
-use Rattle.std.specs.Prelude.{if◌then◌else◌, option_and_then, is_some}
+use Rattle.std.proofs.Common.{◌≡◌, ℕ, Bool, true, false, cond, List, [], ◌∷◌, Option, Some, None, Result, Ok, Err, refl, sym, ap, ◌∙◌}
+use Rattle.std.specs.Prelude.{if◌then◌else◌}
 use Rattle.std.specs.Ordering.{eq_by_cmp}
 use Rattle.std.specs.Option.{option_or}
-use Rattle.cl_types.specs.Types.{PlainType}
-use Rattle.cl_types.specs.declared.sized.Access.{Access}
-use Rattle.cl_types.specs.declared.sized.Access.TheVariants.{Public, ReadOnly, Private}
 use Rattle.cl_c32.specs.declared.principal.Principal.{Principal}
 use Rattle.cl_shapes.specs.declared.name.CostName.{CostName}
-use Rattle.cl_shapes.specs.declared.name.CostName.TheVariants.{Literal, Lookup, Control, Iterate}
+use Rattle.cl_shapes.specs.declared.name.CostName.TheVariants.{Literal, Lookup}
 use Rattle.cl_sexpr.specs.declared.sexpr.Span.{Span}
-use Rattle.cl_sexpr.specs.Tree.{Tree, Leaf, LeafAt, ListAt, TupleAt, Named, Signed, Unsigned, Bytes, Ascii, Unicode, Standing, Local, Then, span_of}
-use Rattle.cl_values.specs.declared.native.Native.{Native}
+use Rattle.cl_sexpr.specs.Tree.{Leaf, Named, Signed, Unsigned, Bytes, Ascii, Unicode, Standing, Local}
 use Rattle.cl_values.specs.declared.refusal.ValueRefusal.{ValueRefusal}
-use Rattle.cl_values.specs.Tree.{Tree as Val, IntV, BoolV, PrincipalV, SomeV, ResponseV}
-use Rattle.cl_values.specs.Sequences.{optional, entries_of}
+use Rattle.cl_values.specs.Tree.{Tree as Val, BoolV, PrincipalV}
 use Rattle.cl_values.specs.Wire.{wire}
 use Rattle.cl_maps.specs.Maps.{Map, get, put, key_cmp}
 use Rattle.cl_maps.proofs.MapLaws.{get-put, tied_get, not_None}
@@ -24,11 +19,11 @@ use Rattle.cl_tokens.specs.Ledger.{Ledger, minted, sent, burnt}
 use Rattle.cl_tokens.specs.Owners.{Owners, asset_minted, asset_sent, asset_burnt}
 use Rattle.cl_events.specs.declared.event.EventKind.{EventKind}
 use Rattle.cl_events.specs.declared.event.EventKind.TheVariants.{Print, FtMint, FtTransfer, FtBurn, NftMint, NftTransfer, NftBurn, StxTransfer, StxBurn}
-use Rattle.cl_events.specs.State.{State, holder, place, with_fungibles, with_nonfungibles, with_stx, with_variables, with_entries, with_event}
+use Rattle.cl_events.specs.State.{State, holder, place, with_fungibles, with_nonfungibles, with_stx, with_event}
 use Rattle.cl_events.specs.Acts.{Acted, replaced, on_ledger, on_owners, on_stx, burnt_stx, changed, moved, told, acted, sender_refusal, acted_by}
 use Rattle.cl_forms.specs.declared.keyword.Keyword.{Keyword}
 use Rattle.cl_forms.specs.Keywords.{keyword_of, keyword_cost}
-use Rattle.cl_meaning.specs.Answers.{Outcome, Given, Thrown, Aborted, Wrong, Deeper, BySupply, Answer, Note, stop, give, wrong, charged, then_on, and_then, ending, returning, with_known}
+use Rattle.cl_meaning.specs.Answers.{Outcome, Given, Thrown, Aborted, Wrong, Deeper, Answer, Note, stop, charged, then_on, and_then, ending, returning, with_known}
 use Rattle.cl_meaning.specs.Deployed.{value_of, constant_of}
 use Rattle.cl_meaning.specs.Scope.{Scope, home}
 use Rattle.cl_meaning.specs.Names.{standing, literal, keyword_value, keyword_or, known_form, name_form, leaf_form}

@@ -1,13 +1,11 @@
 -- No evaluation makes a token: each form in turn, and evaluations to any depth.
-use Rattle.std.proofs.Common.{◌≡◌, ℕ, zero, suc, Bool, true, false, List, [], ◌∷◌, ◌++◌, length, map, Option, Some, None, refl}
-use Rattle.std.specs.Prelude.{option_and_then, is_some}
+use Rattle.std.proofs.Common.{ℕ, zero, suc, Bool, true, false, List, [], ◌∷◌, map, Option, Some, None, refl}
+use Rattle.std.specs.Prelude.{option_and_then}
 use Rattle.cl_types.specs.Types.{PlainType}
 use Rattle.cl_types.specs.declared.sized.Access.{Access}
-use Rattle.cl_types.specs.declared.sized.Access.TheVariants.{Public, ReadOnly, Private}
-use Rattle.cl_c32.specs.declared.principal.Principal.{Principal}
+use Rattle.cl_types.specs.declared.sized.Access.TheVariants.{Public}
 use Rattle.cl_shapes.specs.declared.name.CostName.{CostName}
 use Rattle.cl_shapes.specs.declared.name.CostName.TheVariants.{Bind, ReadVar}
-use Rattle.cl_sexpr.specs.declared.sexpr.Span.{Span}
 use Rattle.cl_sexpr.specs.Tree.{Tree, LeafAt, ListAt, TupleAt, Named, Unsigned, Then, span_of}
 use Rattle.cl_values.specs.declared.native.Native.{Native}
 use Rattle.cl_values.specs.Tree.{Tree as Val, UintV, BoolV, NoneV, SomeV, ResponseV, ListV, items_of}
@@ -17,25 +15,25 @@ use Rattle.cl_values.specs.Sequences.{optional, entries_of, like}
 use Rattle.cl_forms.specs.declared.head.Head.{Head}
 use Rattle.cl_forms.specs.declared.head.Head.TheVariants as head
 use Rattle.cl_forms.specs.declared.head.TokenNative.{TokenNative}
-use Rattle.cl_forms.specs.declared.head.TokenNative.TheVariants.{MintFt, BurnFt, SendFt, MintNft, BurnNft, SendNft, SendStx, BurnStx}
+use Rattle.cl_forms.specs.declared.head.TokenNative.TheVariants.{SendStx, BurnStx}
 use Rattle.cl_forms.specs.Heads.{Row, native}
 use Rattle.cl_forms.specs.Shapes.{trees_of, binding_of, bindings_of, pairs_of, MatchParts, OptionalMatch, ResponseMatch, match_of}
 use Rattle.cl_maps.specs.Maps.{get, put, without}
 use Rattle.cl_events.specs.declared.event.EventKind.TheVariants.{Print}
 use Rattle.cl_events.specs.State.{State, spot, with_variables, with_entries, with_event}
-use Rattle.cl_meaning.specs.Answers.{Given, Wrong, Deeper, Answer, stop, give, charged, and_then, ending, returning, with_known, outcome_of}
+use Rattle.cl_meaning.specs.Answers.{Given, Wrong, Deeper, Answer, stop, give, charged, and_then, returning, with_known, outcome_of}
 use Rattle.cl_meaning.specs.Deployed.{Contract, Deployed, Function, function_in, function_of, has_map}
 use Rattle.cl_meaning.specs.Scope.{Frame, Scope, home, BoundValues, Take, Enter, Callee, OwnFunction, ByName, parts, binding, with_bound, in_frame, as_contract, called, taken_with}
 use Rattle.cl_meaning.specs.Values.{on_values, strict_form, tuple_form, get_form, as_max_len_form}
-use Rattle.cl_meaning.specs.Control.{choice, throw, if_form, last_of, begin_form, let_in, let_form, and_on, or_on, and_form, or_form, throwing, asserts_form, wanted_part, err_part, unwrap_form, unwrap_err_form, tried, try_form, match_optional, match_response, match_taken, match_form, as_contract_form}
-use Rattle.cl_meaning.specs.Data.{here, variable_set, found_at, entry_at, delete_entry, with_map, key_and_value, insert_entry, set_entry, write_form, var_get_form, var_set_form, map_get_form, map_set_form, map_insert_form, map_delete_form}
+use Rattle.cl_meaning.specs.Control.{throw, if_form, last_of, begin_form, let_in, let_form, and_on, or_on, and_form, or_form, throwing, asserts_form, wanted_part, err_part, unwrap_form, unwrap_err_form, tried, try_form, match_optional, match_response, match_taken, match_form, as_contract_form}
+use Rattle.cl_meaning.specs.Data.{here, variable_set, found_at, entry_at, delete_entry, key_and_value, insert_entry, set_entry, write_form, var_get_form, var_set_form, map_get_form, map_set_form, map_insert_form, map_delete_form}
 use Rattle.cl_meaning.specs.Tokens.{ft_balance_form, ft_supply_form, stx_balance_form, nft_owner_form, balance_in, owner_value, act_of, acts, act_form, named_act_form, token_form, print_form}
 use Rattle.cl_meaning.specs.Sequences.{callee_of, rows_of, all_entries, each, mapped, map_form, kept_if, sifted, filtered, filter_form, folded, fold_of, fold_form}
-use Rattle.cl_meaning.specs.Calls.{callable, target_of, other_contract, call_form, enter_there, contract_call_form, closing, bound_to, body_in, function_form, truth_value, all_true, some_true, native_form, application}
+use Rattle.cl_meaning.specs.Calls.{callable, target_of, other_contract, call_form, enter_there, contract_call_form, closing, bound_to, body_in, function_form, truth_value, native_form, application}
 use Rattle.cl_meaning.specs.Meaning.{head_form, operator, node, means, applied}
 use Rattle.cl_meaning.specs.Top.{top}
 use Rattle.cl_frames.specs.Deploys.{MakesNoTokens}
-use Rattle.cl_frames.proofs.NoTokens.{Keeps, plain, keeps_stop, keeps_moved, keeps_charged, keeps_ending, keeps_returning, keeps_from, keeps_then, keeps_known, keeps_choice, keeps_last, keeps_standing, keeps_leaf, keeps_only_if, keeps_pair, keeps_balance, keeps_acts}
+use Rattle.cl_frames.proofs.NoTokens.{Keeps, plain, keeps_stop, keeps_moved, keeps_charged, keeps_ending, keeps_returning, keeps_from, keeps_then, keeps_known, keeps_choice, keeps_last, keeps_leaf, keeps_only_if, keeps_pair, keeps_balance, keeps_acts}
 
 abbrev KeepsTake : Take → Type 0
 KeepsTake take = (S : Scope) (e : Tree) (s : State) → Keeps s (take S e s)

@@ -1,5 +1,5 @@
 -- What each node means, as equations: the form of its operation over the expressions of its parts.
-use Rattle.std.proofs.Common.{Vec, Global, ◌≡◌, ℕ, List, [], ◌∷◌, length, drop, map, true, false, Bool, Option, Some, None, refl, sym, ap, ◌∙◌, codes}
+use Rattle.std.proofs.Common.{Vec, Global, ◌≡◌, ℕ, List, ◌∷◌, length, drop, map, true, false, Bool, Option, Some, None, refl, sym, ap, ◌∙◌}
 use Rattle.std.specs.Prelude.{not, is_some}
 use Rattle.cl_types.specs.Types.{PlainType}
 use Rattle.cl_shapes.specs.declared.name.CostName.TheVariants.{Literal}
@@ -20,7 +20,7 @@ use Rattle.cl_code.specs.OpNames.{parts_head, name_head, iteration_head}
 use Rattle.cl_code.specs.declared.op.Binding.{Binding}
 use Rattle.cl_code.specs.Nodes.{has_own_name, has_parts, are_once, bound_names}
 use Rattle.cl_code.specs.Typed.{Typed, TypedAs, typeds, expression_of}
-use Rattle.cl_code.specs.Expression.{word, target, applied_name, headed, bound_items, keyed, behind_first, optional_branches, response_branches, expression}
+use Rattle.cl_code.specs.Expression.{word, target, applied_name, bound_items, keyed, behind_first, optional_branches, response_branches, expression}
 use Rattle.cl_meaning.specs.Answers.{Answer, with_known}
 use Rattle.cl_meaning.specs.Scope.{Scope, Take, Enter}
 use Rattle.cl_meaning.specs.Names.{standing, literal, leaf_form, name_form}

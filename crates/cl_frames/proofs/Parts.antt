@@ -8,7 +8,7 @@ use Rattle.cl_sexpr.specs.Tree.{Tree}
 use Rattle.cl_values.specs.Tree.{Tree as Val}
 use Rattle.cl_events.specs.State.{State}
 use Rattle.cl_code.specs.Typed.{Typed, expression_of}
-use Rattle.cl_meaning.specs.Answers.{Answer, Given, stop, give}
+use Rattle.cl_meaning.specs.Answers.{Answer, Given, give}
 use Rattle.cl_meaning.specs.Scope.{Scope, Take, parts}
 use Rattle.cl_meaning.specs.Limits.{Costs}
 use Rattle.cl_frames.specs.Watching.{Seen, Watched, Gave, Threw, AbortedBy, Passed, Lost, watched, seen_of, after, IsStart, Stops, Ends}

@@ -1,23 +1,20 @@
 -- Truth values, and what they keep of a sequence.
-use Rattle.std.proofs.Common.{◌≡◌, ℕ, zero, suc, ◌+◌, ◌<◌, ◌≤◌, max, ◌&&◌, Bool, true, false, not, List, [], ◌∷◌, ◌++◌, length, get_or, drop, option_map, Option, Some, None, Result, Ok, Err, append_assoc, add-one, refl, sym, ap, ◌∙◌, subst, arith, nat_le}
+use Rattle.std.proofs.Common.{◌≡◌, ℕ, zero, suc, ◌+◌, ◌<◌, ◌≤◌, ◌&&◌, Bool, true, false, not, List, [], ◌∷◌, ◌++◌, length, get_or, drop, option_map, Option, Some, None, Result, Ok, Err, append_assoc, add-one, refl, sym, ap, ◌∙◌, subst, arith, nat_le}
 use Rattle.std.specs.Prelude.{if◌then◌else◌, nat_lt}
 use Rattle.std.specs.List.{list_all}
 use Rattle.std.proofs.lemmas.List.{append-nil, drop_all}
 use Rattle.std.proofs.lemmas.Bool.{and_parts, and_from}
 use Rattle.std.proofs.lemmas.Bool.Decides.{nat_tests}
-use Rattle.cl_shapes.specs.Limits.{Purse}
 use Rattle.cl_values.specs.declared.refusal.ValueRefusal.{ValueRefusal}
 use Rattle.cl_values.specs.declared.refusal.ValueRefusal.TheVariants.{BadTuple, BadText, TooDeep, TooLarge}
-use Rattle.cl_values.specs.Tree.{Tree as Val, IntV, UintV, BoolV, BuffV, AsciiV, Utf8V, PrincipalV, ListV, TupleV, NoneV, SomeV, ResponseV, items_of, depth_of, items_depth}
+use Rattle.cl_values.specs.Tree.{Tree as Val, BoolV, BuffV, AsciiV, Utf8V, ListV, items_of, depth_of, items_depth}
 use Rattle.cl_values.specs.Wire.{size_of}
 use Rattle.cl_values.specs.Valid.{IsVal, made, is_text_byte, has_rising_keys, has_good_texts, items_have_rising_keys, items_have_good_texts}
 use Rattle.cl_values.specs.Computed.{Gives, is_within}
-use Rattle.cl_values.specs.Sequences.{entries_of, like, on_entries, singles, values_of, contents, joined}
+use Rattle.cl_values.specs.Sequences.{singles, contents, joined}
 use Rattle.cl_values.proofs.Lists.{values_of_items}
-use Rattle.cl_events.specs.State.{State}
-use Rattle.cl_meaning.specs.Answers.{Outcome, Given, Wrong, outcome_of}
+use Rattle.cl_meaning.specs.Answers.{Given, Wrong, outcome_of}
 use Rattle.cl_meaning.specs.Calls.{and_truth, truths}
-use Rattle.cl_meaning.specs.Limits.{Costs, limited}
 use Rattle.cl_frames.specs.declared.stop.Stop.{Stop}
 use Rattle.cl_frames.specs.Runs.{Computes}
 use Rattle.cl_frames.specs.Applying.{truth_of, join}

@@ -1,5 +1,5 @@
 -- What a walk shows to those who see its outcome alone, and to those who see what was told.
-use Rattle.std.proofs.Common.{◌≡◌, ◌≤◌, ℕ, List, [], ◌∷◌, ◌++◌, map, length, Option, Some, None, Result, Ok, Err, refl, sym, ap, ◌∙◌, subst, arith}
+use Rattle.std.proofs.Common.{◌≡◌, ◌≤◌, List, [], ◌∷◌, ◌++◌, length, Option, Some, None, Result, Ok, Err, refl, sym, ap, ◌∙◌, subst, arith}
 use Rattle.cl_types.specs.declared.fault.Fault.{Fault}
 use Rattle.cl_shapes.specs.Limits.{Purse}
 use Rattle.cl_sexpr.specs.declared.sexpr.Span.{Span}

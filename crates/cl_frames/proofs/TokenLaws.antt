@@ -17,7 +17,7 @@ use Rattle.cl_tokens.specs.Ledger.{Ledger, balance, minted, sent, burnt}
 use Rattle.cl_tokens.specs.Owners.{Owners, asset_minted, asset_sent, asset_burnt}
 use Rattle.cl_events.specs.declared.event.EventKind.{EventKind}
 use Rattle.cl_events.specs.declared.event.EventKind.TheVariants.{Print, FtMint, FtTransfer, FtBurn, NftMint, NftTransfer, NftBurn, StxTransfer, StxBurn}
-use Rattle.cl_events.specs.State.{State, holder, place, is_principal}
+use Rattle.cl_events.specs.State.{State, holder, place}
 use Rattle.cl_events.specs.Acts.{Acted, acted, acted_by, changed, told, on_ledger, on_owners, sender_refusal}
 use Rattle.cl_state.specs.Deeds.{is_there}
 use Rattle.cl_state.specs.Amounts.{balance_in as balance_by}
@@ -25,7 +25,7 @@ use Rattle.cl_types.specs.declared.fault.Fault.{Fault}
 use Rattle.cl_types.specs.declared.fault.Fault.TheVariants.{Refused}
 use Rattle.cl_state.specs.Stack.{Stack, with_top}
 use Rattle.cl_state.specs.Rows.{ActsOn}
-use Rattle.cl_meaning.specs.Answers.{Answer, Given, Aborted, BySupply, stop, give, wrong, with_known, outcome_of}
+use Rattle.cl_meaning.specs.Answers.{Answer, Given, Aborted, BySupply, stop, give, with_known, outcome_of}
 use Rattle.cl_meaning.specs.Tokens.{balance_in, answered, acts, owner_value}
 use Rattle.cl_meaning.specs.Scope.{Scope}
 use Rattle.cl_meaning.specs.Limits.{Costs, Gave, AbortedBy, Lost, limited}

@@ -9,7 +9,7 @@ use Rattle.cl_sexpr.specs.declared.sexpr.Span.{Span}
 use Rattle.cl_values.specs.Tree.{Tree as Val}
 use Rattle.cl_events.specs.State.{State}
 use Rattle.cl_code.specs.Watched.{GrewBy}
-use Rattle.cl_meaning.specs.Answers.{Outcome, Given, Thrown, Aborted, Wrong, Deeper, Answer, Note, Ended, stop, charged, then_on, and_then, end_of, ending, returning}
+use Rattle.cl_meaning.specs.Answers.{Outcome, Given, Thrown, Aborted, Wrong, Deeper, Answer, Note, stop, charged, then_on, and_then, end_of, ending, returning}
 use Rattle.cl_meaning.specs.Limits.{Costs, cost_of, Paid, Within, Past, paid_by, pay, limit_on, limited}
 use Rattle.cl_meaning.specs.Limits as plain
 use Rattle.cl_meaning.specs.Trace.{Claim, claims, trace_of}

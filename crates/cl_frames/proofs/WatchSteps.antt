@@ -1,5 +1,5 @@
 -- How a walk goes along the parts of an answer.
-use Rattle.std.proofs.Common.{◌≡◌, ℕ, [], ◌∷◌, ◌++◌, Option, Some, None, Result, Ok, Err, refl, sym, ap, ◌∙◌, subst}
+use Rattle.std.proofs.Common.{◌≡◌, ℕ, [], ◌∷◌, ◌++◌, Option, Some, None, Result, Ok, Err, sym, ap, ◌∙◌, subst}
 use Rattle.cl_shapes.specs.Limits.{Purse, spend}
 use Rattle.cl_shapes.specs.declared.name.CostName.{CostName}
 use Rattle.cl_sexpr.specs.declared.sexpr.Span.{Span}

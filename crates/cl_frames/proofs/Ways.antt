@@ -1,13 +1,11 @@
 -- Parts that are truth values, optionals or responses.
-use Rattle.std.proofs.Common.{◌≡◌, Bool, true, false, List, [], ◌∷◌, Result, Ok, Err, refl, sym, ap, ◌∙◌, subst}
+use Rattle.std.proofs.Common.{◌≡◌, Bool, true, false, Result, refl, sym, ap, ◌∙◌, subst}
 use Rattle.cl_shapes.specs.Limits.{Purse}
 use Rattle.cl_shapes.specs.declared.limit.Over.{Over}
-use Rattle.cl_sexpr.specs.Tree.{Tree}
 use Rattle.cl_values.specs.Tree.{Tree as Val, IntV, UintV, BoolV, BuffV, AsciiV, Utf8V, PrincipalV, ListV, TupleV, NoneV, SomeV, ResponseV}
 use Rattle.cl_events.specs.State.{State}
-use Rattle.cl_meaning.specs.Answers.{Answer, Cause, Wrong, stop, give, wrong, and_then}
-use Rattle.cl_meaning.specs.Scope.{Scope, Take}
-use Rattle.cl_meaning.specs.Control.{choice, throw, throwing, wanted_part, err_part, tried}
+use Rattle.cl_meaning.specs.Answers.{Answer, Cause, Wrong, give, wrong, and_then}
+use Rattle.cl_meaning.specs.Control.{choice, throw, wanted_part, err_part, tried}
 use Rattle.cl_meaning.specs.Limits.{Costs}
 use Rattle.cl_meaning.specs.Limits as plain
 use Rattle.cl_frames.specs.Watching.{Seen, Watched, Gave, Threw, AbortedBy, Passed, Lost, watched_as, watched, seen_of, after, truthful, IsStart, Stops, Ends}

@@ -13,8 +13,6 @@ use Rattle.cl_maps.specs.Maps.{get}
 use Rattle.cl_forms.specs.Forms.{Form}
 use Rattle.cl_forms.specs.Names.{name_at}
 use Rattle.cl_events.specs.State.{State, place}
-use Rattle.cl_code.specs.declared.definition.Definition.{Definition}
-use Rattle.cl_code.specs.Definitions.{form_defined}
 use Rattle.cl_contracts.specs.declared.checked.Checked.{Checked}
 use Rattle.cl_contracts.specs.Seen.{forms_of, deployed_seen, IsIndexed, AreIndexed}
 use Rattle.cl_meaning.specs.Answers.{Answer, charged}

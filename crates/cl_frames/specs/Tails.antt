@@ -1,5 +1,5 @@
 -- What follows where a native that isn't on values alone has the values of its parts.
-use Rattle.std.specs.Prelude.{ℕ, List, [], ◌∷◌, zip}
+use Rattle.std.specs.Prelude.{ℕ, List, zip}
 use Rattle.cl_shapes.specs.declared.name.CostName.TheVariants.{Take as TakeCost, Make, ReadVar, WriteVar, WriteMap, ReadToken, WriteToken, Event as EventCost}
 use Rattle.cl_c32.specs.declared.principal.Principal.{Principal}
 use Rattle.cl_values.specs.Tree.{Tree as Val, UintV, TupleV}

@@ -1,5 +1,5 @@
 -- What walks show of the meaning under its limit, and what is seen of it where somebody looks on.
-use Rattle.std.specs.Prelude.{◌≡◌, ℕ, Bool, List, [], ◌∷◌, ◌++◌, map, length, Option, Some, None, Result, Ok, Err}
+use Rattle.std.specs.Prelude.{◌≡◌, ℕ, Bool, List, [], ◌++◌, map, length, Option, Some, None, Result, Ok, Err}
 use Rattle.std.proofs.Common.{Vec, Global}
 use Rattle.cl_types.specs.Types.{PlainType}
 use Rattle.cl_shapes.specs.Limits.{Purse}

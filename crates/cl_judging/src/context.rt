@@ -1,9 +1,7 @@
 //! What stands around an expression.
-ghost use Rattle.std.specs.Prelude.{◌≡◌, map, option_copied, is_some};
-ghost use Rattle.std.specs.Option.{option_map};
+ghost use Rattle.std.specs.Prelude.{◌≡◌, option_copied};
 ghost use Rattle.std.specs.List.{list_any};
-ghost use Rattle.cl_rules.specs.Context.{Signature as Signed, same, named_in, signature_in};
-ghost use Rattle.cl_judging.specs.Seen.{seen, seen_under, shown, shown_entry};
+ghost use Rattle.cl_rules.specs.Context.{same, named_in};
 
 use cl_c32::Principal;
 use cl_contracts::Deployed;

@@ -1,6 +1,5 @@
 //! Rows of natives whose arguments are all evaluated and that aren't on values.
-ghost use Rattle.std.specs.Prelude.{◌≡◌, map, [], ◌∷◌, Some, None, IfOk};
-ghost use Rattle.cl_types.specs.Types.{NoType};
+ghost use Rattle.std.specs.Prelude.{◌≡◌, map, Some, None, IfOk};
 ghost use Rattle.cl_rules.specs.NativeTypes.{fine, if_kind, lubbed, one, two};
 ghost use Rattle.cl_types.specs.TypeKinds.{is_bool};
 ghost use Rattle.cl_rules.specs.ControlShapes.{asserts_row, unwrap_row, unwrap_err_row};

@@ -1,5 +1,5 @@
 //! Parts of lists, and of nodes.
-ghost use Rattle.std.specs.Prelude.{◌≡◌, ◌<◌, ◌∷◌, ◌++◌, length, ℕ, [], false, true, List, IfOk, OnOk, IfSome, IfNone, None};
+ghost use Rattle.std.specs.Prelude.{◌≡◌, ◌<◌, ◌∷◌, ◌++◌, length, ℕ, [], false, true, List, OnOk, IfSome, IfNone, None};
 ghost use Rattle.cl_sexpr.specs.declared.sexpr.Span.{Span as Place};
 ghost use Rattle.cl_sexpr.specs.Tree.{Tree};
 ghost use Rattle.cl_forms.specs.HeadNames.{name_of};

@@ -1,5 +1,5 @@
 //! A listener in memory.
-ghost use Rattle.std.specs.Prelude.{◌≡◌, ◌++◌, ◌∷◌, [], true, Some, IsErr, OnOk, OnErr, is_ok, if◌then◌else◌};
+ghost use Rattle.std.specs.Prelude.{◌≡◌, ◌++◌, [], true, Some, IsErr, OnOk, OnErr, is_ok, if◌then◌else◌};
 ghost use Rattle.cl_ports.specs.Growth.{next_count};
 ghost use Rattle.cl_ports.specs.Memory.{is_listed};
 ghost use Rattle.cl_ports.specs.Sink.{CountsWriteFault};

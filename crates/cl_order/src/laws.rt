@@ -1,5 +1,5 @@
 //! Laws of the order and of cycles: each function here is a law, and does nothing.
-ghost use Rattle.std.specs.Prelude.{◌≡◌, ◌↔◌, ℕ, List, Ok, Err};
+ghost use Rattle.std.specs.Prelude.{◌≡◌, ℕ, List, Ok, Err};
 ghost use Rattle.cl_forms.specs.Forms.{Form};
 ghost use Rattle.cl_forms.specs.Order.{IsGoodOrder, IsCycle, ordered, names_at};
 

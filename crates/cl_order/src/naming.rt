@@ -3,7 +3,7 @@ ghost use Rattle.std.specs.Prelude.{◌≡◌, ◌==◌, ◌<◌, [], ◌∷◌,
 ghost use Rattle.cl_sexpr.specs.Tree.{forest, pairs, Named};
 ghost use Rattle.cl_forms.specs.Forms.{expression_of};
 ghost use Rattle.cl_forms.specs.Items.{atom_of};
-ghost use Rattle.cl_forms.specs.Names.{same, Plain as AtPlain, place_behind, next_place, first_at, atom_at, atoms_in, atoms_of_list, atoms_of, atoms_of_pairs, atoms_of_form, named_by};
+ghost use Rattle.cl_forms.specs.Names.{same, place_behind, next_place, first_at, atom_at, atoms_in, atoms_of_list, atoms_of, atoms_of_pairs, atoms_of_form, named_by};
 ghost use Rattle.cl_order.specs.Index.{under, IsIndex};
 ghost use Rattle.cl_order.specs.Naming.{place};
 

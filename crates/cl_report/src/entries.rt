@@ -1,5 +1,5 @@
 //! The lines of an entry.
-ghost use Rattle.std.specs.Prelude.{◌≡◌, ◌++◌, IfOk, codes, string_bytes, decimal};
+ghost use Rattle.std.specs.Prelude.{◌≡◌, ◌++◌, IfOk, codes, decimal};
 ghost use Rattle.std.specs.List.{flat_map};
 ghost use Rattle.cl_text.specs.Printed.{printed};
 ghost use Rattle.cl_report.specs.Events.{event_line};

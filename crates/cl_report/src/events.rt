@@ -1,5 +1,5 @@
 //! How events print.
-ghost use Rattle.std.specs.Prelude.{◌≡◌, ◌++◌, IfOk, string_bytes};
+ghost use Rattle.std.specs.Prelude.{◌≡◌, ◌++◌, IfOk};
 ghost use Rattle.cl_report.specs.Events.{amount_text, name_text, value_text, who_text, word_of, details, event_line};
 
 use crate::addresses::AddressCache;

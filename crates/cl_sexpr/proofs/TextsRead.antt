@@ -1,12 +1,12 @@
 -- Each text reads, or breaks a rule first.
-use Rattle.std.proofs.Common.{◌≡◌, ◌⊎◌, inl, inr, ℕ, zero, suc, ◌+◌, ◌-◌, ◌<◌, ◌≤◌, leb, List, [], ◌∷◌, ◌++◌, length, drop, Bool, true, false, Option, Some, None, Result, Ok, Err, refl, arith, sym, ap, ◌∙◌, subst}
+use Rattle.std.proofs.Common.{◌≡◌, inl, inr, ℕ, zero, suc, ◌+◌, ◌-◌, ◌<◌, ◌≤◌, leb, List, [], ◌∷◌, ◌++◌, length, drop, Bool, true, false, Option, Some, None, Result, Ok, Err, refl, arith, sym, ap, ◌∙◌, subst}
 use Rattle.std.specs.Option.{option_and_then}
 use Rattle.std.proofs.lemmas.List.{length-drop}
 use Rattle.std.proofs.lemmas.Bool.Decides.{nat_tests}
 use Rattle.cl_sexpr.specs.declared.rule.Break.{Break}
-use Rattle.cl_sexpr.specs.Tree.{Tree, Forest, forest}
+use Rattle.cl_sexpr.specs.Tree.{Tree, forest}
 use Rattle.cl_sexpr.specs.Token.{Token, Separator, Comment, Colon, Comma, Opens, Closes, OpensTuple, ClosesTuple, Key, Is, Faulty, Open, bare, next, open_after, in_place}
-use Rattle.cl_sexpr.specs.Text.{Spells, Cuts, Reads, Breaks, ReadsOrBreaks, too_long, first, token_at, misplaced, unless_stands, break_by}
+use Rattle.cl_sexpr.specs.Text.{Spells, Cuts, ReadsOrBreaks, too_long, first, token_at, misplaced, unless_stands, break_by}
 use Rattle.cl_sexpr.proofs.Steps.{leaf_spelled, bare-append, open_after-append}
 use Rattle.cl_sexpr.proofs.Rows.{whole_row}
 use Rattle.cl_sexpr.proofs.Lexing.{is_raw, token_within}

@@ -1,6 +1,5 @@
 -- The rules by number and name, and their order.
-use Rattle.std.specs.Prelude.{ℕ, List, [], ◌∷◌, ◌++◌, codes}
-use Rattle.cl_shapes.specs.Costs.{dimension_name}
+use Rattle.std.specs.Prelude.{ℕ, List, codes}
 use Rattle.cl_sexpr.specs.declared.rule.Rule.{Rule}
 use Rattle.cl_sexpr.specs.declared.rule.Rule.TheVariants.{BadByte, BadToken, NumberTooWide, Unclosed, StrayClose, TooNested, BadEscape, BadTuple, BadAddress, SourceTooLong, BadDefinition, BadType, BadName, NotInProfile, NameUsed, Cycle, UnknownName, ArgumentCount, ArgumentKind, NotSame, TooLarge, TooDeep, Undetermined, ThrownDiffer, NotResponse, UnusedResponse, ShadowedName, NoSuchKey, NoSuchVariable, NoSuchMap, NoSuchToken, NoSuchContract, NoSuchFunction, NotAFunction, LiteralExpected, EmptyForm, BadBinding, TooDeepCalls, KeyTwice, NotAValue, WritesInReadOnly, BoundTooLarge}
 

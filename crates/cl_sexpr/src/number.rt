@@ -1,5 +1,5 @@
 //! Numbers that are told by their digits alone, in one pass, as nearly all are.
-ghost use Rattle.std.specs.Prelude.{◌≡◌, ◌<◌, ◌+◌, ◌^◌, ◌∷◌, ℕ, length, IfSome};
+ghost use Rattle.std.specs.Prelude.{◌≡◌, ◌<◌, ◌+◌, ◌^◌, ℕ, length, IfSome};
 ghost use Rattle.cl_sexpr.specs.declared.lexer.Token.TheVariants.{Item};
 ghost use Rattle.cl_sexpr.specs.Lexed.{leaf, Lexes, DigitRun, number_leaf};
 ghost use Rattle.cl_sexpr.specs.Tree.{LeafAt};

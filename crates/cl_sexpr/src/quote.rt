@@ -1,9 +1,9 @@
 //! Strings.
-ghost use Rattle.std.specs.Prelude.{◌≡◌, ◌<◌, ◌≤◌, ◌+◌, ◌^◌, ◌∷◌, length, true, false, Ok, Err, IfOk, IfErr, IfSome, position, not, option_map};
+ghost use Rattle.std.specs.Prelude.{◌≡◌, ◌<◌, ◌≤◌, ◌+◌, ◌^◌, length, true, false, Ok, Err, IfOk, IfSome, position, not};
 ghost use Rattle.std.specs.Option.{SomeIff};
 ghost use Rattle.std.specs.Char.{is_digit};
 ghost use Rattle.cl_types.specs.Fault.{IfRefused};
-ghost use Rattle.cl_sexpr.specs.Quote.{closing, escape, digits_in_front, hex_value, hex_number, in_braces, code_of, escape_of, character_at, characters, is_string_byte, text_in, mark, string_leaf, string_at};
+ghost use Rattle.cl_sexpr.specs.Quote.{closing, escape, digits_in_front, hex_value, hex_number, in_braces, code_of, escape_of, character_at, characters, is_string_byte, text_in, mark, string_at};
 ghost use Rattle.cl_sexpr.specs.Lexed.{token, leaf};
 
 use crate::bytes::{begins, split_byte};

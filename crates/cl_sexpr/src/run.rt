@@ -1,5 +1,5 @@
 //! What a run of bytes is.
-ghost use Rattle.std.specs.Prelude.{◌≡◌, ◌<◌, ◌≤◌, ◌+◌, ◌^◌, List, ℕ, length, Ok, Err, ◌==◌, IfOk, IfSome, IsTrue, position, Some, None, true, pos, neg_ℤ};
+ghost use Rattle.std.specs.Prelude.{◌≡◌, ◌<◌, ◌≤◌, ◌+◌, ◌^◌, length, Ok, Err, ◌==◌, IfOk, IfSome, IsTrue, position, Some, None, pos, neg_ℤ};
 ghost use Rattle.std.specs.List.{list_all};
 ghost use Rattle.std.specs.Option.{SomeIff};
 ghost use Rattle.hex.specs.Hex.{decode_of};

@@ -1,5 +1,5 @@
 -- The code's equality of places is that of their keys.
-use Rattle.std.proofs.Common.{◌≡◌, ℕ, Bool, ◌&&◌, rules, List, sym, ap, ◌∙◌}
+use Rattle.std.proofs.Common.{◌≡◌, Bool, ◌&&◌, rules, sym, ap, ◌∙◌}
 use Rattle.std.specs.Prelude.{true, nat_eq}
 use Rattle.std.specs.Cmp.{both_ways}
 use Rattle.std.specs.Cmp.Lexicographic.{pointwise, nat_list_eq_equiv}

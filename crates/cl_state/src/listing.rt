@@ -5,7 +5,7 @@ ghost use Rattle.cl_values.specs.Tree.{UintV};
 ghost use Rattle.cl_state.specs.Variables.{IsPlaceKey};
 ghost use Rattle.cl_state.specs.Spelled.{IsHolder, IsSpot, IsAsset, Each, AreHeld, AreOwned};
 ghost use Rattle.cl_state.specs.Numbered.{by_place, ledgers_of, owners_of, ArePlaced};
-ghost use Rattle.cl_state.specs.StateRows.{placed_row, supply_row};
+ghost use Rattle.cl_state.specs.StateRows.{placed_row};
 ghost use Rattle.cl_state.specs.RowParts.{holding_row, IsVariableRow, IsEntryRow, IsHolding, IsOwnerRow, Lists, Adds, OfVariables, OfEntries, OfHoldings, OfFungible, OfNonFungible, OfPlaced};
 
 use crate::held::HeldValue;

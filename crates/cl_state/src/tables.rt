@@ -1,19 +1,18 @@
 //! What contracts keep, in one table for each kind of thing. A change gives the note by which it is undone.
-ghost use Rattle.std.specs.Prelude.{◌≡◌, ℕ, List, None, Ok, true, false, not, IfOk, OnOk, OnErr, OnSome, IfSome, IsSome, is_some, option_copied};
+ghost use Rattle.std.specs.Prelude.{◌≡◌, ℕ, List, None, Ok, false, not, IfOk, OnOk, OnErr, OnSome, IfSome, IsSome, is_some, option_copied};
 ghost use Rattle.std.specs.Option.{option_map};
 ghost use Rattle.cl_values.specs.Tree.{PrincipalV};
 ghost use Rattle.cl_values.specs.Reading.{decoded};
 ghost use Rattle.cl_state.specs.StateRows.{IsRow, AreRows};
 ghost use Rattle.cl_state.specs.RowParts.{Adds};
 ghost use Rattle.cl_maps.specs.Maps.{get, put, without};
-ghost use Rattle.cl_events.specs.State.{genesis, holder, holdings, or_as_before, place, spot, with_variables, with_entries, with_fungibles, with_nonfungibles, empty_state, with_stx};
+ghost use Rattle.cl_events.specs.State.{genesis, holder, holdings, or_as_before, place, spot, with_variables, with_entries, with_fungibles, with_nonfungibles};
 ghost use Rattle.cl_tokens.specs.Ledger.{minted, no_tokens};
 ghost use Rattle.cl_maps.specs.Maps.{empty};
 ghost use Rattle.cl_tokens.specs.Table.{HasRoom};
 ghost use Rattle.cl_state.specs.Variables.{key_of};
 ghost use Rattle.cl_values.specs.Valid.{IsPrincipal};
-ghost use Rattle.cl_state.specs.Spelled.{IsHolder, IsAsset, AreHeld};
-ghost use Rattle.cl_state.specs.Numbered.{ArePlaced};
+ghost use Rattle.cl_state.specs.Spelled.{IsAsset, AreHeld};
 ghost use Rattle.cl_state.specs.declared.deed.Deed.TheVariants.{OnStx, OnFungible, OnAsset};
 ghost use Rattle.cl_state.specs.Deeds.{deed_done, AreHolders, GivesToHolder, IsSoundDeed};
 ghost use Rattle.cl_state.specs.Amounts.{balance_in, owner_in, one_if, key_amount};

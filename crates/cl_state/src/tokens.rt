@@ -1,5 +1,5 @@
 //! Tokens by place, in the order in which they were defined.
-ghost use Rattle.std.specs.Prelude.{◌≡◌, ◌<◌, ◌++◌, ◌∷◌, [], ℕ, List, Ok, OnOk, OnErr, IfOk, IfErr, IfSome, OnSome, None, length, option_copied, option_to_list};
+ghost use Rattle.std.specs.Prelude.{◌≡◌, ◌<◌, ◌++◌, ◌∷◌, [], Ok, OnOk, OnErr, IfOk, length, option_copied};
 ghost use Rattle.cl_tokens.specs.Table.{HasRoom};
 ghost use Rattle.cl_tokens.specs.Deeds.{done, undone, HasGiver};
 ghost use Rattle.cl_tokens.specs.AssetDeeds.{done as asset_done};

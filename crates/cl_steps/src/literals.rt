@@ -1,17 +1,16 @@
 //! Literals, keywords, bound names and constants.
-ghost use Rattle.std.specs.Prelude.{◌≡◌, ◌<◌, ◌^◌, false, IfOk, option_copied};
+ghost use Rattle.std.specs.Prelude.{◌≡◌, ◌<◌, false, IfOk, option_copied};
 ghost use Rattle.cl_c32.specs.declared.principal.Principal.{Principal};
 ghost use Rattle.cl_events.specs.State.{State};
 ghost use Rattle.cl_forms.specs.Names.{is_one_of};
 ghost use Rattle.cl_forms.specs.Keywords.{keyword_name, keywords};
 ghost use Rattle.cl_forms.specs.Shapes.{beside};
 ghost use Rattle.cl_shapes.specs.declared.name.CostName.TheVariants.{Literal};
-ghost use Rattle.cl_values.specs.Tree.{IntV, UintV, BoolV, BuffV, AsciiV, Utf8V, PrincipalV, depth_of};
+ghost use Rattle.cl_values.specs.Tree.{BuffV, AsciiV, Utf8V, PrincipalV, depth_of};
 ghost use Rattle.cl_values.specs.View.{tree_of};
 ghost use Rattle.cl_values.specs.Valid.{made};
 ghost use Rattle.cl_meaning.specs.Deployed.{value_of};
 ghost use Rattle.cl_meaning.specs.Names.{name_form, standing, literal};
-ghost use Rattle.cl_frames.specs.Named.{Named};
 ghost use Rattle.cl_frames.specs.Runs.{Runs};
 ghost use Rattle.cl_frames.specs.Seen.{scope, Fits};
 

@@ -1,28 +1,24 @@
 -- What is printed is read as an item that stands for the value again.
-use Rattle.std.proofs.Common.{◌≡◌, ℕ, ◌+◌, ◌<◌, ◌≤◌, ◌==◌, ◌&&◌, ◌||◌, max, Bool, true, false, cond, refl, List, [], ◌∷◌, ◌++◌, length, drop, arith, ap, sym, ◌∙◌, subst, append_assoc, append-nil, inl}
-use Rattle.std.specs.Prelude.{Option, Some, None, Result, Ok, Err, codes, nat_lt, decimal}
+use Rattle.std.proofs.Common.{◌≡◌, ℕ, ◌+◌, ◌<◌, ◌≤◌, ◌||◌, Bool, true, false, refl, List, [], ◌∷◌, ◌++◌, length, drop, arith, ap, sym, ◌∙◌, subst, append_assoc, append-nil, inl}
+use Rattle.std.specs.Prelude.{Option, Some, Result, Ok, codes, nat_lt}
 use Rattle.std.specs.Option.{ok_or}
-use Rattle.std.specs.Fmt.{signed_decimal}
 use Rattle.std.specs.List.{flat_map}
 use Rattle.std.proofs.Math.Seq.{drop-append_seam}
 use Rattle.std.proofs.lemmas.Bool.{and_parts}
 use Rattle.std.proofs.lemmas.Bool.Decides.{nat_tests}
 use Rattle.std.proofs.lemmas.List.{length-append, length-drop}
-use Rattle.hex.specs.Hex.{encode_lower}
-use Rattle.cl_types.specs.Name.{IsName}
 use Rattle.cl_sexpr.specs.declared.sexpr.Span.{Span}
-use Rattle.cl_sexpr.specs.declared.rule.Break.{Break}
 use Rattle.cl_sexpr.specs.Tree.{Leaf, Named, Signed, Unsigned, Bytes, Ascii, Unicode, Standing, Tree as Item, LeafAt, ListAt, TupleAt, Forest, Empty, Then, Pairs, NoPair, Pair, tree_depth, forest_depth, pairs_depth, span_of}
 use Rattle.cl_sexpr.specs.Token.{Token, Separator, Comment, Colon, Comma, Opens, Closes, OpensTuple, ClosesTuple, Key, Is, Faulty}
-use Rattle.cl_sexpr.specs.Grammar.{unspaced, IsItem, IsRow, ArePairs, AreMore}
+use Rattle.cl_sexpr.specs.Grammar.{unspaced, IsItem, IsRow, AreMore}
 use Rattle.cl_sexpr.specs.Text.{token_at, Spells, Cuts, Reads}
 use Rattle.cl_values.specs.Tree.{Tree, IntV, UintV, BoolV, BuffV, AsciiV, Utf8V, PrincipalV, ListV, TupleV, NoneV, SomeV, ResponseV, Items, NoItem, Item as Value, Entries, NoEntry, Entry, entries_of, items_of, depth_of, items_depth, entries_depth}
 use Rattle.cl_values.specs.Valid.{keys_in, rises, has_rising_keys, items_have_rising_keys, entries_have_rising_keys, has_good_texts, items_have_good_texts, entries_have_good_texts, InRange, ItemsInRange, EntriesInRange, IsVal}
 use Rattle.cl_values.specs.Wire.{size_of}
-use Rattle.cl_text.specs.Printed.{printed, items_text, entries_text, more_text, entry_text, quoted, ascii_text, unicode_text, principal_text}
+use Rattle.cl_text.specs.Printed.{printed, items_text, more_text, entry_text, ascii_text, unicode_text}
 use Rattle.cl_text.specs.Literal.{leaf_value, are_tuple_keys, keys_of, by_key, made_of, in_front, tuple_of, literal, literals, entries}
 use Rattle.cl_text.specs.Named.{is_number_name, has_number_key, items_have_number_key, entries_have_number_key}
-use Rattle.cl_text.specs.Parsed.{Reading, Stands, TooDeep, TooLarge, within_limits, value_outcome, Parses, reads}
+use Rattle.cl_text.specs.Parsed.{Stands, TooDeep, TooLarge, within_limits, value_outcome, Parses, reads}
 use Rattle.cl_text.proofs.Runs.{no, neither, stops, IsRunOf, run_spells}
 use Rattle.cl_text.proofs.Leaves.{AddressLaws, int_run, uint_run, buffer_run, principal_run, name_run}
 use Rattle.cl_text.proofs.Strings.{ascii_spells, unicode_spells}

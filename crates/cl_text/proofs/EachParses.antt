@@ -1,5 +1,5 @@
 -- Each text of a literal has an outcome: a value, or why it has none.
-use Rattle.std.proofs.Common.{◌≡◌, ◌⊎◌, inl, inr, ℕ, List, length, refl}
+use Rattle.std.proofs.Common.{inl, inr, ℕ, List, length, refl}
 use Rattle.cl_sexpr.specs.Text.{ReadsOrBreaks}
 use Rattle.cl_text.specs.Parsed.{Reading, Broken, items_outcome, Parses, breaks, reads}
 use Rattle.cl_sexpr.proofs.TextsRead.{each_text}

@@ -1,10 +1,10 @@
 -- What the runs in printed values are: numbers, buffers, principals and names.
-use Rattle.std.proofs.Common.{◌≡◌, ℕ, zero, suc, ◌+◌, ◌-◌, ◌*◌, ◌/◌, ◌%◌, ◌^◌, ◌<◌, ◌≤◌, ◌==◌, ◌&&◌, ◌||◌, Bool, true, false, cond, not, refl, List, [], ◌∷◌, ◌++◌, length, take, drop, map, fold, get_or, arith, ap, sym, ◌∙◌, subst, append-nil, FitsSigned, ◌⊎◌, inl, inr}
-use Rattle.std.specs.Prelude.{ℤ, pos, negsuc, Option, Some, None, Result, Ok, Err, position, nat_le, nat_lt, decimal, slice_index, codes}
+use Rattle.std.proofs.Common.{◌≡◌, ℕ, zero, suc, ◌+◌, ◌-◌, ◌*◌, ◌/◌, ◌%◌, ◌^◌, ◌<◌, ◌≤◌, ◌==◌, ◌&&◌, ◌||◌, Bool, true, false, cond, not, refl, List, [], ◌∷◌, ◌++◌, length, drop, map, arith, ap, ◌∙◌, append-nil, FitsSigned, ◌⊎◌, inl, inr}
+use Rattle.std.specs.Prelude.{ℤ, pos, negsuc, Option, Some, None, Ok, nat_le, nat_lt, decimal, slice_index}
 use Rattle.std.specs.Int.{w128}
 use Rattle.std.specs.Fmt.{signed_decimal}
 use Rattle.std.specs.List.{list_all, All}
-use Rattle.std.proofs.Math.Seq.{take-append_seam, drop-append_seam}
+use Rattle.std.proofs.Math.Seq.{take-append_seam}
 use Rattle.std.proofs.lemmas.Bool.{and_parts, cases_lt}
 use Rattle.std.proofs.lemmas.Bool.Decides.{nat_tests}
 use Rattle.std.proofs.lemmas.List.{length-append}
@@ -12,7 +12,7 @@ use Rattle.std.proofs.lemmas.Fmt.{decimal_by_steps_wide}
 use Rattle.std.proofs.lemmas.List.Elements.{All-head, All-tail}
 use Rattle.std.proofs.lemmas.List.Folds.{list_all-append}
 use Rattle.std.proofs.lemmas.List.Sums.{fold-append}
-use Rattle.hex.specs.Hex.{encode_lower, encode_with, lower_digits, decode_of, IsBytes}
+use Rattle.hex.specs.Hex.{encode_lower, encode_with, lower_digits, IsBytes}
 use Rattle.hex.proofs.HexLemmas.{decode_of-encode_lower}
 use Rattle.cl_types.specs.Name.{is_digit, is_letter, is_name_byte, is_operator, is_operator_byte, fits_pattern, IsName}
 use Rattle.cl_c32.specs.Address.{AddressParts, IsAddress}
@@ -21,10 +21,8 @@ use Rattle.cl_c32.specs.Codec.{address_text, body_of, decoded}
 use Rattle.cl_c32.specs.Digits.{regrouped_digits}
 use Rattle.cl_c32.specs.ContractName.{IsContractName, is_name_byte as is_contract_byte, is_letter as is_contract_letter, fits_pattern as fits_contract_pattern}
 use Rattle.cl_c32.specs.declared.principal.Principal.{Principal}
-use Rattle.cl_sexpr.specs.declared.sexpr.Span.{Span}
-use Rattle.cl_sexpr.specs.Tree.{Leaf, Named, Signed, Unsigned, Bytes, Standing}
-use Rattle.cl_sexpr.specs.Token.{Token, Is}
-use Rattle.cl_sexpr.specs.Leaf.{is_run_byte, is_allowed, are_digits, value_of, positive, negative, unsigned, named, begins, contract_name, leaf_of, buffer, contract_principal, standard_principal, principal_by, principal_of, principal_token, in_span, allowed_run}
+use Rattle.cl_sexpr.specs.Tree.{Named, Signed, Unsigned, Bytes, Standing}
+use Rattle.cl_sexpr.specs.Leaf.{are_digits, value_of, positive, negative, unsigned, begins, contract_name, buffer, contract_principal, standard_principal, principal_by, principal_of, principal_token, in_span}
 use Rattle.cl_values.specs.Valid.{IsPrincipal, IsContractPart}
 use Rattle.cl_text.specs.Printed.{contract_text, principal_text}
 use Rattle.cl_text.specs.Named.{is_number_name}

@@ -1,15 +1,14 @@
 -- Parts of a literal, along the loops that read them.
-use Rattle.std.proofs.Common.{◌≡◌, ◌==◌, ◌≤◌, ℕ, ◌+◌, ◌<◌, refl, List, [], ◌∷◌, ◌++◌, length, drop, get_or, true, false, fold, arith, ap, sym, ◌∙◌, append_assoc}
+use Rattle.std.proofs.Common.{◌≡◌, ◌==◌, ◌≤◌, ℕ, ◌+◌, refl, List, [], ◌∷◌, ◌++◌, length, true, false, fold, arith}
 use Rattle.std.specs.Prelude.{Result, Ok, Err}
 use Rattle.std.specs.Ordering.{nat_cmp}
 use Rattle.std.proofs.lemmas.Bool.Decides.{nat_tests}
 use Rattle.std.specs.Cmp.Lexicographic.{slice_cmp}
 use Rattle.std.specs.BTreeMap.{insert_entry}
 use Rattle.cl_sexpr.specs.declared.sexpr.Span.{Span}
-use Rattle.cl_sexpr.specs.Tree.{Tree as Item, Forest, Pairs, forest, pairs}
+use Rattle.cl_sexpr.specs.Tree.{Tree as Item, forest}
 use Rattle.cl_values.specs.Tree.{Tree}
-use Rattle.cl_text.specs.Literal.{made_of, in_front, only, literal, literals, pair_entry, pair_entries, entries}
-use Rattle.cl_text.proofs.Rows.{forest_at, pairs_at}
+use Rattle.cl_text.specs.Literal.{only, literal, entries}
 
 -- values behind others
 abbrev pub behind : List Tree → Result (List Tree) Span → Result (List Tree) Span

@@ -2,8 +2,8 @@
 use Rattle.std.proofs.Common.{◌≡◌, ◌==◌, false, ℕ, ◌+◌, ◌<◌, ◌≤◌, refl, zero, suc, List, [], ◌∷◌, ◌++◌, length, drop, get_or, arith, ap, sym, ◌∙◌, append_assoc}
 use Rattle.std.specs.Prelude.{Option, Some, None}
 use Rattle.std.proofs.lemmas.Bool.Decides.{nat_tests}
-use Rattle.cl_sexpr.specs.Tree.{Tree as Item, Forest, Then, Pairs, Pair, forest, pairs, tree_size, forest_size, pairs_size}
-use Rattle.cl_text.specs.Literal.{is_one, keys_of, pair_key, pair_keys, with_key}
+use Rattle.cl_sexpr.specs.Tree.{Tree as Item, Forest, Then, Pair, forest, pairs, tree_size, forest_size, pairs_size}
+use Rattle.cl_text.specs.Literal.{is_one, pair_key, pair_keys, with_key}
 
 pub forest_at : (ts : List Item) (i : ℕ) (t : Item) → i < length ts → t ≡ get_or ts i t → forest (drop i ts) ≡ Then t (forest (drop (i + 1) ts))
 forest_at [] i t h is = absurd (omega (arith, h))

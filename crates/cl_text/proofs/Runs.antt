@@ -1,18 +1,16 @@
 -- Runs of bytes and what they are as tokens, wherever they stand.
-use Rattle.std.proofs.Common.{◌≡◌, ℕ, zero, suc, ◌+◌, ◌<◌, ◌≤◌, ◌==◌, ◌&&◌, ◌||◌, Bool, true, false, cond, not, refl, List, [], ◌∷◌, ◌++◌, length, take, drop, arith, ap, sym, ◌∙◌, append-nil}
-use Rattle.std.specs.Prelude.{Option, Some, None, Result, Ok, Err, position, unwrap_or, nat_le}
+use Rattle.std.proofs.Common.{◌≡◌, ℕ, ◌+◌, ◌<◌, ◌==◌, ◌&&◌, ◌||◌, Bool, true, false, cond, not, refl, List, [], ◌∷◌, ◌++◌, length, take, arith, ap, sym, ◌∙◌, append-nil}
+use Rattle.std.specs.Prelude.{Option, Some, None, Ok, position, unwrap_or}
 use Rattle.std.specs.List.{list_all, position_from}
-use Rattle.std.proofs.Math.Seq.{take-append_seam, drop-append_seam}
+use Rattle.std.proofs.Math.Seq.{take-append_seam}
 use Rattle.std.proofs.lemmas.Bool.{and_parts}
 use Rattle.std.proofs.lemmas.Bool.Decides.{nat_tests}
 use Rattle.std.proofs.lemmas.Iterator.Adapters.{position_from-zero}
-use Rattle.std.proofs.lemmas.List.{length-append}
 use Rattle.cl_sexpr.specs.declared.sexpr.Span.{Span}
-use Rattle.cl_sexpr.specs.declared.rule.Break.{Break}
 use Rattle.cl_sexpr.specs.Tree.{Leaf}
 use Rattle.cl_sexpr.specs.Token.{Token, Is}
 use Rattle.cl_sexpr.specs.Leaf.{is_separator, is_allowed, is_other_mark, is_run_byte, begins, leaf_of, in_span, allowed_run, unless_bad, run_token}
-use Rattle.cl_sexpr.specs.Text.{run_length, with_length, run_at, mark_at, token_by, longer_at, token_at}
+use Rattle.cl_sexpr.specs.Text.{run_length, with_length, run_at, mark_at, token_by, token_at}
 
 pub yes : {A : Type 0} (b : Bool) (x y : A) → b ≡ true → cond b x y ≡ x
 yes b x y e = ap (λ (c : Bool). cond c x y) e

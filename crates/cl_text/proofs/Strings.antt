@@ -1,11 +1,11 @@
 -- Strings in printed values, read again.
-use Rattle.std.proofs.Common.{◌≡◌, ℕ, zero, suc, ◌+◌, ◌-◌, ◌*◌, ◌/◌, ◌%◌, ◌^◌, ◌<◌, ◌≤◌, ◌==◌, ◌&&◌, ◌||◌, Bool, true, false, cond, not, refl, List, [], ◌∷◌, ◌++◌, length, take, drop, arith, ap, sym, ◌∙◌, append_assoc, append-nil, subst, ◌⊎◌, inl, inr, ◌≢◌}
-use Rattle.std.specs.Prelude.{Option, Some, None, Result, Ok, Err, position, unwrap_or, nat_le, nat_lt, codes}
+use Rattle.std.proofs.Common.{◌≡◌, ℕ, zero, suc, ◌+◌, ◌-◌, ◌*◌, ◌/◌, ◌%◌, ◌^◌, ◌<◌, ◌≤◌, ◌==◌, ◌&&◌, Bool, true, false, cond, not, refl, List, [], ◌∷◌, ◌++◌, length, take, drop, arith, ap, sym, ◌∙◌, append_assoc, append-nil, subst, ◌⊎◌, inl, inr, ◌≢◌}
+use Rattle.std.specs.Prelude.{Option, Some, None, Result, Ok, nat_le}
 use Rattle.std.specs.Option.{option_map}
 use Rattle.std.specs.Fmt.{digits, digits_onto, digit_glyph}
 use Rattle.std.specs.List.{list_all, flat_map}
 use Rattle.std.specs.Str.{all_scalars}
-use Rattle.std.specs.Char.{is_digit, digit_value}
+use Rattle.std.specs.Char.{is_digit}
 use Rattle.std.proofs.Math.Seq.{take-append_seam, drop-append_seam}
 use Rattle.std.proofs.lemmas.Bool.{and_parts, eqb-true, cases_eq}
 use Rattle.std.proofs.Math.Nat.{pow-suc}
@@ -15,16 +15,16 @@ use Rattle.std.proofs.lemmas.List.Folds.{list_all-append}
 use Rattle.std.proofs.lemmas.List.Sums.{fold-append}
 use lib.Utf8.{scalar}
 use Rattle.cl_sexpr.specs.declared.rule.Break.{Break}
-use Rattle.cl_sexpr.specs.Tree.{Leaf, Ascii, Unicode}
-use Rattle.cl_sexpr.specs.Token.{Token, Is}
+use Rattle.cl_sexpr.specs.Tree.{Ascii, Unicode}
+use Rattle.cl_sexpr.specs.Token.{Is}
 use Rattle.cl_sexpr.specs.Leaf.{begins, unless_bad}
-use Rattle.cl_sexpr.specs.Quote.{closing, escape, escape_of, code_of, in_braces, digits_in_front, hex_value, hex_number, escaped, character_at, with_character, and_then, characters, is_string_byte, string_result, text_in, mark, closed, string_by, string_at}
+use Rattle.cl_sexpr.specs.Quote.{closing, escape, escape_of, in_braces, digits_in_front, hex_value, hex_number, escaped, with_character, and_then, characters, is_string_byte, string_result, text_in, mark, closed, string_by, string_at}
 use Rattle.cl_sexpr.specs.Text.{token_at}
 use Rattle.cl_values.specs.Valid.{is_text_byte}
 use Rattle.cl_text.specs.Printed.{escape_letter, escaped_or, ascii_text, code_text, unicode_text, quoted}
 use Rattle.cl_text.proofs.Sorted.{both_true}
 use Rattle.cl_text.proofs.Leaves.{below, and_no, within_test}
-use Rattle.cl_text.proofs.Runs.{yes, no, all_so, not_false, position_none, passes_first, length_so_far}
+use Rattle.cl_text.proofs.Runs.{yes, no, all_so, position_none, length_so_far}
 
 -- ---- hexadecimal digits
 

@@ -1,7 +1,7 @@
 -- Names that can't be read as keys.
 use Rattle.std.specs.Prelude.{ℕ, ◌==◌, ◌&&◌, ◌||◌, Bool, false, List, [], ◌∷◌}
 use Rattle.cl_sexpr.specs.Leaf.{are_digits}
-use Rattle.cl_values.specs.Tree.{Tree, IntV, UintV, BoolV, BuffV, AsciiV, Utf8V, PrincipalV, ListV, TupleV, NoneV, SomeV, ResponseV, Items, NoItem, Item, Entries, NoEntry, Entry}
+use Rattle.cl_values.specs.Tree.{Tree, ListV, TupleV, SomeV, ResponseV, Items, NoItem, Item, Entries, NoEntry, Entry}
 
 -- `u` followed by digits alone, which a text spells as a uint
 abbrev pub is_number_name : List ℕ → Bool

@@ -2,7 +2,7 @@
 use Rattle.std.specs.Prelude.{◌≡◌, ℕ, nat_lt, if◌then◌else◌, List, [], length, Result, Ok, Err}
 use Rattle.cl_sexpr.specs.declared.sexpr.Span.{Span}
 use Rattle.cl_sexpr.specs.declared.rule.Break.{Break}
-use Rattle.cl_sexpr.specs.Tree.{Tree as Item, LeafAt, ListAt, TupleAt, Forest, Empty, Then, span_of}
+use Rattle.cl_sexpr.specs.Tree.{Forest, Empty, Then, span_of}
 use Rattle.cl_sexpr.specs.Text.{Reads, Breaks}
 use Rattle.cl_values.specs.Tree.{Tree, depth_of}
 use Rattle.cl_values.specs.Wire.{size_of}

@@ -1,5 +1,5 @@
 //! What value an item stands for.
-ghost use Rattle.std.specs.Prelude.{◌≡◌, true, List, ℕ, IfOk, Ok, Err};
+ghost use Rattle.std.specs.Prelude.{◌≡◌, true, List, IfOk, Ok, Err};
 ghost use Rattle.std.specs.Option.{ok_or};
 ghost use Rattle.cl_types.specs.Fault.{IfRefused};
 ghost use Rattle.cl_sexpr.specs.Tree.{Named, forest, pairs};

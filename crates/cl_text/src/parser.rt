@@ -1,5 +1,5 @@
 //! Reading one literal.
-ghost use Rattle.std.specs.Prelude.{◌≡◌, ◌≤◌, true, List, ℕ, IfOk, IfErr};
+ghost use Rattle.std.specs.Prelude.{◌≡◌, ◌≤◌, true, IfOk, IfErr};
 ghost use Rattle.cl_types.specs.Fault.{IfRefused};
 ghost use Rattle.cl_sexpr.specs.Tree.{forest, tree_depth, forest_depth, span_of};
 ghost use Rattle.cl_values.specs.Tree.{depth_of};

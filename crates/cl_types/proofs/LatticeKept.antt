@@ -1,5 +1,5 @@
 -- What the least supertype keeps of the two types: the depth, names, the order of keys, lengths within the limit.
-use Rattle.std.proofs.Common.{◌≡◌, ℕ, ◌≤◌, Bool, true, false, ◌&&◌, max, nat_eq, nat_le, List, [], ◌∷◌, Option, Some, None, option_map, if◌then◌else◌, refl, sym, ap, ◌∙◌, subst, arith}
+use Rattle.std.proofs.Common.{◌≡◌, ℕ, ◌≤◌, Bool, true, false, ◌&&◌, max, nat_eq, nat_le, List, ◌∷◌, Option, Some, None, option_map, if◌then◌else◌, refl, sym, ap, ◌∙◌, subst, arith}
 use Rattle.std.specs.Cmp.Lexicographic.{pointwise}
 use Rattle.cl_types.specs.Types.{PlainType, NoType, IntType, UintType, BoolType, PrincipalType, BuffType, AsciiType, Utf8Type, ListType, TupleType, OptionalType, ResponseType, Fields, NoField, Field, IsLeastSupertype, depth_of, depths_of}
 use Rattle.cl_types.specs.Sized.{most_size, everywhere, everywhere_in, keys_in, some_rise, rises, keys_rise, are_named, keys_are_names, length_of, is_within, IsSized}

@@ -1,6 +1,5 @@
 //! The least type that admits two.
-ghost use Rattle.std.specs.Prelude.{◌≡◌, ◌↔◌, ◌⊎◌, IfOk, Ok, Err, Some, None, Option, option_map, if◌then◌else◌, nat_eq};
-ghost use Rattle.std.specs.Cmp.Lexicographic.{pointwise};
+ghost use Rattle.std.specs.Prelude.{◌≡◌, ◌↔◌, ◌⊎◌, IfOk, Ok, Err, Some, None, Option, option_map};
 ghost use Rattle.cl_types.specs.Fault.{IfRefused};
 ghost use Rattle.cl_types.specs.declared.sized.TyRefusal.TheVariants.{Differ, TooLarge};
 ghost use Rattle.cl_types.specs.Types.{ListType, TupleType, OptionalType, ResponseType, fields, IsLeastSupertype, HaveNoSupertype};

@@ -1,10 +1,7 @@
 //! What is found of an expression from what is found of its parts.
-ghost use Rattle.std.specs.Prelude.{◌≡◌, suc, max, List, map, Option, Some};
-ghost use Rattle.cl_types.specs.Types.{PlainType};
-ghost use Rattle.cl_rules.specs.Faults.{TypeFaults, type_rules};
-ghost use Rattle.cl_rules.specs.NativeTypes.{Ruled};
-ghost use Rattle.cl_rules.specs.Verdicts.{Found, thrown_after, concluded, faults_with};
-ghost use Rattle.cl_typing.specs.Verdicts.{counted, heights, throws_of, facts, facts_of, first_with, fault_with, Rules, ConcludesAs, ThrowsOn, Throws};
+ghost use Rattle.std.specs.Prelude.{◌≡◌, suc, max, Option, Some};
+ghost use Rattle.cl_rules.specs.Verdicts.{thrown_after};
+ghost use Rattle.cl_typing.specs.Verdicts.{counted, heights, throws_of, first_with, fault_with, ConcludesAs, ThrowsOn, Throws};
 
 use cl_code::Code;
 use cl_sexpr::Rule;

@@ -1,5 +1,5 @@
 //! Least supertypes of several types.
-ghost use Rattle.std.specs.Prelude.{◌≡◌, map};
+ghost use Rattle.std.specs.Prelude.{map};
 ghost use Rattle.cl_types.specs.Types.{ListType};
 ghost use Rattle.cl_types.specs.Lattice.{least_supertype};
 ghost use Rattle.cl_rules.specs.NativeTypes.{made, and_lub, equal_row, list_row};

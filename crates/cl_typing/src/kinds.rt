@@ -1,7 +1,6 @@
 //! Kinds of types.
 ghost use Rattle.std.specs.Prelude.{◌≡◌, map, ◌||◌};
-ghost use Rattle.std.specs.List.{list_all, list_any};
-ghost use Rattle.cl_types.specs.Types.{PlainType};
+ghost use Rattle.std.specs.List.{list_all};
 ghost use Rattle.cl_types.specs.TypeKinds.{is_int, is_uint, is_bool, is_principal, is_optional, is_response, is_undetermined, is_sequence, is_hashed, are_numbers};
 
 use cl_types::{SizedTy, TyKind};

@@ -4,7 +4,7 @@ ghost use Rattle.cl_types.specs.Types.{depth_of, NoType, UintType, OptionalType,
 ghost use Rattle.cl_types.specs.Lattice.{least_supertype};
 ghost use Rattle.cl_types.specs.Sized.{IsSized, everywhere, keys_rise};
 ghost use Rattle.cl_types.specs.TypeView.{plain_of};
-ghost use Rattle.cl_rules.specs.NativeTypes.{made, fine, lubbed, of_kind};
+ghost use Rattle.cl_rules.specs.NativeTypes.{made, lubbed, of_kind};
 ghost use Rattle.cl_typing.specs.Verdicts.{Rules, Lubs, is_fit};
 
 use cl_sexpr::Rule;

@@ -1,7 +1,6 @@
 //! The type half of the table of natives.
 ghost use Rattle.std.specs.Prelude.{◌≡◌, map, [], ◌∷◌, false, IfSome, IfNone, None};
-ghost use Rattle.cl_types.specs.Types.{NoType};
-ghost use Rattle.cl_rules.specs.NativeTypes.{fine, native_type};
+ghost use Rattle.cl_rules.specs.NativeTypes.{native_type};
 ghost use Rattle.cl_typing.specs.Verdicts.{Rules, one_of, two_of, is_list_row};
 
 use crate::joining::{equal, list};

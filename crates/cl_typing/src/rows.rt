@@ -1,9 +1,8 @@
 //! Rows of the table of natives.
-ghost use Rattle.std.specs.Prelude.{◌≡◌, map, length, [], ◌∷◌, IfOk};
-ghost use Rattle.std.specs.List.{list_all};
+ghost use Rattle.std.specs.Prelude.{◌≡◌, map, IfOk};
 ghost use Rattle.cl_types.specs.Types.{NoType, OptionalType};
 ghost use Rattle.cl_types.specs.Sized.{IsSized};
-ghost use Rattle.cl_rules.specs.NativeTypes.{fine, made, of_kind, number_row, compare_row, hash_row, default_row, part_taken, part_row, err_row, index_row};
+ghost use Rattle.cl_rules.specs.NativeTypes.{fine, made, of_kind, number_row, compare_row, hash_row, default_row, part_taken, part_row, err_row};
 ghost use Rattle.cl_rules.specs.ControlShapes.{truth_row, last_row};
 ghost use Rattle.cl_typing.specs.Verdicts.{Rules};
 

@@ -1,6 +1,6 @@
 //! Arguments of stated kinds.
 ghost use Rattle.std.specs.Prelude.{◌≡◌, map, IfOk};
-ghost use Rattle.cl_types.specs.Types.{BoolType, UintType, OptionalType, ResponseType, PrincipalType};
+ghost use Rattle.cl_types.specs.Types.{OptionalType, PrincipalType};
 ghost use Rattle.cl_rules.specs.NativeTypes.{fine, made};
 ghost use Rattle.cl_rules.specs.Shapes.{Admitted, is_wanted, are_wanted, stated};
 ghost use Rattle.cl_rules.specs.CallShapes.{all_admit};

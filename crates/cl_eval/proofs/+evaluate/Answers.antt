@@ -1,29 +1,21 @@
 -- The cycle of evaluation: each step is one law of the limit.
-use Rattle.std.proofs.Common.{◌≡◌, ◌≢◌, ◌<◌, ◌≤◌, ◌-◌, ◌+◌, ◌∷◌, ◌++◌, [], ℕ, List, suc, Some, None, true, false, length, map, drop, refl, sym, ap, ◌∙◌, subst, arith}
-use Rattle.std.proofs.lemmas.List.{append-nil}
+use Rattle.std.proofs.Common.{◌≡◌, ◌≢◌, ◌<◌, ◌≤◌, ◌-◌, ◌+◌, ◌∷◌, ◌++◌, [], List, true, false, length, refl, sym, ap, ◌∙◌, arith}
 use Rattle.std.proofs.lemmas.Int.{ints, to_z-of_z}
 use Rattle.std.proofs.lemmas.Result.{err_from_is_err_and}
 use mir.Syntax.{w128}
 use mir.Val.{to_z, of_z}
-use Rattle.cl_forms.specs.declared.head.Head.TheVariants.{OnValues}
-use Rattle.cl_forms.specs.Heads.{row_of}
-use Rattle.cl_values.specs.Tree.{IntV, BoolV}
-use Rattle.cl_values.specs.Wire.{size_of}
+use Rattle.cl_values.specs.Tree.{IntV}
 use Rattle.cl_state.specs.Stack.{Stack}
-use Rattle.cl_code.specs.OpNames.{parts_head, name_head, iteration_head}
 use Rattle.cl_code.specs.Typed.{Typed, expression_of}
-use Rattle.cl_code.specs.Expression.{word, bound_items}
 use Rattle.cl_contracts.specs.Seen.{function_seen}
-use Rattle.cl_meaning.specs.Answers.{Wrong, Given, Thrown, and_then, returning, give, charged, with_known}
-use Rattle.cl_shapes.specs.declared.name.CostName.TheVariants.{Literal, Control, Bind}
+use Rattle.cl_meaning.specs.Answers.{and_then, returning}
+use Rattle.cl_shapes.specs.declared.name.CostName.TheVariants.{Literal}
 use Rattle.cl_meaning.specs.Names.{standing, literal}
 use Rattle.cl_values.specs.Valid.{made}
 use Rattle.cl_meaning.specs.Scope.{Frame, OwnFunction, parts, in_frame, as_contract}
-use Rattle.cl_meaning.specs.Control.{last_of, and_on, or_on, let_in, match_optional, match_response}
-use Rattle.cl_meaning.specs.Values.{on_values}
-use Rattle.cl_meaning.specs.Calls.{closing, body_in}
-use Rattle.cl_frames.specs.Watching.{watched, Gave, truthful}
-use Rattle.cl_meaning.specs.Meaning.{means, applied, head_form}
+use Rattle.cl_meaning.specs.Calls.{closing}
+use Rattle.cl_frames.specs.Watching.{watched, truthful}
+use Rattle.cl_meaning.specs.Meaning.{means, applied}
 use Rattle.cl_frames.proofs.WatchLaws.{charge_within, watched-stop, watched-ending, then_gave, starts, grew_more}
 use Rattle.std.specs.Prelude.{option_map}
 use Rattle.cl_frames.specs.Homes.{frame_seen, home_seen}

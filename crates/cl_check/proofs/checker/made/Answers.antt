@@ -1,4 +1,4 @@
-use Rattle.std.proofs.Common.{◌≡◌, ℕ, List, map, filter_map, slice_get, sym, subst, ap, ◌∙◌}
+use Rattle.std.proofs.Common.{ℕ, List, map, filter_map, slice_get, sym, subst, ap, ◌∙◌}
 use Rattle.cl_forms.specs.Forms.{Form}
 use Rattle.cl_forms.specs.Order.{IsGoodOrder}
 use Rattle.cl_code.specs.declared.definition.Definition.{Definition}

@@ -1,8 +1,7 @@
-use Rattle.std.proofs.Common.{◌≡◌, ℕ, List, sym, subst, ap, ◌∙◌}
+use Rattle.std.proofs.Common.{List, sym, subst, ◌∙◌}
 use Rattle.cl_forms.specs.Forms.{Form}
 use Rattle.cl_forms.specs.Order.{IsGoodOrder}
 use Rattle.cl_readonly.specs.Functions.{HaveOwnNames}
-use Rattle.cl_check.specs.JudgingForms.{AreKnown}
 use Rattle.cl_check.proofs.CheckedTexts.{text_unordered, text_untyped, text_typed, is_known, is_good, is_defined}
 use Rattle.cl_check.proofs.checker.typed_text.Goals as goal
 

@@ -1,5 +1,5 @@
-use Rattle.std.proofs.Common.{Some, None, refl, ap, sym, subst, ◌∙◌}
-use Rattle.cl_forms.specs.Forms.{ConstantForm, VariableForm, MapForm, FungibleForm, NonFungibleForm, FunctionForm, ExpressionForm}
+use Rattle.std.proofs.Common.{Some, sym, subst}
+use Rattle.cl_forms.specs.Forms.{FunctionForm}
 use Rattle.cl_code.specs.declared.definition.Definition.{Definition}
 use Rattle.cl_check.specs.JudgingForms.{IsDefined}
 use Rattle.cl_check.proofs.JudgedForms.{form_fails, no_memory, body_back, function_holds}

@@ -1,5 +1,5 @@
-use Rattle.std.proofs.Common.{Some, None, refl, ap, sym, subst, ◌∙◌}
-use Rattle.cl_forms.specs.Forms.{ConstantForm, VariableForm, MapForm, FungibleForm, NonFungibleForm, FunctionForm, ExpressionForm}
+use Rattle.std.proofs.Common.{None}
+use Rattle.cl_forms.specs.Forms.{ExpressionForm}
 use Rattle.cl_check.proofs.JudgedForms.{form_fails, top_level_made}
 use Rattle.cl_check.proofs.forms.top_level.Goals as goal
 

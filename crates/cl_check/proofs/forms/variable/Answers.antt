@@ -1,5 +1,5 @@
-use Rattle.std.proofs.Common.{Some, None, refl, ap, sym, subst, ◌∙◌}
-use Rattle.cl_forms.specs.Forms.{ConstantForm, VariableForm, MapForm, FungibleForm, NonFungibleForm, FunctionForm, ExpressionForm}
+use Rattle.std.proofs.Common.{Some}
+use Rattle.cl_forms.specs.Forms.{VariableForm}
 use Rattle.cl_check.proofs.JudgedForms.{form_fails, no_memory, variable_made}
 use Rattle.cl_check.proofs.forms.variable.Goals as goal
 

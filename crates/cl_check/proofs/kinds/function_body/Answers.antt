@@ -1,4 +1,4 @@
-use Rattle.std.proofs.Common.{◌≡◌, ◌<◌, ◌≤◌, suc, Err, true, false, [], refl, sym, ap, subst, ◌∙◌, arith}
+use Rattle.std.proofs.Common.{◌<◌, ◌≤◌, suc, Err, true, false, [], refl, sym, subst, ◌∙◌, arith}
 use Rattle.cl_types.specs.declared.fault.Fault.{Fault}
 use Rattle.cl_forms.specs.Forms.{FunctionForm}
 use Rattle.cl_sexpr.specs.declared.rule.Rule.TheVariants.{NotResponse, TooDeepCalls}

@@ -1,4 +1,4 @@
-use Rattle.std.proofs.Common.{◌≡◌, ◌+◌, ◌<◌, drop, map, length, get_or, Option, Some, None, rules, arith}
+use Rattle.std.proofs.Common.{◌≡◌, ◌<◌, drop, map, length, get_or, Option, Some, None, rules, arith}
 use Rattle.std.specs.Vec.Iter.{into_iter_items}
 use Rattle.cl_forms.specs.Forms.{Form}
 use Rattle.cl_code.specs.declared.definition.Definition.{Definition}

@@ -1,4 +1,4 @@
-use Rattle.std.proofs.Common.{◌<◌, ◌+◌, ◌∷◌, [], ◌++◌, length, get_or, List, sym, subst, rules, arith}
+use Rattle.std.proofs.Common.{◌<◌, ◌+◌, length, get_or, List, sym, subst, rules}
 use Rattle.cl_code.specs.declared.definition.Definition.{Definition}
 use Rattle.cl_check.proofs.WalkedForms.{HasWalked, at_here, default_free, place_within, walked_more, may_follow, walk_broken, all_walked}
 use Rattle.cl_check.proofs.walk.walk.Goals as goal

@@ -1,11 +1,9 @@
-use Rattle.std.proofs.Common.{◌≡◌, ◌∙◌, refl, sym, ap, length}
+use Rattle.std.proofs.Common.{◌∙◌, ap}
 use Rattle.std.proofs.lemmas.Result.{err_from_is_err_and}
 use Rattle.cl_events.specs.State.{place}
-use Rattle.cl_state.specs.Stack.{Stack}
 use Rattle.cl_frames.specs.Watching.{watched}
-use Rattle.cl_frames.proofs.WatchLaws.{watched-stop, then_gave, charge_within}
-use Rattle.cl_frames.specs.Deploys.{contract_so_far}
-use Rattle.cl_frames.proofs.WatchSteps.{hands_on, stops_eq, pay_fails, pay_fails_at, part_fails, memory_fails, ends_so, charge_spent}
+use Rattle.cl_frames.proofs.WatchLaws.{then_gave}
+use Rattle.cl_frames.proofs.WatchSteps.{part_fails, ends_so}
 use Rattle.cl_frames.proofs.Defining as Defining
 use Rattle.cl_frames.proofs.Telling.{run_ends}
 use Rattle.std.specs.Prelude.{Ok}

@@ -1,11 +1,10 @@
-use Rattle.std.proofs.Common.{◌≡◌, ◌∙◌, refl, sym, ap, length}
+use Rattle.std.proofs.Common.{◌∙◌, refl, sym, ap}
 use Rattle.std.proofs.lemmas.Result.{err_from_is_err_and}
-use Rattle.cl_state.specs.Stack.{Stack}
 use Rattle.cl_frames.specs.Watching.{watched}
-use Rattle.cl_frames.proofs.WatchLaws.{watched-stop, then_gave, charge_within}
+use Rattle.cl_frames.proofs.WatchLaws.{then_gave, charge_within}
 use Rattle.cl_frames.specs.Deploys.{contract_so_far}
 use Rattle.cl_types.specs.contracts.name.NamePartialEq.TheImpl.{eq-value}
-use Rattle.cl_frames.proofs.WatchSteps.{hands_on, stops_eq, pay_fails, pay_fails_at, part_fails, memory_fails, ends_so, charge_spent}
+use Rattle.cl_frames.proofs.WatchSteps.{pay_fails, part_fails, memory_fails}
 use Rattle.cl_frames.proofs.Defining as Defining
 use Rattle.indexmap.proofs.CallerLemmas.{insert_entry-new}
 use Rattle.cl_contracts.proofs.Places.{value_under}

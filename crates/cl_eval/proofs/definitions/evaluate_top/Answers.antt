@@ -1,6 +1,6 @@
 use Rattle.std.proofs.Common.{ap, sym, refl}
 use Rattle.cl_frames.specs.Watching.{watched}
-use Rattle.cl_frames.proofs.WatchSteps.{hands_on, stops_eq, pay_fails, pay_fails_at, part_fails, memory_fails, ends_so, charge_spent}
+use Rattle.cl_frames.proofs.WatchSteps.{ends_so}
 use Rattle.cl_frames.proofs.Defining.{top_is, fits_top}
 use Rattle.cl_eval.proofs.definitions.evaluate_top.Goals as goal
 

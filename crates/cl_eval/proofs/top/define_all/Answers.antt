@@ -1,4 +1,4 @@
-use Rattle.std.proofs.Common.{◌≡◌, ◌<◌, ◌≤◌, ℕ, List, Some, drop, length, get_or, ◌∙◌, sym, ap, arith}
+use Rattle.std.proofs.Common.{◌<◌, ◌≤◌, ℕ, List, length, get_or, ◌∙◌, sym, ap, arith}
 use Rattle.std.specs.Prelude.{slice_get}
 use Rattle.std.proofs.lemmas.Result.{err_from_is_err_and}
 use Rattle.std.proofs.lemmas.List.{drop_all}

@@ -1,4 +1,4 @@
-use Rattle.std.proofs.Common.{List, [], ℕ, Ok, Err, ap, ◌∙◌, sym, subst}
+use Rattle.std.proofs.Common.{List, ℕ, Ok, Err, ap, ◌∙◌, sym, subst}
 use Rattle.cl_values.specs.Tree.{Tree as Val}
 use Rattle.cl_costs.specs.Tables.{function_of}
 use Rattle.cl_contracts.specs.Seen.{deployed_seen}

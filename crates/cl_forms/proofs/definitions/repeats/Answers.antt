@@ -1,4 +1,4 @@
-use Rattle.std.proofs.Common.{◌≡◌, ◌+◌, Bool, true, if◌then◌else◌, List, [], ◌∷◌, ◌++◌, map, drop, ap, sym, ◌∙◌}
+use Rattle.std.proofs.Common.{◌+◌, Bool, true, if◌then◌else◌, List, [], ◌∷◌, ◌++◌, map, drop, ap, sym, ◌∙◌}
 use Rattle.std.proofs.lemmas.List.{drop_all, drop_more}
 use Rattle.cl_types.specs.declared.name.Name.{Name}
 use Rattle.cl_sexpr.specs.declared.sexpr.Sexpr.{Sexpr}

@@ -1,4 +1,4 @@
-use Rattle.std.proofs.Common.{refl, sym, ap, ◌∙◌, arith}
+use Rattle.std.proofs.Common.{refl, ◌∙◌, arith}
 use Rattle.std.proofs.lemmas.Result.{err_from_is_err_and}
 use Rattle.cl_frames.proofs.Steps.{pay_fails_at, charge_spent, gives}
 use Rattle.cl_frames.proofs.IterateLaws.{joined_some, joined_none}

@@ -1,10 +1,10 @@
-use Rattle.std.proofs.Common.{◌≡◌, ◌∙◌, refl, sym, ap, Some, None}
+use Rattle.std.proofs.Common.{◌∙◌, refl, sym, ap, Some}
 use Rattle.std.proofs.lemmas.Result.{err_from_is_err_and}
 use Rattle.cl_state.specs.Stack.{Stack}
 use Rattle.cl_meaning.specs.Limits.{limited}
-use Rattle.cl_meaning.proofs.LimitLaws.{limited-stop, then_gave, charge_within}
+use Rattle.cl_meaning.proofs.LimitLaws.{limited-stop}
 use Rattle.cl_frames.specs.Deploys.{contract_so_far}
-use Rattle.cl_frames.proofs.Steps.{hands_on, pay_fails, part_fails, ends_so}
+use Rattle.cl_frames.proofs.Steps.{pay_fails}
 use Rattle.cl_frames.proofs.Defining as Defining
 use Rattle.cl_steps.proofs.definitions.put_capped.Goals as goal
 

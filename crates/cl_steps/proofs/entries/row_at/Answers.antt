@@ -1,4 +1,4 @@
-use Rattle.std.proofs.Common.{◌≡◌, ℕ, ◌<◌, ◌≤◌, ◌++◌, ◌+◌, length, length-append, option_map, ap, ◌∙◌, arith}
+use Rattle.std.proofs.Common.{◌<◌, ◌≤◌, ◌++◌, ◌+◌, length, option_map, ap, ◌∙◌, arith}
 use Rattle.cl_frames.specs.Rows.{row_at}
 use Rattle.cl_frames.proofs.Rows.{row_turn, row_stops, row_starts, row_ends, one_longer}
 use Rattle.cl_steps.proofs.entries.row_at.Goals as goal

@@ -1,5 +1,5 @@
 use Rattle.std.proofs.Common.{◌<◌, ◌≤◌, length, arith}
-use Rattle.cl_frames.proofs.Rows.{width_turn, width_stops, width_none, width_first}
+use Rattle.cl_frames.proofs.Rows.{width_turn, width_first}
 use Rattle.cl_steps.proofs.entries.width.Goals as goal
 
 pub loop-sequence-preserved : goal.loop-sequence-preserved

@@ -1,4 +1,4 @@
-use Rattle.std.proofs.Common.{◌≡◌, suc, ◌+◌, ◌++◌, length, drop, ap, ◌∙◌, arith}
+use Rattle.std.proofs.Common.{◌≡◌, suc, length, drop, ap, arith}
 use Rattle.std.specs.Vec.Iter.{into_iter_items}
 use Rattle.cl_frames.specs.Kept.{chosen}
 use Rattle.cl_frames.proofs.Sieving.{chosen_turn, chosen_end}

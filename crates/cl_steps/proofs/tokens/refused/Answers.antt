@@ -1,5 +1,4 @@
 use Rattle.std.proofs.Common.{false}
-use Rattle.cl_values.specs.Tree.{Tree as Val}
 use Rattle.cl_values.specs.Computed.{Gives}
 use Rattle.cl_frames.proofs.TokenLaws
 use Rattle.cl_steps.proofs.tokens.refused.Goals as goal

@@ -1,4 +1,3 @@
-use Rattle.cl_values.specs.Tree.{Tree as Val}
 use Rattle.cl_values.specs.Computed.{Gives}
 use Rattle.cl_frames.proofs.TokenLaws
 use Rattle.cl_steps.proofs.tokens.some_principal.Goals as goal

@@ -1,5 +1,4 @@
 use Rattle.std.proofs.Common.{arith}
-use Rattle.cl_values.specs.Tree.{Tree as Val}
 use Rattle.cl_values.specs.Computed.{Gives}
 use Rattle.cl_frames.proofs.Laws
 use Rattle.std.proofs.Common.{◌≤◌}
