@@ -8,42 +8,16 @@ use Rattle.cl_types.specs.Types.{PlainType, size_of}
 use Rattle.cl_shapes.specs.declared.cost.Cost5.{Cost5}
 use Rattle.cl_shapes.specs.declared.name.CostName.TheVariants.{Bind}
 use Rattle.cl_shapes.specs.Costs.{plus, zero_cost}
+use Rattle.cl_shapes.proofs.Sums.{plus_assoc, plus_zero, zero_plus}
 use Rattle.cl_rules.specs.Context.{CostTable}
 use Rattle.cl_rules.specs.ControlShapes.{binds}
 use Rattle.cl_code.specs.Typed.{Typed, type_of}
 use Rattle.cl_bound.specs.declared.sum.Sum.{Sum}
 use Rattle.cl_bound.specs.Sums.{told, Increases}
 
-plus_none : (a : Cost5) → plus a zero_cost ≡ a
-plus_none a =
-    let r : a.runtime + 0 ≡ a.runtime = omega arith in
-    let rc : a.read_count + 0 ≡ a.read_count = omega arith in
-    let rl : a.read_length + 0 ≡ a.read_length = omega arith in
-    let wc : a.write_count + 0 ≡ a.write_count = omega arith in
-    let wl : a.write_length + 0 ≡ a.write_length = omega arith in
-    λ i. record { runtime = r i; read_count = rc i; read_length = rl i; write_count = wc i; write_length = wl i }
-
-none_plus : (a : Cost5) → plus zero_cost a ≡ a
-none_plus a =
-    let r : 0 + a.runtime ≡ a.runtime = omega arith in
-    let rc : 0 + a.read_count ≡ a.read_count = omega arith in
-    let rl : 0 + a.read_length ≡ a.read_length = omega arith in
-    let wc : 0 + a.write_count ≡ a.write_count = omega arith in
-    let wl : 0 + a.write_length ≡ a.write_length = omega arith in
-    λ i. record { runtime = r i; read_count = rc i; read_length = rl i; write_count = wc i; write_length = wl i }
-
-plus_turn : (a b c : Cost5) → plus (plus a b) c ≡ plus a (plus b c)
-plus_turn a b c =
-    let r : a.runtime + b.runtime + c.runtime ≡ a.runtime + (b.runtime + c.runtime) = omega arith in
-    let rc : a.read_count + b.read_count + c.read_count ≡ a.read_count + (b.read_count + c.read_count) = omega arith in
-    let rl : a.read_length + b.read_length + c.read_length ≡ a.read_length + (b.read_length + c.read_length) = omega arith in
-    let wc : a.write_count + b.write_count + c.write_count ≡ a.write_count + (b.write_count + c.write_count) = omega arith in
-    let wl : a.write_length + b.write_length + c.write_length ≡ a.write_length + (b.write_length + c.write_length) = omega arith in
-    λ i. record { runtime = r i; read_count = rc i; read_length = rl i; write_count = wc i; write_length = wl i }
-
 -- one cost more, and another
 pub both_more : (s t u : Sum) (x y : Cost5) → Increases s t x → Increases t u y → Increases s u (plus x y)
-both_more s t u x y first second a is = second (plus a x) (first a is) ∙ ap told (plus_turn a x y)
+both_more s t u x y first second a is = second (plus a x) (first a is) ∙ ap told (plus_assoc a x y)
 
 -- another sum more
 pub sum_more : (s t u : Sum) (x : Cost5) → t ≡ told x → ((a b : Cost5) → s ≡ told a → t ≡ told b → u ≡ told (plus a b)) → Increases s u x
@@ -51,17 +25,17 @@ sum_more s t u x t_is add a is = add a x is t_is
 
 -- from nothing
 pub all_more : (u : Sum) (x : Cost5) → Increases (told zero_cost) u x → u ≡ told x
-all_more u x more = more zero_cost refl ∙ ap told (none_plus x)
+all_more u x more = more zero_cost refl ∙ ap told (zero_plus x)
 
 -- a sum so far that gives the whole with what is left
 abbrev pub Adds : Cost5 → Cost5 → Sum → Type 0
 Adds whole rest sum = (a : Cost5) × (sum ≡ told a) × (plus a rest ≡ whole)
 
 pub adds_more : (whole x rest : Cost5) (s u : Sum) → Adds whole (plus x rest) s → Increases s u x → Adds whole rest u
-adds_more whole x rest s u adds more = (plus adds.0 x, more adds.0 adds.1, plus_turn adds.0 x rest ∙ adds.2)
+adds_more whole x rest s u adds more = (plus adds.0 x, more adds.0 adds.1, plus_assoc adds.0 x rest ∙ adds.2)
 
 pub adds_end : (whole : Cost5) (s : Sum) → Adds whole zero_cost s → s ≡ told whole
-adds_end whole s adds = adds.1 ∙ ap told (sym (plus_none adds.0) ∙ adds.2)
+adds_end whole s adds = adds.1 ∙ ap told (sym (plus_zero adds.0) ∙ adds.2)
 
 -- ---- parts one by one
 

@@ -5,13 +5,14 @@ use Rattle.cl_shapes.specs.declared.cost.Dimension.{Dimension}
 use Rattle.cl_shapes.specs.declared.name.CostName.{CostName}
 use Rattle.cl_shapes.specs.Costs.{plus, zero_cost, first_above, IsAtMost}
 use Rattle.cl_shapes.specs.Limits.{Purse}
+use Rattle.cl_shapes.proofs.Sums.{plus_assoc}
 use Rattle.cl_values.specs.Tree.{Tree as Val}
 use Rattle.cl_events.specs.State.{State}
 use Rattle.cl_meaning.specs.Answers.{Outcome, Given, Thrown, Aborted, Wrong, Deeper, Answer, Note, Charged, Ended}
 use Rattle.cl_meaning.specs.Deployed.{Contract}
 use Rattle.cl_meaning.specs.Limits.{charges_of, cost_of, cost_sum, cost, Paid, Within, Past, paid_by, pay, Limited, Gave, Threw, AbortedBy, Passed, Lost, limit_on, limited}
 use Rattle.cl_meaning.specs.Prefixes.{spent_after}
-use Rattle.cl_meaning.proofs.Prefixes.{IsPaid, paid_is, plus_assoc, spending, spend_by, spend_found}
+use Rattle.cl_meaning.proofs.Prefixes.{IsPaid, paid_is, spending, spend_by, spend_found}
 use Rattle.cl_meaning.proofs.Stops.{enough_within, limited_within, spent_after-append}
 use Rattle.cl_rules.specs.Context.{CostTable}
 use Rattle.cl_expression_sound.specs.Sound.{World, IsKept, IsFine, IsSound, NoThrow}

@@ -1,38 +1,19 @@
 -- What is paid of a log: all of it, or up to the first charge whose sum is above the limit.
-use Rattle.std.proofs.Common.{◌≡◌, ℕ, ◌+◌, List, [], ◌∷◌, ◌++◌, Option, Some, None, refl, arith, ap, sym, ◌∙◌, subst}
+use Rattle.std.proofs.Common.{◌≡◌, ℕ, ◌+◌, List, [], ◌∷◌, ◌++◌, Option, Some, None, refl, ap, sym, ◌∙◌, subst}
 use Rattle.std.specs.Prelude.{Result, Ok, Err}
 use Rattle.cl_shapes.specs.declared.cost.Cost5.{Cost5}
 use Rattle.cl_shapes.specs.declared.cost.Dimension.{Dimension}
 use Rattle.cl_shapes.specs.declared.limit.Over.{Over}
 use Rattle.cl_shapes.specs.declared.name.CostName.{CostName}
-use Rattle.cl_shapes.specs.Costs.{cost5, zero_cost, plus, part, first_above, IsAtMost, IsFirstAbove}
+use Rattle.cl_shapes.specs.Costs.{plus, part, first_above, IsAtMost, IsFirstAbove}
 use Rattle.cl_shapes.specs.Limits.{Purse, spend}
 use Rattle.cl_shapes.proofs.FirstAbove.{first_above-some, first_above-none}
+use Rattle.cl_shapes.proofs.Sums.{plus_assoc, plus_zero}
 use Rattle.cl_sexpr.specs.declared.sexpr.Span.{Span}
 use Rattle.cl_values.specs.Tree.{Tree as Val}
 use Rattle.cl_meaning.specs.Answers.{Note, Charged, Ended}
 use Rattle.cl_meaning.specs.Limits.{Costs, cost_of, charges_of, cost_sum, Paid, Within, Past, paid_by, pay}
 use Rattle.cl_meaning.specs.Prefixes.{spent_after, IsWithin, IsFirstOver}
-
--- ---- sums
-
-pub plus_assoc : (a b c : Cost5) → plus (plus a b) c ≡ plus a (plus b c)
-plus_assoc a b c =
-    let r : a.runtime + b.runtime + c.runtime ≡ a.runtime + (b.runtime + c.runtime) = omega arith in
-    let rc : a.read_count + b.read_count + c.read_count ≡ a.read_count + (b.read_count + c.read_count) = omega arith in
-    let rl : a.read_length + b.read_length + c.read_length ≡ a.read_length + (b.read_length + c.read_length) = omega arith in
-    let wc : a.write_count + b.write_count + c.write_count ≡ a.write_count + (b.write_count + c.write_count) = omega arith in
-    let wl : a.write_length + b.write_length + c.write_length ≡ a.write_length + (b.write_length + c.write_length) = omega arith in
-    λ i. cost5 (r i) (rc i) (rl i) (wc i) (wl i)
-
-pub plus_zero : (a : Cost5) → plus a zero_cost ≡ a
-plus_zero a =
-    let r : a.runtime + 0 ≡ a.runtime = omega arith in
-    let rc : a.read_count + 0 ≡ a.read_count = omega arith in
-    let rl : a.read_length + 0 ≡ a.read_length = omega arith in
-    let wc : a.write_count + 0 ≡ a.write_count = omega arith in
-    let wl : a.write_length + 0 ≡ a.write_length = omega arith in
-    λ i. cost5 (r i) (rc i) (rl i) (wc i) (wl i)
 
 -- the purse after a cost, and one with another sum
 abbrev pub spending : Purse → Cost5 → Purse

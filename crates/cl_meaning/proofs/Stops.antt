@@ -9,15 +9,16 @@ use Rattle.cl_shapes.specs.declared.cost.Dimension.{Dimension}
 use Rattle.cl_shapes.specs.declared.cost.Dimension.TheVariants.{Runtime, ReadCount, ReadLength, WriteCount, WriteLength}
 use Rattle.cl_shapes.specs.declared.limit.Over.{Over}
 use Rattle.cl_shapes.specs.declared.name.CostName.{CostName}
-use Rattle.cl_shapes.specs.Costs.{cost5, zero_cost, plus, part, first_above, IsAtMost, IsFirstAbove}
+use Rattle.cl_shapes.specs.Costs.{plus, part, first_above, IsAtMost, IsFirstAbove}
 use Rattle.cl_shapes.specs.Limits.{Purse, spend}
+use Rattle.cl_shapes.proofs.Sums.{plus_assoc, plus_zero, zero_plus}
 use Rattle.cl_events.specs.State.{State}
 use Rattle.cl_meaning.specs.Answers.{Outcome, Given, Thrown, Aborted, Wrong, Deeper, Answer, Note, Charged, Ended}
 use Rattle.cl_meaning.specs.Limits.{Costs, Charge, cost_of, charges_of, cost_sum, Paid, Within, Past, paid_by, pay, Limited, Passed, limit_on, limited}
 use Rattle.cl_meaning.specs.Trace.{claims, trace_of}
 use Rattle.cl_meaning.specs.Prefixes.{spent_after, IsWithin, IsFirstOver, claims_in}
 use Rattle.cl_meaning.proofs.LimitLaws.{pay-append, claims-append}
-use Rattle.cl_meaning.proofs.Prefixes.{plus_assoc, plus_zero, paid_all, spend_found, IsPaid, paid_is}
+use Rattle.cl_meaning.proofs.Prefixes.{paid_all, spend_found, IsPaid, paid_is}
 
 -- ---- sums
 
@@ -26,17 +27,8 @@ charges_of-append [] more = refl
 charges_of-append (Charged name n ∷ log) more = ap (λ cs. (name, n) ∷ cs) (charges_of-append log more)
 charges_of-append (Ended span v ∷ log) more = charges_of-append log more
 
-zero_plus : (a : Cost5) → a ≡ plus zero_cost a
-zero_plus a =
-    let r : a.runtime ≡ 0 + a.runtime = omega arith in
-    let rc : a.read_count ≡ 0 + a.read_count = omega arith in
-    let rl : a.read_length ≡ 0 + a.read_length = omega arith in
-    let wc : a.write_count ≡ 0 + a.write_count = omega arith in
-    let wl : a.write_length ≡ 0 + a.write_length = omega arith in
-    λ i. cost5 (r i) (rc i) (rl i) (wc i) (wl i)
-
 pub cost_sum-append : (costs : Costs) (cs ds : List Charge) → cost_sum costs (cs ++ ds) ≡ plus (cost_sum costs cs) (cost_sum costs ds)
-cost_sum-append costs [] ds = zero_plus (cost_sum costs ds)
+cost_sum-append costs [] ds = sym (zero_plus (cost_sum costs ds))
 cost_sum-append costs (c ∷ cs) ds = ap (plus (cost_of costs c.0 c.1)) (cost_sum-append costs cs ds) ∙ sym (plus_assoc (cost_of costs c.0 c.1) (cost_sum costs cs) (cost_sum costs ds))
 
 -- what is spent after two logs

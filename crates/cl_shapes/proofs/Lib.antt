@@ -1,3 +1,4 @@
 pub mod Examples
 pub mod FirstAbove
 pub mod Logarithms
+pub mod Sums
