@@ -1,7 +1,10 @@
 -- How a ghost variable stores a type.
 use Rattle.std.specs.Prelude.{◌≡◌, ℕ, List, refl}
 use Rattle.std.specs.Coded.{Coded, coded_list, coded_ℕ}
+use Rattle.std.proofs.Common.{ap}
+use Rattle.std.proofs.lemmas.Bool.{eqb-false}
 use base.Stored.{Gv, gnil, gnum, gcons}
+use Rattle.cl_types.specs.CodeParts.{first, rest, second, third, number, tag, parts}
 use Rattle.cl_types.specs.Types.{PlainType, NoType, IntType, UintType, BoolType, PrincipalType, BuffType, AsciiType, Utf8Type, ListType, TupleType, OptionalType, ResponseType, Fields, NoField, Field}
 
 abbrev name_code : Coded (List ℕ)
@@ -26,9 +29,6 @@ abbrev mutual
   code_fields NoField = gnil
   code_fields (Field k t fs) = gcons (name_code.code k) (gcons (code_type t) (code_fields fs))
 
-number_same : (m n : ℕ) → gnum m ≡ gnum n → m ≡ n
-number_same m n e = cc
-
 list_same : (m n : ℕ) (a b : PlainType) → m ≡ n → a ≡ b → ListType m a ≡ ListType n b
 list_same m n a b p q i = ListType (p i) (q i)
 
@@ -45,20 +45,19 @@ mutual
   type_inj UintType UintType p = refl
   type_inj BoolType BoolType p = refl
   type_inj PrincipalType PrincipalType p = refl
-  type_inj (BuffType m) (BuffType n) p = let e : m ≡ n = number_same m n cc in λ i. BuffType (e i)
-  type_inj (AsciiType m) (AsciiType n) p = let e : m ≡ n = number_same m n cc in λ i. AsciiType (e i)
-  type_inj (Utf8Type m) (Utf8Type n) p = let e : m ≡ n = number_same m n cc in λ i. Utf8Type (e i)
-  type_inj (ListType m a) (ListType n b) p = list_same m n a b (number_same m n cc) (type_inj a b cc)
-  type_inj (TupleType fs) (TupleType gs) p = let e : fs ≡ gs = fields_inj fs gs cc in λ i. TupleType (e i)
-  type_inj (OptionalType a) (OptionalType b) p = let e : a ≡ b = type_inj a b cc in λ i. OptionalType (e i)
-  type_inj (ResponseType a c) (ResponseType b d) p = response_same a b c d (type_inj a b cc) (type_inj c d cc)
-  type_inj x y p = absurd cc
+  type_inj (BuffType m) (BuffType n) p = ap (λ g. BuffType (number (rest g))) p
+  type_inj (AsciiType m) (AsciiType n) p = ap (λ g. AsciiType (number (rest g))) p
+  type_inj (Utf8Type m) (Utf8Type n) p = ap (λ g. Utf8Type (number (rest g))) p
+  type_inj (ListType m a) (ListType n b) p = list_same m n a b (ap (λ g. number (second g)) p) (type_inj a b (ap third p))
+  type_inj (TupleType fs) (TupleType gs) p = ap TupleType (fields_inj fs gs (ap rest p))
+  type_inj (OptionalType a) (OptionalType b) p = ap OptionalType (type_inj a b (ap rest p))
+  type_inj (ResponseType a c) (ResponseType b d) p = response_same a b c d (type_inj a b (ap second p)) (type_inj c d (ap third p))
+  type_inj x y p = absurd (eqb-false (tag (code_type x)) (tag (code_type y)) refl (ap tag p))
 
   pub fields_inj : (x y : Fields) → code_fields x ≡ code_fields y → x ≡ y
   fields_inj NoField NoField p = refl
-  fields_inj NoField (Field k t fs) p = absurd cc
-  fields_inj (Field k t fs) NoField p = absurd cc
-  fields_inj (Field j a fs) (Field k b gs) p = field_same j k a b fs gs (name_code.inj j k cc) (type_inj a b cc) (fields_inj fs gs cc)
+  fields_inj (Field j a fs) (Field k b gs) p = field_same j k a b fs gs (name_code.inj j k (ap first p)) (type_inj a b (ap second p)) (fields_inj fs gs (ap third p))
+  fields_inj x y p = absurd (eqb-false (parts (code_fields x)) (parts (code_fields y)) refl (ap parts p))
 
 abbrev pub type_code : Coded PlainType
 type_code = record { code = code_type; inj = type_inj }
