@@ -44,7 +44,7 @@ fn constant(
     add_constant(ctx, *name, ty)?;
     Ok(Definition::Constant(Constant {
         name: *name,
-        value: code_of(found),
+        value: found.into_code(),
         span,
     }))
 }
@@ -73,7 +73,7 @@ fn variable(
     Ok(Definition::Variable(Variable {
         name: *name,
         ty,
-        value: code_of(found),
+        value: found.into_code(),
         span,
     }))
 }
@@ -135,7 +135,7 @@ fn supplied(
     add_fungible(ctx, *name)?;
     Ok(Definition::Fungible(Fungible {
         name: *name,
-        supply: Some(code_of(found)),
+        supply: Some(found.into_code()),
         span,
     }))
 }
@@ -215,12 +215,6 @@ fn function(
     Ok(defined(*name, access, params, body, span))
 }
 
-fn code_of(checked: Checked) -> Code
-    ensures { result ≡ checked.code }
-{
-    checked.code
-}
-
 fn defined(
     name: Name,
     access: Access,
@@ -241,7 +235,7 @@ fn defined(
         params,
         returns,
         height,
-        body: code_of(checked),
+        body: checked.into_code(),
         span,
     })
 }
@@ -262,7 +256,7 @@ fn top_level(
         Err(fault) => return Err(fault),
     };
     Ok(Definition::TopLevel(TopLevel {
-        value: code_of(found),
+        value: found.into_code(),
         span,
     }))
 }

@@ -10,12 +10,25 @@ use std::marker::Model;
 /// takes, and its names are its own: no keyword is a binding or a constant, no native a function,
 /// and no key of a tuple stands twice. Contracts see the expression that it stands for, its type
 /// and its parts.
-#[derive(Drop)]
 pub struct Code {
     pub op: Op,
     pub parts: Vec<Code>,
     pub ty: SizedTy,
     pub span: Span,
+}
+
+impl Drop for Code {
+    fn drop(self) {
+        let Code {
+            op,
+            parts,
+            ty,
+            span: _,
+        } = self;
+        drop(op);
+        drop(parts);
+        drop(ty);
+    }
 }
 
 impl Model for Code {

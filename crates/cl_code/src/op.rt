@@ -123,13 +123,26 @@ pub enum Target {
 }
 
 /// A function of another contract as its callers see it, and the length of that contract's text.
-#[derive(Drop)]
 pub struct Callee {
     pub access: Access,
     pub params: Vec<(Name, SizedTy)>,
     pub returns: SizedTy,
     pub height: u32,
     pub length: u32,
+}
+
+impl Drop for Callee {
+    fn drop(self) {
+        let Callee {
+            access: _,
+            params,
+            returns,
+            height: _,
+            length: _,
+        } = self;
+        drop(params);
+        drop(returns);
+    }
 }
 
 /// What a node does, with the names and literals that aren't evaluated. `head` is the place of the

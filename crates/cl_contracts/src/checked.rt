@@ -10,7 +10,6 @@ use cl_types::Name;
 use indexmap::IndexMap;
 
 /// A contract that breaks no rule of typing: its definitions with typed trees, in the order of its text.
-#[derive(Drop)]
 pub struct Checked {
     pub principal: Principal,
     pub definitions: Vec<Definition>,
@@ -20,6 +19,21 @@ pub struct Checked {
     pub places: IndexMap<Name, usize>,
     /// The length of its text, in bytes.
     pub source_length: u32,
+}
+
+impl Drop for Checked {
+    fn drop(self) {
+        let Checked {
+            principal: _,
+            definitions,
+            order,
+            places,
+            source_length: _,
+        } = self;
+        drop(definitions);
+        drop(order);
+        drop(places);
+    }
 }
 
 #[tactic(auto, using(crate::proofs::Places::under_name))]

@@ -11,10 +11,17 @@ use cl_values::Val;
 use indexmap::IndexMap;
 
 /// A deployed contract, with the values of its constants.
-#[derive(Drop)]
 pub struct Contract {
     pub checked: Checked,
     pub constants: IndexMap<Name, Val>,
+}
+
+impl Drop for Contract {
+    fn drop(self) {
+        let Contract { checked, constants } = self;
+        drop(checked);
+        drop(constants);
+    }
 }
 
 impl Contract {

@@ -35,13 +35,27 @@ use std::marker::Model;
 /// deployed, with the bounds of their functions, the height of the block, and the costs under which
 /// contracts are accepted and entries charged. Contracts see the state, the contracts, the height
 /// and the costs.
-#[derive(Drop)]
 pub struct Node {
     world: World,
     deployed: Deployed,
     known: KnownBounds,
     height: u64,
     costs: CostTable,
+}
+
+impl Drop for Node {
+    fn drop(self) {
+        let Node {
+            world,
+            deployed,
+            known,
+            height: _,
+            costs: _,
+        } = self;
+        drop(world);
+        drop(deployed);
+        drop(known);
+    }
 }
 
 impl Model for Node {

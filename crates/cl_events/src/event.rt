@@ -28,7 +28,6 @@ impl Event {
 }
 
 /// What was done.
-#[derive(Drop)]
 pub enum EventKind {
     /// A value was printed.
     Print(Val),
@@ -73,6 +72,52 @@ pub enum EventKind {
         amount: u128,
         from: Principal,
     },
+}
+
+impl Drop for EventKind {
+    fn drop(self) {
+        match self {
+            EventKind::Print(value) => drop(value),
+            EventKind::FtMint {
+                token: _,
+                amount: _,
+                to: _,
+            } => {}
+            EventKind::FtTransfer {
+                token: _,
+                amount: _,
+                from: _,
+                to: _,
+            } => {}
+            EventKind::FtBurn {
+                token: _,
+                amount: _,
+                from: _,
+            } => {}
+            EventKind::NftMint {
+                token: _,
+                id,
+                to: _,
+            } => drop(id),
+            EventKind::NftTransfer {
+                token: _,
+                id,
+                from: _,
+                to: _,
+            } => drop(id),
+            EventKind::NftBurn {
+                token: _,
+                id,
+                from: _,
+            } => drop(id),
+            EventKind::StxTransfer {
+                amount: _,
+                from: _,
+                to: _,
+            } => {}
+            EventKind::StxBurn { amount: _, from: _ } => {}
+        }
+    }
 }
 
 impl EventKind {
@@ -142,11 +187,20 @@ impl EventKind {
 }
 
 /// What can be moved: STX, a fungible token of a contract, or one asset of a non-fungible token of a contract, by its identifier.
-#[derive(Drop)]
 pub enum Asset {
     Stx,
     Ft(Principal, Name),
     Nft(Principal, Name, Val),
+}
+
+impl Drop for Asset {
+    fn drop(self) {
+        match self {
+            Asset::Stx => {}
+            Asset::Ft(_, _) => {}
+            Asset::Nft(_, _, id) => drop(id),
+        }
+    }
 }
 
 /// An amount of an asset that left a principal (SIP-005, post-conditions). A burn is a move, a mint isn't. The amount of an `Nft` is 1.

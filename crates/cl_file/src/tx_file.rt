@@ -13,10 +13,17 @@ use std::marker::Model;
 
 /// The holders of the first state, each once, and the entries, at most 100,000. What the holders
 /// have together is below 2^128, and the heights of blocks never fall.
-#[derive(Drop)]
 pub struct TxFile {
     genesis: IndexMap<Principal, u128>,
     entries: Vec<Entry>,
+}
+
+impl Drop for TxFile {
+    fn drop(self) {
+        let TxFile { genesis, entries } = self;
+        drop(genesis);
+        drop(entries);
+    }
 }
 
 impl Model for TxFile {

@@ -4,7 +4,6 @@ use cl_types::{Access, Name, SizedTy};
 use std::marker::Model;
 
 /// What a form is (SIP-002).
-#[derive(Drop)]
 pub enum FormKind {
     /// A constant, whose value is that of the expression.
     Constant(Sexpr),
@@ -24,6 +23,33 @@ pub enum FormKind {
     },
     /// A top-level expression.
     Expression(Sexpr),
+}
+
+impl Drop for FormKind {
+    fn drop(self) {
+        match self {
+            FormKind::Constant(value) => drop(value),
+            FormKind::Variable(ty, value) => {
+                drop(ty);
+                drop(value);
+            }
+            FormKind::MapOf(key, value) => {
+                drop(key);
+                drop(value);
+            }
+            FormKind::Fungible(supply) => drop(supply),
+            FormKind::NonFungible(id) => drop(id),
+            FormKind::Function {
+                access: _,
+                params,
+                body,
+            } => {
+                drop(params);
+                drop(body);
+            }
+            FormKind::Expression(expression) => drop(expression),
+        }
+    }
 }
 
 /// A definition with the name that it defines, or a top-level expression, which has none; and the bytes of the text that

@@ -9,7 +9,6 @@ use cl_types::{Access, Name, SizedTy};
 use indexmap::{IndexMap, IndexSet};
 
 /// A function as its callers see it. The height is that of its application.
-#[derive(Drop)]
 pub struct Signature {
     pub access: Access,
     pub params: Vec<(Name, SizedTy)>,
@@ -17,8 +16,20 @@ pub struct Signature {
     pub height: u32,
 }
 
+impl Drop for Signature {
+    fn drop(self) {
+        let Signature {
+            access: _,
+            params,
+            returns,
+            height: _,
+        } = self;
+        drop(params);
+        drop(returns);
+    }
+}
+
 /// The contract that is checked, the deployed ones, and what the forms before define, each under its name.
-#[derive(Drop)]
 pub struct Context<'a> {
     pub principal: Principal,
     pub deployed: &'a Deployed,
@@ -28,6 +39,27 @@ pub struct Context<'a> {
     pub fungibles: IndexSet<Name>,
     pub nonfungibles: IndexMap<Name, SizedTy>,
     pub functions: IndexMap<Name, Signature>,
+}
+
+impl<'a> Drop for Context<'a> {
+    fn drop(self) {
+        let Context {
+            principal: _,
+            deployed: _,
+            constants,
+            variables,
+            maps,
+            fungibles,
+            nonfungibles,
+            functions,
+        } = self;
+        drop(constants);
+        drop(variables);
+        drop(maps);
+        drop(fungibles);
+        drop(nonfungibles);
+        drop(functions);
+    }
 }
 
 /// The type under a name.

@@ -33,7 +33,7 @@ fn trees(alloc: Global, parts: Vec<Checked>) -> Result<Vec<Code>, NoMemory>
 {
     let mut codes = Vec::with_capacity(alloc, parts.len())?;
     for part in parts {
-        codes.push_reserved(part.code);
+        codes.push_reserved(part.into_code());
     }
     Ok(codes)
 }

@@ -38,7 +38,6 @@ use indexmap::IndexMap;
 use std::alloc::Global;
 
 /// Variables, map entries, tokens and STX.
-#[derive(Drop)]
 pub(crate) struct Tables {
     pub(crate) variables: Table<HeldValue>,
     pub(crate) entries: Table<HeldValue>,
@@ -47,6 +46,25 @@ pub(crate) struct Tables {
     pub(crate) stx: Fungible,
     pub(crate) fungibles_touched: Touched,
     pub(crate) nonfungibles_touched: Touched,
+}
+
+impl Drop for Tables {
+    fn drop(self) {
+        let Tables {
+            variables,
+            entries,
+            fungibles,
+            nonfungibles,
+            stx,
+            fungibles_touched: _,
+            nonfungibles_touched: _,
+        } = self;
+        drop(variables);
+        drop(entries);
+        drop(fungibles);
+        drop(nonfungibles);
+        drop(stx);
+    }
 }
 
 // mints the STX that a holder has from the start, where that is more than 0

@@ -74,7 +74,6 @@ impl SourceRefusal {
 }
 
 /// Why an entry isn't run. It changes nothing and costs nothing.
-#[derive(Drop)]
 pub enum EntryRefusal {
     /// E1: no such contract is deployed.
     NoContract,
@@ -92,8 +91,21 @@ pub enum EntryRefusal {
     ContractRefused(SourceRefusal),
 }
 
+impl Drop for EntryRefusal {
+    fn drop(self) {
+        match self {
+            EntryRefusal::NoContract => {}
+            EntryRefusal::NoFunction => {}
+            EntryRefusal::NotPublic => {}
+            EntryRefusal::ArgumentCount => {}
+            EntryRefusal::Argument { index: _ } => {}
+            EntryRefusal::NameTaken => {}
+            EntryRefusal::ContractRefused(refusal) => drop(refusal),
+        }
+    }
+}
+
 /// What becomes of an entry.
-#[derive(Drop)]
 pub enum Outcome {
     /// A block begins.
     Moved,
@@ -111,6 +123,20 @@ pub enum Outcome {
     Refused(EntryRefusal),
 }
 
+impl Drop for Outcome {
+    fn drop(self) {
+        match self {
+            Outcome::Moved => {}
+            Outcome::Done => {}
+            Outcome::Good(value) => drop(value),
+            Outcome::Bad(value) => drop(value),
+            Outcome::Plain(value) => drop(value),
+            Outcome::Aborted(_) => {}
+            Outcome::Refused(refusal) => drop(refusal),
+        }
+    }
+}
+
 /// The bounds of an accepted contract.
 #[derive(Drop)]
 pub struct Bounds {
@@ -121,7 +147,6 @@ pub struct Bounds {
 }
 
 /// What becomes of an entry, and what goes with it.
-#[derive(Drop)]
 pub struct TxResult {
     pub outcome: Outcome,
     /// What the entry is charged; up to the first sum that is above the limit. None where it is
@@ -133,4 +158,20 @@ pub struct TxResult {
     pub types: Row<SizedTy>,
     /// The events of a deployment that is done, of an ok and of a plain value, in order.
     pub events: Row<Event>,
+}
+
+impl Drop for TxResult {
+    fn drop(self) {
+        let TxResult {
+            outcome,
+            cost: _,
+            bounds,
+            types,
+            events,
+        } = self;
+        drop(outcome);
+        drop(bounds);
+        drop(types);
+        drop(events);
+    }
 }

@@ -41,10 +41,16 @@ pub enum TyRefusal {
 /// A type within the limits: its depth is at most 32, the size of each part and each greatest length
 /// are at most 1,048,576, and each tuple has a key and keys that rise bytewise. It knows its size.
 /// Contracts see it as the tree, and each one is an `IsSized`.
-#[derive(Drop)]
 pub struct SizedTy {
     ty: Ty,
     size: u32,
+}
+
+impl Drop for SizedTy {
+    fn drop(self) {
+        let SizedTy { ty, size: _ } = self;
+        drop(ty);
+    }
 }
 
 impl Model for SizedTy {
@@ -118,7 +124,8 @@ impl SizedTy {
         ensures tree { result ≡ self }
         ensures sized { IsSized result }
     {
-        self.ty
+        let SizedTy { ty, size: _ } = self;
+        ty
     }
 
     /// A copy of the type.

@@ -27,10 +27,17 @@ pub enum TyKind {
 }
 
 /// A type as a tree, of any size and depth, its keys in any order. Contracts see the tree.
-#[derive(Drop)]
 #[cycle(ty)]
 pub struct Ty {
     pub kind: TyKind,
+}
+
+impl Drop for Ty {
+    #[cycle(ty)]
+    fn drop(self) {
+        let Ty { kind } = self;
+        drop(kind);
+    }
 }
 
 impl Model for Ty {

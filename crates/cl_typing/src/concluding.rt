@@ -9,11 +9,36 @@ use cl_types::{Fault, SizedTy, TyRefusal, lub};
 use std::alloc::Global;
 
 /// A typed tree with the type of what it may throw, and its height, up to the end of its type.
-#[derive(Drop)]
 pub struct Checked {
     pub code: Code,
     pub thrown: Option<SizedTy>,
     pub height: u32,
+}
+
+impl Drop for Checked {
+    fn drop(self) {
+        let Checked {
+            code,
+            thrown,
+            height: _,
+        } = self;
+        drop(code);
+        drop(thrown);
+    }
+}
+
+impl Checked {
+    /// The tree, given away.
+    pub fn into_code(self) -> Code
+        ensures { result ≡ self.code }
+    {
+        let Checked {
+            code,
+            thrown: _,
+            height: _,
+        } = self;
+        code
+    }
 }
 
 /// What is found of a node, but its tree.

@@ -721,7 +721,7 @@ iterate::fold-returns-in_default-clause-meant g t c bound fits = known_none _ _ 
 pub iterate::fold-returns-in_err-so_far-in-Some-2-clause-meant : goal.iterate::fold-returns-in_err-so_far-in-Some-2-clause-meant
 iterate::fold-returns-in_err-so_far-in-Some-2-clause-meant g t c bound fits =
     hands_on _ _ c.in_err-so_far-in-Some-2.field-0.0 _ _ _ (err_from_is_err_and c.from_residual-in_err-so_far-in-Some-2.result c.from_residual-in_err-so_far-in-Some-2.ensures.1)
-    (stops_eq _ _ _ _ _ _ (known_some _ _ _ _ _ (λ xs. folded (applied c.args.below) (scope_of c.args.context.now bound) (callee_seen c.args.callee.now) xs c.args.start) _ (Rows.entries_known _ c.args.sequence.now _ c.in-Some.is c.try_len.ensures) ∙ ap (λ v. watched (costs_of c.args.context.now) c.args.meter.now (g.W.Watch.seen c.args.watch.now) (folded (applied c.args.below) (scope_of c.args.context.now bound) (callee_seen c.args.callee.now) (entries_from 0 c.args.sequence.now) v c.args.world.now.stack.top)) (sym c.start.view_is) ∙ c.loop-place.invariant.so_far bound fits ∙ Iterating.fold_next (costs_of c.args.context.now) c.loop-place.meter (g.W.Watch.seen c.loop-place.watch) (applied c.args.below) (scope_of c.args.context.now bound) (callee_seen c.args.callee.now) _ c.in-Some-2.entry _ c.in_ok-values-in-Some-2.values.items c.loop-place.so_far c.loop-place.world.stack.top (Rows.entries_next _ c.args.sequence.now _ (sym c.in-Some-2.is ∙ c.in_ok-entry.ensures)) c.in_ok-values-in-Some-2.ensures) (stops_then _ _ _ _ _ _ _ _ _ (c.in_err-so_far-in-Some-2.ensures.meant bound fits)))
+    (stops_eq _ _ _ _ _ _ (known_some _ _ _ _ _ (λ xs. folded (applied c.args.below) (scope_of c.args.context.now bound) (callee_seen c.args.callee.now) xs c.args.start) _ (Rows.entries_known _ c.args.sequence.now _ c.in-Some.is c.try_len.ensures) ∙ c.loop-place.invariant.so_far bound fits ∙ Iterating.fold_next (costs_of c.args.context.now) c.loop-place.meter (g.W.Watch.seen c.loop-place.watch) (applied c.args.below) (scope_of c.args.context.now bound) (callee_seen c.args.callee.now) _ c.in-Some-2.entry _ c.in_ok-values-in-Some-2.values.items c.loop-place.so_far c.loop-place.world.stack.top (Rows.entries_next _ c.args.sequence.now _ (sym c.in-Some-2.is ∙ c.in_ok-entry.ensures)) c.in_ok-values-in-Some-2.ensures) (stops_then _ _ _ _ _ _ _ _ _ (c.in_err-so_far-in-Some-2.ensures.meant bound fits)))
 
 pub iterate::fold-loop-place-preserved : goal.iterate::fold-loop-place-preserved
 iterate::fold-loop-place-preserved g t c = record {
@@ -732,12 +732,12 @@ iterate::fold-loop-place-preserved g t c = record {
 
 pub iterate::fold-returns-in-None-clause-meant : goal.iterate::fold-returns-in-None-clause-meant
 iterate::fold-returns-in-None-clause-meant g t c bound fits =
-    known_some _ _ _ _ _ (λ xs. folded (applied c.args.below) (scope_of c.args.context.now bound) (callee_seen c.args.callee.now) xs c.args.start) _ (Rows.entries_known _ c.args.sequence.now _ c.in-Some.is c.try_len.ensures) ∙ ap (λ v. watched (costs_of c.args.context.now) c.args.meter.now (g.W.Watch.seen c.args.watch.now) (folded (applied c.args.below) (scope_of c.args.context.now bound) (callee_seen c.args.callee.now) (entries_from 0 c.args.sequence.now) v c.args.world.now.stack.top)) (sym c.start.view_is) ∙ c.loop-place.invariant.so_far bound fits ∙ Iterating.fold_end _ _ _ _ _ _ _ _ _ (Rows.entries_past _ c.args.sequence.now (sym c.in-None.is ∙ c.in_ok-entry.ensures))
+    known_some _ _ _ _ _ (λ xs. folded (applied c.args.below) (scope_of c.args.context.now bound) (callee_seen c.args.callee.now) xs c.args.start) _ (Rows.entries_known _ c.args.sequence.now _ c.in-Some.is c.try_len.ensures) ∙ c.loop-place.invariant.so_far bound fits ∙ Iterating.fold_end _ _ _ _ _ _ _ _ _ (Rows.entries_past _ c.args.sequence.now (sym c.in-None.is ∙ c.in_ok-entry.ensures))
 
 pub iterate::fold-returns-clause-meant : goal.iterate::fold-returns-clause-meant
 iterate::fold-returns-clause-meant g t c bound fits =
     let past : c.in-Some.count ≤ c.loop-place.place = omega arith in
-    known_some _ _ _ _ _ (λ xs. folded (applied c.args.below) (scope_of c.args.context.now bound) (callee_seen c.args.callee.now) xs c.args.start) _ (Rows.entries_known _ c.args.sequence.now _ c.in-Some.is c.try_len.ensures) ∙ ap (λ v. watched (costs_of c.args.context.now) c.args.meter.now (g.W.Watch.seen c.args.watch.now) (folded (applied c.args.below) (scope_of c.args.context.now bound) (callee_seen c.args.callee.now) (entries_from 0 c.args.sequence.now) v c.args.world.now.stack.top)) (sym c.start.view_is) ∙ c.loop-place.invariant.so_far bound fits ∙ Iterating.fold_end _ _ _ _ _ _ _ _ _ (Rows.entries_end _ _ c.args.sequence.now _ c.in-Some.is c.try_len.ensures past)
+    known_some _ _ _ _ _ (λ xs. folded (applied c.args.below) (scope_of c.args.context.now bound) (callee_seen c.args.callee.now) xs c.args.start) _ (Rows.entries_known _ c.args.sequence.now _ c.in-Some.is c.try_len.ensures) ∙ c.loop-place.invariant.so_far bound fits ∙ Iterating.fold_end _ _ _ _ _ _ _ _ _ (Rows.entries_end _ _ c.args.sequence.now _ c.in-Some.is c.try_len.ensures past)
 
 pub iterate::apply_each-returns-in_default-clause-meant : goal.iterate::apply_each-returns-in_default-clause-meant
 iterate::apply_each-returns-in_default-clause-meant g t c bound fits = known_none _ _ _ _ _ _ (Rows.rows_unknown _ (sym c.width.ensures ∙ Rows.none_if_not _ c.in_default.not-Some))
@@ -828,11 +828,11 @@ calls::evaluate_body-returns-in_err-push_layer-clause-meant g t c outer fits = m
 
 pub iterate::fold-returns-in_err-entry-clause-meant : goal.iterate::fold-returns-in_err-entry-clause-meant
 iterate::fold-returns-in_err-entry-clause-meant g t c bound fits = memory_fails _ _ _ _ _ _ _ _ (err_from_is_err_and c.from_residual.result c.from_residual.ensures.1)
-    (known_some _ _ _ _ _ (λ xs. folded (applied c.args.below) (scope_of c.args.context.now bound) (callee_seen c.args.callee.now) xs c.args.start) _ (Rows.entries_known _ c.args.sequence.now _ c.in-Some.is c.try_len.ensures) ∙ ap (λ v. watched (costs_of c.args.context.now) c.args.meter.now (g.W.Watch.seen c.args.watch.now) (folded (applied c.args.below) (scope_of c.args.context.now bound) (callee_seen c.args.callee.now) (entries_from 0 c.args.sequence.now) v c.args.world.now.stack.top)) (sym c.start.view_is) ∙ c.loop-place.invariant.so_far bound fits)
+    (known_some _ _ _ _ _ (λ xs. folded (applied c.args.below) (scope_of c.args.context.now bound) (callee_seen c.args.callee.now) xs c.args.start) _ (Rows.entries_known _ c.args.sequence.now _ c.in-Some.is c.try_len.ensures) ∙ c.loop-place.invariant.so_far bound fits)
 
 pub iterate::fold-returns-in_err-values-in-Some-2-clause-meant : goal.iterate::fold-returns-in_err-values-in-Some-2-clause-meant
 iterate::fold-returns-in_err-values-in-Some-2-clause-meant g t c bound fits = memory_fails _ _ _ _ _ _ _ _ (err_from_is_err_and c.from_residual-in_err-values-in-Some-2.result c.from_residual-in_err-values-in-Some-2.ensures.1)
-    (known_some _ _ _ _ _ (λ xs. folded (applied c.args.below) (scope_of c.args.context.now bound) (callee_seen c.args.callee.now) xs c.args.start) _ (Rows.entries_known _ c.args.sequence.now _ c.in-Some.is c.try_len.ensures) ∙ ap (λ v. watched (costs_of c.args.context.now) c.args.meter.now (g.W.Watch.seen c.args.watch.now) (folded (applied c.args.below) (scope_of c.args.context.now bound) (callee_seen c.args.callee.now) (entries_from 0 c.args.sequence.now) v c.args.world.now.stack.top)) (sym c.start.view_is) ∙ c.loop-place.invariant.so_far bound fits)
+    (known_some _ _ _ _ _ (λ xs. folded (applied c.args.below) (scope_of c.args.context.now bound) (callee_seen c.args.callee.now) xs c.args.start) _ (Rows.entries_known _ c.args.sequence.now _ c.in-Some.is c.try_len.ensures) ∙ c.loop-place.invariant.so_far bound fits)
 
 pub iterate::apply_each-returns-in_err-row-clause-meant : goal.iterate::apply_each-returns-in_err-row-clause-meant
 iterate::apply_each-returns-in_err-row-clause-meant g t c bound fits = onto_memory _ _ _ _ _ _ _ _ (err_from_is_err_and c.from_residual.result c.from_residual.ensures.1)

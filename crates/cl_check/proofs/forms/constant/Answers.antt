@@ -13,4 +13,4 @@ pub returns-in_err-add_constant : goal.returns-in_err-add_constant
 returns-in_err-add_constant c = no_memory c.args.ctx.now c.add_constant.new.ctx (record { name = Some c.args.name.now; kind = ConstantForm c.args.e.now; span = c.args.span }) c.from_residual-in_err-add_constant.result c.from_residual-in_err-add_constant.ensures.1
 
 pub returns : goal.returns
-returns c = constant_made c.args.ctx.now c.add_constant.new.ctx c.args.name.now c.args.span c.in_ok-add_constant.ensures.names c.args.e.now c.in-Ok.found c.in_ok-ty.ty c.code_of.result (c.in_ok-ty.ensures ∙ c.result.ensures) c.code_of.ensures c.in-Ok.ensures.constant c.in-Ok.ensures.text c.in_ok-add_constant.ensures.shown
+returns c = constant_made c.args.ctx.now c.add_constant.new.ctx c.args.name.now c.args.span c.in_ok-add_constant.ensures.names c.args.e.now c.in-Ok.found c.in_ok-ty.ty c.into_code.result (c.in_ok-ty.ensures ∙ c.result.ensures) c.into_code.ensures c.in-Ok.ensures.constant c.in-Ok.ensures.text c.in_ok-add_constant.ensures.shown

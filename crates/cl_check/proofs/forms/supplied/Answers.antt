@@ -13,4 +13,4 @@ pub returns-in_err-add_fungible : goal.returns-in_err-add_fungible
 returns-in_err-add_fungible c = no_memory c.args.ctx.now c.add_fungible.new.ctx (record { name = Some c.args.name.now; kind = FungibleForm (Some c.args.e.now); span = c.args.span }) c.from_residual-in_err-add_fungible.result c.from_residual-in_err-add_fungible.ensures.1
 
 pub returns : goal.returns
-returns c = supplied_made c.args.ctx.now c.add_fungible.new.ctx c.args.name.now c.args.span c.in_ok-add_fungible.ensures.names c.args.e.now c.in-Ok.found c.code_of.result c.code_of.ensures (c.in-Ok.ensures.supply c.in_ok-uint.ensures) c.in-Ok.ensures.text c.in_ok-add_fungible.ensures.shown
+returns c = supplied_made c.args.ctx.now c.add_fungible.new.ctx c.args.name.now c.args.span c.in_ok-add_fungible.ensures.names c.args.e.now c.in-Ok.found c.into_code.result c.into_code.ensures (c.in-Ok.ensures.supply c.in_ok-uint.ensures) c.in-Ok.ensures.text c.in_ok-add_fungible.ensures.shown

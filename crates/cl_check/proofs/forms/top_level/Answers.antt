@@ -7,4 +7,4 @@ pub returns-in-Err : goal.returns-in-Err
 returns-in-Err c = form_fails c.args.ctx.now c.args.ctx.now None (ExpressionForm c.args.e.now) c.args.span c.in-Err.fault c.in-Err.ensures.expression
 
 pub returns : goal.returns
-returns c = top_level_made c.args.ctx.now c.args.span c.args.e.now c.in-Ok.found c.code_of.result c.code_of.ensures c.in-Ok.ensures.expression c.in-Ok.ensures.text
+returns c = top_level_made c.args.ctx.now c.args.span c.args.e.now c.in-Ok.found c.into_code.result c.into_code.ensures c.in-Ok.ensures.expression c.in-Ok.ensures.text

@@ -16,4 +16,4 @@ pub returns-in_err-add_variable : goal.returns-in_err-add_variable
 returns-in_err-add_variable c = no_memory c.args.ctx.now c.add_variable.new.ctx (record { name = Some c.args.name.now; kind = VariableForm c.args.ty.now c.args.e.now; span = c.args.span }) c.from_residual-in_err-add_variable.result c.from_residual-in_err-add_variable.ensures.1
 
 pub returns : goal.returns
-returns c = variable_made c.args.ctx.now c.add_variable.new.ctx c.args.name.now c.args.span c.in_ok-add_variable.ensures.names c.args.ty.now c.args.e.now c.in-Ok.found c.in_ok-kept.kept c.in_ok-ty.ty c.code_of.result c.in_ok-kept.ensures c.in_ok-ty.ensures c.code_of.ensures c.in-Ok.ensures.variable c.in-Ok.ensures.text c.in_ok-add_variable.ensures.shown
+returns c = variable_made c.args.ctx.now c.add_variable.new.ctx c.args.name.now c.args.span c.in_ok-add_variable.ensures.names c.args.ty.now c.args.e.now c.in-Ok.found c.in_ok-kept.kept c.in_ok-ty.ty c.into_code.result c.in_ok-kept.ensures c.in_ok-ty.ensures c.into_code.ensures c.in-Ok.ensures.variable c.in-Ok.ensures.text c.in_ok-add_variable.ensures.shown

@@ -10,9 +10,9 @@ value_of-requires c = holder_spells c.args.bytes.now c.requires
 pub unreachable-requires : goal.unreachable-requires
 unreachable-requires c =
     let v = value_read c.read_back.ensures c.args.bytes.now c.in_ok-value.value (holder_spells c.args.bytes.now c.requires) c.in_ok-value.ensures in
-    other_kind c.behind-value.inside.kind c.requires.0 (c.behind-value.view_is ∙ c.value-2.ensures.tree ∙ v) c.in_default.not-Principal
+    other_kind c.behind-value.inside.kind c.requires.0 (c.behind-value.view_is ∙ c.value.ensures.tree ∙ v) c.in_default.not-Principal
 
 pub returns-clause-spelled : goal.returns-clause-spelled
 returns-clause-spelled c =
     let v = value_read c.read_back.ensures c.args.bytes.now c.in_ok-value.value (holder_spells c.args.bytes.now c.requires) c.in_ok-value.ensures in
-    ap wire (ap tree_of (sym c.in-Principal.is) ∙ c.behind-value.view_is ∙ c.value-2.ensures.tree ∙ v) ∙ sym c.requires.2
+    ap wire (ap tree_of (sym c.in-Principal.is) ∙ c.behind-value.view_is ∙ c.value.ensures.tree ∙ v) ∙ sym c.requires.2
