@@ -20,7 +20,7 @@ use cl_types::NoMemory;
 use std::alloc::Global;
 
 /// How an entry ended.
-#[derive(Clone, Copy, Debug, PartialEq, Eq)]
+#[derive(Clone, Copy)]
 pub(crate) enum End {
     /// With what it changed: the contract is deployed, a value or an ok was given, or a block
     /// begins.

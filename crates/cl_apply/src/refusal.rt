@@ -2,7 +2,7 @@
 use cl_arith::ArithRefusal;
 
 /// Why a native that is defined at its arguments gives no value.
-#[derive(Clone, Copy, Debug, PartialEq, Eq)]
+#[derive(Clone, Copy)]
 pub enum ApplyRefusal {
     /// Arithmetic has no result (A1 to A4).
     Arith(ArithRefusal),

@@ -13,14 +13,14 @@ mod roots;
 mod uints;
 
 /// A number of one of the two kinds.
-#[derive(Clone, Copy, PartialEq, Eq, Debug)]
+#[derive(Clone, Copy)]
 pub enum Num {
     Int(i128),
     Uint(u128),
 }
 
 /// Why an operation has no result.
-#[derive(Clone, Copy, PartialEq, Eq, Debug)]
+#[derive(Clone, Copy)]
 pub enum ArithRefusal {
     /// The result is above the greatest number of its kind.
     Overflow = 1,

@@ -7,7 +7,7 @@ ghost use Rattle.cl_bound.specs.Sums.{fitting, told, Increases};
 use cl_shapes::{Cost5, Dimension};
 
 /// A sum of costs: the number in each dimension, None where it is above 2^128-1.
-#[derive(Clone, Copy, PartialEq, Eq, Debug)]
+#[derive(Clone, Copy)]
 pub(crate) struct Sum {
     pub(crate) runtime: Option<u128>,
     pub(crate) read_count: Option<u128>,

@@ -4,7 +4,7 @@ ghost use Rattle.std.specs.Prelude.{◌≡◌, ◌<◌, ◌++◌, [], ◌∷◌,
 use std::marker::Model;
 
 /// The text of an address, at most 48 ASCII characters. Contracts see it as the list of its bytes.
-#[derive(Clone, Copy, Debug)]
+#[derive(Clone, Copy)]
 pub struct AddressText {
     bytes: [u8; 48],
     len: u8,

@@ -12,7 +12,7 @@ use crate::digits::{bytes_of_digits, digits_of_bytes, leading_zeros};
 use sha2::{Digest, Sha256};
 
 /// Why a text is no address.
-#[derive(Clone, Copy, Debug, PartialEq, Eq)]
+#[derive(Clone, Copy)]
 pub enum C32Refusal {
     /// The byte at this place isn't the `S` in front, or is no character of the alphabet behind it.
     BadCharacter { at: u32 },

@@ -16,7 +16,7 @@ use std::marker::Model;
 
 /// The name of a contract: a letter followed by letters, digits, `-` and `_`, at most 128 bytes.
 /// Contracts see it as the list of its bytes.
-#[derive(Clone, Copy, Debug)]
+#[derive(Clone, Copy)]
 pub struct ContractName {
     cells: [u8; 128],
     len: u8,

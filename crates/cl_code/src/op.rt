@@ -21,7 +21,7 @@ pub struct Binding {
 }
 
 /// A native all of whose arguments are parts, and that isn't on values alone.
-#[derive(Clone, Copy, Debug, PartialEq, Eq)]
+#[derive(Clone, Copy)]
 pub enum PartsNative {
     /// `if`
     If,
@@ -53,7 +53,7 @@ pub enum PartsNative {
 
 /// A native whose first argument is the name of a key, a variable, a map or a token, which isn't
 /// evaluated.
-#[derive(Clone, Copy, Debug, PartialEq, Eq)]
+#[derive(Clone, Copy)]
 pub enum NameNative {
     /// `get`
     Get,
@@ -90,7 +90,7 @@ pub enum NameNative {
 }
 
 /// A native that applies what is given by name to the entries of sequences.
-#[derive(Clone, Copy, Debug, PartialEq, Eq)]
+#[derive(Clone, Copy)]
 pub enum Iteration {
     /// `map`
     Map,

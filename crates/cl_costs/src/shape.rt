@@ -6,7 +6,7 @@ use cl_shapes::Shape;
 use serde_json::Value;
 
 /// Why a value gives no shape.
-#[derive(Clone, Copy, PartialEq, Eq, Debug)]
+#[derive(Clone, Copy)]
 pub(crate) enum ShapeFault {
     /// It isn't one.
     NoShape,

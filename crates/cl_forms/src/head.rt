@@ -2,7 +2,7 @@
 use cl_values::Native;
 
 /// A native that changes balances or owners.
-#[derive(Clone, Copy, Debug, PartialEq, Eq)]
+#[derive(Clone, Copy)]
 pub enum TokenNative {
     /// `ft-mint?`
     MintFt,
@@ -23,7 +23,7 @@ pub enum TokenNative {
 }
 
 /// A native.
-#[derive(Clone, Copy, Debug, PartialEq, Eq)]
+#[derive(Clone, Copy)]
 pub enum Head {
     /// A native on values alone.
     OnValues(Native),

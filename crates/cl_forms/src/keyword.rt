@@ -1,7 +1,7 @@
 //! The keywords (SIP-002).
 
 /// A name that stands for a value in every contract.
-#[derive(Clone, Copy, Debug, PartialEq, Eq)]
+#[derive(Clone, Copy)]
 pub enum Keyword {
     /// `true`
     True,

@@ -8,7 +8,7 @@ use cl_shapes::{Meter, Over};
 use cl_types::Fault;
 
 /// How a call aborts.
-#[derive(Clone, Copy, Debug, PartialEq, Eq)]
+#[derive(Clone, Copy)]
 pub enum Abort {
     /// A1: a result is above the greatest number of its kind.
     Overflow,

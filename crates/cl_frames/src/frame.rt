@@ -2,7 +2,7 @@
 use cl_c32::Principal;
 
 /// Where code is evaluated.
-#[derive(Clone, Copy, Debug, PartialEq, Eq)]
+#[derive(Clone, Copy)]
 pub struct Frame {
     /// The contract whose code it is.
     pub contract: Principal,

@@ -5,7 +5,7 @@ ghost use Rattle.cl_frames.specs.Tails.{taking_of};
 use cl_code::NameNative;
 
 /// Which parts a native with a name takes.
-#[derive(Clone, Copy, Debug, PartialEq, Eq)]
+#[derive(Clone, Copy)]
 pub enum Taking {
     /// It has no parts.
     Nothing,

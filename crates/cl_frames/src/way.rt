@@ -13,7 +13,7 @@ use crate::stop::Stop;
 use cl_values::{Kind, Val, Value};
 
 /// How an optional or a response is.
-#[derive(Clone, Copy, Debug, PartialEq, Eq)]
+#[derive(Clone, Copy)]
 pub enum Way {
     /// some or ok
     Good,

@@ -8,7 +8,7 @@ use serde_json::Value;
 use std::alloc::Global;
 
 /// The bytes are no JSON text in UTF-8.
-#[derive(Clone, Copy, PartialEq, Eq, Debug)]
+#[derive(Clone, Copy)]
 pub struct NotJson;
 
 /// Reads a JSON text in UTF-8, without a byte order mark and with arrays and objects at most 127 deep.

@@ -7,7 +7,7 @@ ghost use Rattle.cl_listeners.specs.Hearing.{with_more, one};
 use cl_events::Event;
 
 /// A listener failed to hear an event.
-#[derive(Clone, Copy, Debug, PartialEq, Eq)]
+#[derive(Clone, Copy)]
 pub struct Deaf;
 
 /// What hears events.

@@ -10,7 +10,7 @@ use std::alloc::Global;
 
 /// A rule that a source may break. The comments tell where it is broken, and the span if it isn't that of the
 /// expression (from `C1` on), the item (`F1` to `F5`) or the token.
-#[derive(Clone, Copy, Debug, PartialEq, Eq)]
+#[derive(Clone, Copy)]
 pub enum Rule {
     /// T1: a byte that no text may hold, or in a string a tab, LF or CR.
     BadByte,
@@ -151,7 +151,7 @@ impl Rule {
 }
 
 /// A rule that is broken, and where.
-#[derive(Clone, Copy, Debug, PartialEq, Eq)]
+#[derive(Clone, Copy)]
 pub struct Break {
     pub rule: Rule,
     pub span: Span,

@@ -2,7 +2,7 @@ ghost use Rattle.std.specs.Prelude.{◌≡◌, ◌↔◌, None, Some};
 ghost use Rattle.cl_shapes.specs.Costs.{Cost5, Dimension, part, dimension_name, dimensions, plus, times, greater, first_above, IsAtMost, IsFirstAbove, counted};
 
 /// One of the five dimensions of a cost (SIP-006), in the order that holds everywhere.
-#[derive(Clone, Copy, PartialEq, Eq, Debug)]
+#[derive(Clone, Copy)]
 pub enum Dimension {
     Runtime,
     ReadCount,
@@ -41,7 +41,7 @@ impl Dimension {
 }
 
 /// A cost: a whole number in each dimension.
-#[derive(Clone, Copy, PartialEq, Eq, Debug)]
+#[derive(Clone, Copy)]
 pub struct Cost5 {
     pub runtime: u128,
     pub read_count: u128,

@@ -5,7 +5,7 @@ ghost use Rattle.cl_shapes.specs.Functions.{shape_at, cost_at, log2, IsLog2};
 use crate::cost::Cost5;
 
 /// How a cost rises with a number `n`. The logarithm is to base 2, rounded down, and that of 0 is 0.
-#[derive(Clone, Copy, PartialEq, Eq, Debug)]
+#[derive(Clone, Copy)]
 pub enum Shape {
     /// `b`
     Constant(u32),
@@ -43,7 +43,7 @@ fn log2(n: u64) -> u32
 }
 
 /// What one name of a cost table costs at a number: a shape for each dimension.
-#[derive(Clone, Copy, PartialEq, Eq, Debug)]
+#[derive(Clone, Copy)]
 pub struct CostFn {
     pub runtime: Shape,
     pub read_count: Shape,

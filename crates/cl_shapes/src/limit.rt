@@ -5,7 +5,7 @@ use crate::cost::{Cost5, Dimension};
 use std::marker::Model;
 
 /// A charge that was refused, since the sum would have been above the limit.
-#[derive(Clone, Copy, PartialEq, Eq, Debug)]
+#[derive(Clone, Copy)]
 pub struct Over {
     /// The first dimension in which the sum is above the limit.
     pub dimension: Dimension,
@@ -16,7 +16,7 @@ pub struct Over {
 }
 
 /// How much was spent of a limit, which is never above it in any dimension.
-#[derive(Drop, Debug)]
+#[derive(Drop)]
 pub struct Meter {
     limit: Cost5,
     spent: Cost5,

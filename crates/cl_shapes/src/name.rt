@@ -4,7 +4,7 @@ ghost use Rattle.cl_shapes.specs.Names.{cost_name, cost_names, unit_function};
 use crate::function::{CostFn, Shape};
 
 /// What is charged for (SIP-006), in the order of the cost file.
-#[derive(Clone, Copy, PartialEq, Eq, Debug)]
+#[derive(Clone, Copy)]
 pub enum CostName {
     Literal,
     Lookup,

@@ -4,7 +4,7 @@ use cl_types::Name;
 use cl_values::Val;
 
 /// What a row tells of.
-#[derive(Clone, Copy, PartialEq, Eq)]
+#[derive(Clone, Copy)]
 pub enum RowKind {
     Variable,
     MapEntry,

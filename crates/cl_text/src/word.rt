@@ -6,7 +6,7 @@ use cl_sexpr::{Node, Sexpr};
 use cl_types::Name;
 
 /// A name that is a value or stands in front of one's parts, or any other.
-#[derive(Clone, Copy, Debug, PartialEq, Eq)]
+#[derive(Clone, Copy)]
 pub enum Word {
     True,
     False,

@@ -10,7 +10,7 @@ use cl_values::Val;
 use std::marker::Model;
 
 /// Why an entry stops in the middle. All that it changed is undone, and its charges stay.
-#[derive(Clone, Copy, PartialEq, Eq, Debug)]
+#[derive(Clone, Copy)]
 pub enum Stop {
     /// A1: a result above the greatest number of its type.
     Overflow,

@@ -2,11 +2,11 @@
 use std::alloc::{AllocError, AllocFailed};
 
 /// Memory ran out. It may come at any call that takes memory, and is merged with no other answer.
-#[derive(Clone, Copy, Debug, PartialEq, Eq)]
+#[derive(Clone, Copy, Debug)]
 pub struct NoMemory;
 
 /// Why a call that takes memory gives no value: it refuses, with the refusal `R`, or memory ran out.
-#[derive(Debug, Drop)]
+#[derive(Drop)]
 pub enum Fault<R> {
     Refused(R),
     NoMemory,

@@ -13,7 +13,7 @@ use std::alloc::Global;
 use std::marker::Model;
 
 /// Who may call a function of a contract.
-#[derive(Clone, Copy, Debug, PartialEq, Eq)]
+#[derive(Clone, Copy)]
 pub enum Access {
     /// Called by anyone; it may change the state.
     Public,
@@ -24,7 +24,7 @@ pub enum Access {
 }
 
 /// Why there is no type.
-#[derive(Clone, Copy, Debug, PartialEq, Eq)]
+#[derive(Clone, Copy)]
 pub enum TyRefusal {
     /// No type admits both.
     Differ,

@@ -2,7 +2,7 @@
 use cl_arith::ArithRefusal;
 
 /// Why a native gives no value.
-#[derive(Clone, Copy, Debug, PartialEq, Eq)]
+#[derive(Clone, Copy)]
 pub enum NoValue {
     /// Arithmetic has no result (A1 to A4).
     Arith(ArithRefusal),
