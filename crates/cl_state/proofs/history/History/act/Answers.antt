@@ -17,8 +17,13 @@ deed_of-requires c = change_has_act c.args.contract.now c.args.kind.now c.args.s
 
 pub returns-in_err-reserve : goal.returns-in_err-reserve
 returns-in_err-reserve c =
-    gave_up _ c.args.self.now _ c.from_residual-in_err-reserve.result c.from_residual-in_err-reserve.ensures.1
+    gave_up _ c.args.self.now _ c.from_residual.result c.from_residual.ensures.1
     (ap (λ xs. past_of xs (held_in c.self.inside.tables)) c.in_err-reserve.ensures.items ∙ c.self.view_is)
+
+pub returns-in_err-deed : goal.returns-in_err-deed
+returns-in_err-deed c =
+    gave_up _ c.args.self.now _ c.from_residual-in_err-deed.result c.from_residual-in_err-deed.ensures.1
+    (ap (λ xs. past_of xs (held_in c.self.inside.tables)) c.in_ok-reserve.ensures.items ∙ c.self.view_is)
 
 pub act-requires-clause-defined : goal.act-requires-clause-defined
 act-requires-clause-defined c =
