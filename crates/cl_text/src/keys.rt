@@ -72,7 +72,6 @@ fn pair_key(item: &Sexpr) -> Option<Name>
     }
 }
 
-#[tactic(auto, using(crate::proofs::Rows::pair_keys_begin, crate::proofs::Rows::pair_keys_more, crate::proofs::Rows::pair_keys_none))]
 fn pair_keys(alloc: Global, items: &[Sexpr]) -> Result<Option<Vec<Name>>, AllocError>
     ensures { IfOk result (λ keys. option_map (λ ks. ks.items) keys ≡ pair_keys (forest items.now)) }
 {
