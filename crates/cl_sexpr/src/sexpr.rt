@@ -90,7 +90,6 @@ impl Sexpr {
 }
 
 #[cycle(copy)]
-#[tactic(auto, using(crate::specs::ViewFalls::part_falls))]
 fn copy_all(alloc: Global, items: &[Sexpr]) -> Result<Vec<Sexpr>, AllocError>
     ensures { IfOk result (λ v. v.items ≡ items.now) }
 {
@@ -102,7 +101,6 @@ fn copy_all(alloc: Global, items: &[Sexpr]) -> Result<Vec<Sexpr>, AllocError>
 }
 
 #[cycle(copy)]
-#[tactic(auto, using(crate::specs::ViewFalls::pair_falls))]
 fn copy_pairs(alloc: Global, pairs: &[(Name, Sexpr)]) -> Result<Vec<(Name, Sexpr)>, AllocError>
     ensures { IfOk result (λ v. v.items ≡ pairs.now) }
 {

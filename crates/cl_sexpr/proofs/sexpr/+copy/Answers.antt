@@ -1,0 +1,34 @@
+use Rattle.std.proofs.Common.{◌≡◌, ◌+◌, ◌<◌, ℕ, List, [], ◌∷◌, ◌++◌, length, take, get_or, arith, ap, sym, ◌∙◌}
+use Rattle.std.proofs.lemmas.List.{take_more, take_all}
+use Rattle.cl_sexpr.specs.Tree.{Tree, tree_size}
+use Rattle.cl_sexpr.specs.ViewFalls.{part_falls, pair_falls}
+use Rattle.cl_sexpr.proofs.sexpr.+copy.Goals as goal
+
+-- one more copy of a row
+copied : {X : Type 0} (xs copies : List X) (i : ℕ) (x copy : X) → i < length xs → x ≡ get_or xs i x → copies ≡ take i xs → copy ≡ x → copies ++ copy ∷ [] ≡ take (i + 1) xs
+copied {X = X} xs copies i x copy h at so_far same =
+    ap (λ (ys : List X). ys ++ copy ∷ []) so_far ∙ ap (λ (y : X). take i xs ++ y ∷ []) (same ∙ at) ∙ sym (take_more xs i x h)
+
+pub copy_all-loop-item-preserved : goal.copy_all-loop-item-preserved
+copy_all-loop-item-preserved t c =
+    c.in_ok-push.ensures.items
+    ∙ copied c.args.items.now c.loop-item.copies.items c.loop-item.item-index c.item-item.result c.in_ok-copy.field-0 c.loop-item-test.true c.item-item.is c.loop-item.invariant c.in_ok-copy.ensures
+
+pub copy_all-returns : goal.copy_all-returns
+copy_all-returns t c = c.loop-item.invariant ∙ take_all c.loop-item.item-index c.args.items.now c.loop-item-test.false
+
+pub copy_pairs-loop-pair-preserved : goal.copy_pairs-loop-pair-preserved
+copy_pairs-loop-pair-preserved t c =
+    c.in_ok-push.ensures.items
+    ∙ copied c.args.pairs.now c.loop-pair.copies.items c.loop-pair.pair-index c.pair-item.result (c.pair-item.result.0, c.in_ok-copy.field-0) c.loop-pair-test.true c.pair-item.is c.loop-pair.invariant (ap (λ (v : Tree). (c.pair-item.result.0, v)) c.in_ok-copy.ensures)
+
+pub copy_pairs-returns : goal.copy_pairs-returns
+copy_pairs-returns t c = c.loop-pair.invariant ∙ take_all c.loop-pair.pair-index c.args.pairs.now c.loop-pair-test.false
+
+pub copy_all-copy-requires : goal.copy_all-copy-requires
+copy_all-copy-requires t c =
+    (omega (arith, part_falls c.args.items.now c.loop-item.item-index c.item-item.result c.loop-item-test.true, ap tree_size c.item-item.is, c.decreases), tt)
+
+pub copy_pairs-copy-requires : goal.copy_pairs-copy-requires
+copy_pairs-copy-requires t c =
+    (omega (arith, pair_falls c.args.pairs.now c.loop-pair.pair-index c.pair-item.result c.loop-pair-test.true, ap (λ (p : List ℕ × Tree). tree_size p.1) c.pair-item.is, c.decreases), tt)
