@@ -1,4 +1,4 @@
-use Rattle.std.proofs.Common.{ℕ, ◌+◌, List, arith, ap}
+use Rattle.std.proofs.Common.{ℕ, List, arith, ap}
 use Rattle.std.proofs.lemmas.List.{drop_all}
 use Rattle.cl_values.specs.Tree.{Tree, items_of, entries_of, items_depth, entries_depth}
 use Rattle.cl_values.specs.ViewFalls.{item_lighter, entry_falls}

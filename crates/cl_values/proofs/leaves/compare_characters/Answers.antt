@@ -1,4 +1,4 @@
-use Rattle.std.proofs.Common.{◌≡◌, ◌+◌, ◌-◌, ℕ, length, refl, arith, ap, sym, ◌∙◌, nat_cmp}
+use Rattle.std.proofs.Common.{◌≡◌, ◌-◌, ℕ, length, refl, arith, ap, sym, ◌∙◌, nat_cmp}
 use Rattle.std.specs.Prelude.{encode_utf8_all}
 use Rattle.std.specs.declared.cmp.Ordering.{Ordering}
 use Rattle.std.specs.Ordering.{ordering_then}

@@ -1,4 +1,4 @@
-use Rattle.std.proofs.Common.{ℕ, ◌+◌, List, arith, ap, sym, subst}
+use Rattle.std.proofs.Common.{ℕ, List, arith, ap, sym, subst}
 use Rattle.std.proofs.lemmas.List.{drop_all}
 use Rattle.cl_values.specs.Tree.{Tree, items_of, entries_of}
 use Rattle.cl_values.specs.Wire.{items_size, entries_size}

@@ -1,9 +1,9 @@
-use Rattle.std.proofs.Common.{ℕ, ◌≡◌, ◌+◌, ◌&&◌, Bool, List, [], drop, arith, ap, sym, ◌∙◌}
+use Rattle.std.proofs.Common.{ℕ, ◌+◌, ◌&&◌, Bool, List, drop, arith, ap, sym, ◌∙◌}
 use Rattle.std.proofs.lemmas.List.{drop_all}
 use Rattle.cl_values.specs.Tree.{Tree, items_of, entries_of}
 use Rattle.cl_values.specs.ViewFalls.{item_lighter, entry_falls}
 use Rattle.cl_values.specs.Rows.{items_at, entries_at}
-use Rattle.cl_values.specs.Valid.{has_good_texts, items_have_good_texts, entries_have_good_texts}
+use Rattle.cl_values.specs.Valid.{items_have_good_texts, entries_have_good_texts}
 use Rattle.cl_values.proofs.texts.+texts.Goals as goal
 
 pub items_have_good_texts-has_good_texts-requires : goal.items_have_good_texts-has_good_texts-requires
