@@ -1,5 +1,5 @@
 -- Rows of match and try.
-use Rattle.std.proofs.Common.{◌≡◌, Bool, true, false, List, [], ◌∷◌, length, Result, Ok, Err, refl, sym, ap, subst, arith}
+use Rattle.std.proofs.Common.{◌≡◌, Bool, true, false, List, [], ◌∷◌, length, map, get_or, Result, Ok, Err, refl, sym, ap, subst, arith}
 use Rattle.std.specs.Prelude.{nat_le, ◌&&◌}
 use Rattle.std.proofs.lemmas.Bool.{and_parts, and_from, leb-true, le-leb}
 use Rattle.cl_types.specs.Types.{PlainType, NoType, OptionalType, ResponseType, size_of}
@@ -37,6 +37,14 @@ optional_at ts t u v r is h = subst (λ (us : List PlainType). Rules (optional_r
 
 pub response_at : (ts : List PlainType) (t u v : PlainType) (r : Result PlainType (Fault Rule)) → ts ≡ t ∷ u ∷ v ∷ [] → Rules (response_row (t ∷ u ∷ v ∷ [])) r → Rules (response_row ts) r
 response_at ts t u v r is h = subst (λ (us : List PlainType). Rules (response_row us) r) (sym is) h
+
+-- three things that are read one by one
+pub three_read : {A B : Type 0} (f : A → B) (xs : List A) (a b c : A) → length xs ≡ 3 → a ≡ get_or xs 0 a → b ≡ get_or xs 1 b → c ≡ get_or xs 2 c → map f xs ≡ f a ∷ f b ∷ f c ∷ []
+three_read f [] a b c n p q r = absurd (omega (arith, n))
+three_read f (x ∷ []) a b c n p q r = absurd (omega (arith, n))
+three_read f (x ∷ y ∷ []) a b c n p q r = absurd (omega (arith, n))
+three_read f (x ∷ y ∷ z ∷ []) a b c n p q r = λ i. f (sym p i) ∷ f (sym q i) ∷ f (sym r i) ∷ []
+three_read f (x ∷ y ∷ z ∷ w ∷ xs) a b c n p q r = absurd (omega (arith, n))
 
 -- ---- the verdicts on matches are those of their rows
 

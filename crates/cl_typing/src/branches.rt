@@ -76,7 +76,6 @@ fn response_branches(
 }
 
 /// A match of an optional: its input, and the branches of its part and of none.
-#[tactic(auto, using(crate::proofs::BranchRows::optional_at, crate::proofs::BranchRows::optional_else))]
 pub fn match_optional(alloc: Global, types: &[&SizedTy]) -> Result<SizedTy, Fault<Rule>>
     ensures { Rules (optional_row (map (λ t. t.now) types.now)) result }
 {
@@ -87,7 +86,6 @@ pub fn match_optional(alloc: Global, types: &[&SizedTy]) -> Result<SizedTy, Faul
 }
 
 /// A match of a response: its input, and the branches of its ok and of its err.
-#[tactic(auto, using(crate::proofs::BranchRows::response_at, crate::proofs::BranchRows::response_else))]
 pub fn match_response(alloc: Global, types: &[&SizedTy]) -> Result<SizedTy, Fault<Rule>>
     ensures { Rules (response_row (map (λ t. t.now) types.now)) result }
 {
