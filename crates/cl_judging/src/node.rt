@@ -63,7 +63,6 @@ fn at(fault: Fault<Rule>, span: Span) -> Fault<Break>
 }
 
 /// The node with these parts, where its verdict breaks no rule.
-#[tactic(auto, using(crate::proofs::Finishing::finish_holds, crate::proofs::Finishing::finish_fails))]
 pub(crate) fn finish(
     alloc: Global,
     op: Op,
