@@ -5,7 +5,7 @@ ghost use Rattle.cl_app.specs.Words.{texts, is_dashed, keeps_rule, flag_in, posi
 
 use cl_types::NoMemory;
 use clap::{Arg, ArgAction, ArgMatches, Command};
-use std::alloc::Global;
+use std::alloc::{AllocError, Global};
 
 /// The positional words of a command line that keeps the rule, and whether `--state` is there.
 #[derive(Drop)]
@@ -120,21 +120,21 @@ fn found(alloc: Global, matches: &ArgMatches) -> Result<Line, NoMemory> {
     })
 }
 
+/// The command line as `clap` is told of it: positional words, and the flag.
+fn command<'a>(alloc: Global) -> Result<Command<'a>, AllocError> {
+    let bare = Command::new(alloc, "clarity")
+        .no_binary_name(true)
+        .disable_help_flag(true);
+    let led = bare.arg(Arg::new(alloc, "COMMAND"))?;
+    let positional = led.arg(Arg::new(alloc, "WORDS").action(ArgAction::Append))?;
+    let state = Arg::new(alloc, "state").long("state");
+    positional.arg(state.action(ArgAction::SetTrue))
+}
+
 /// What `clap` makes of words that keep the rule. It refuses none of them: where it fails, memory
 /// ran out. No clause speaks of what it gives, since that is tested.
 fn by_clap(alloc: Global, words: &[String]) -> Result<Line, NoMemory> {
-    let command_word = Arg::new(alloc, "COMMAND");
-    let others = Arg::new(alloc, "WORDS").action(ArgAction::Append);
-    let state = Arg::new(alloc, "state")
-        .long("state")
-        .action(ArgAction::SetTrue);
-    let command = Command::new(alloc, "clarity")
-        .no_binary_name(true)
-        .disable_help_flag(true)
-        .arg(command_word)?
-        .arg(others)?
-        .arg(state)?;
-    let Ok(matches) = command.try_get_matches_from(words) else {
+    let Ok(matches) = command(alloc)?.try_get_matches_from(words) else {
         return Err(NoMemory);
     };
     let line = found(alloc, &matches);
