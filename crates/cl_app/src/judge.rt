@@ -8,7 +8,7 @@ ghost use Rattle.cl_report.specs.Checks.{accepted_lines, refused_line};
 ghost use Rattle.cl_app.specs.Checked.{IsReport};
 ghost use Rattle.cl_engine.specs.Deploying.{type_returned};
 ghost use Rattle.cl_app.specs.Checking.{AreApart, IsBounded, IsChecked, IsKept, Judges};
-ghost use Rattle.cl_app.specs.Reply.{answer_of};
+ghost use Rattle.cl_app.specs.Reply.{answer_of, bytes_of};
 ghost use Rattle.cl_app.specs.Top.{IsOwnStatus};
 
 use crate::pieces::Reply;
@@ -167,6 +167,38 @@ fn judge(
     }
 }
 
+/// Judges sources, with a piece for each, up to the first that is refused, and gives the status.
+fn judge_all(
+    alloc: Global,
+    deployed: &mut Deployed,
+    known: &mut KnownBounds,
+    pieces: &mut Vec<Vec<u8>>,
+    sources: &[Source],
+    costs: &CostTable,
+) -> Result<u8, NoMemory>
+    requires apart { AreApart sources.now }
+    requires none { deployed.old.contracts.entries ≡ [] }
+    requires indexed { AreIndexed deployed.old }
+    requires known { AreBounds (function_of costs.now) deployed.old.contracts.entries known.old }
+    requires empty { pieces.old.items ≡ [] }
+    ensures answer { IfOk result
+        (λ status. IsReport (function_of costs.now) [] sources.now
+        (record { bytes = bytes_of pieces.new.items; status = status })) }
+    ensures status { IfOk result (λ status. IsOwnStatus status × (status ≢ 2)) }
+{
+    for source in sources {
+        let judged = judge(alloc, deployed, known, source, costs)?;
+        match judged {
+            Judged::Accepted(text) => pieces.push(text)?,
+            Judged::Refused(text) => {
+                pieces.push(text)?;
+                return Ok(6);
+            }
+        }
+    }
+    Ok(0)
+}
+
 /// The report of sources, a piece for each, up to the first that is refused.
 pub(crate) fn report(
     alloc: Global,
@@ -181,15 +213,16 @@ pub(crate) fn report(
     let mut deployed = Deployed::new(alloc);
     let mut known = KnownBounds::new(alloc);
     let mut pieces = Vec::new(alloc);
-    for source in sources {
-        let judged = judge(alloc, &mut deployed, &mut known, source, costs)?;
-        match judged {
-            Judged::Accepted(text) => pieces.push(text)?,
-            Judged::Refused(text) => {
-                pieces.push(text)?;
-                return Ok(Reply { pieces, status: 6 });
-            }
-        }
-    }
-    Ok(Reply { pieces, status: 0 })
+    let judged = judge_all(
+        alloc,
+        &mut deployed,
+        &mut known,
+        &mut pieces,
+        sources,
+        costs,
+    );
+    drop(deployed);
+    drop(known);
+    let status = judged?;
+    Ok(Reply { pieces, status })
 }

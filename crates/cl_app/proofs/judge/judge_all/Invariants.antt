@@ -4,7 +4,7 @@ use Rattle.cl_contracts.specs.Seen.{AreIndexed}
 use Rattle.cl_bound.specs.Known.{AreBounds}
 use Rattle.cl_app.specs.Checking.{AcceptedSoFar}
 use Rattle.cl_app.specs.Reply.{bytes_of}
-use Rattle.cl_app.proofs.judge.report.Given as goal
+use Rattle.cl_app.proofs.judge.judge_all.Given as goal
 
 abbrev pub invariant-loop-source : goal.invariant-loop-source
 invariant-loop-source l = record {
