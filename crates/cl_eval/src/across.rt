@@ -11,7 +11,7 @@ ghost use Rattle.cl_frames.specs.Watching.{Walks, amount};
 ghost use Rattle.cl_frames.specs.Seen.{scope, scope_of, Fits};
 
 use crate::calls::enter;
-use crate::evaluate::evaluate_parts;
+use crate::walk::evaluate_parts;
 use cl_code::{Code, Target, Watch, Word};
 use cl_frames::{Context, Home, Names, Stop, pay};
 use cl_shapes::{CostName, Meter};

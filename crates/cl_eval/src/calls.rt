@@ -8,7 +8,7 @@ ghost use Rattle.cl_meaning.specs.Meaning.{means, applied};
 ghost use Rattle.cl_frames.specs.Seen.{scope, scope_of, Fits};
 ghost use Rattle.cl_frames.specs.Watching.{Walks, amount};
 
-use crate::evaluate::{evaluate, evaluate_parts};
+use crate::walk::{evaluate, evaluate_parts};
 use cl_code::{Code, Function, Watch};
 use cl_frames::{Context, Names, Stop, pay};
 use cl_shapes::{CostName, Meter};
@@ -43,7 +43,7 @@ pub(crate) fn evaluate_call<W: Watch>(
 
 /// Applies a function to values, to a depth.
 #[cycle(evaluate)]
-pub(crate) fn enter<W: Watch>(
+pub fn enter<W: Watch>(
     context: &Context,
     function: &Function,
     values: Vec<Val>,

@@ -7,7 +7,7 @@ ghost use Rattle.cl_meaning.specs.Meaning.{means};
 ghost use Rattle.cl_frames.specs.Seen.{scope, Fits};
 ghost use Rattle.cl_frames.specs.Watching.{Walks, amount};
 
-use crate::evaluate::{evaluate, evaluate_parts, evaluate_thrown, evaluate_truth};
+use crate::walk::{evaluate, evaluate_parts, evaluate_thrown, evaluate_truth};
 use cl_code::{Code, Watch};
 use cl_frames::{Context, Names, Stop, Way, err_way_of, into_content, pay, tried, way_of};
 use cl_seq::bool_value;

@@ -15,7 +15,7 @@ ghost use Rattle.cl_frames.specs.Runs.{items_in};
 ghost use Rattle.cl_frames.specs.Watching.{Walks, amount};
 
 use crate::calls::enter;
-use crate::evaluate::{evaluate, evaluate_parts};
+use crate::walk::{evaluate, evaluate_parts};
 use cl_code::{Applied, Code, Iteration, Watch};
 use cl_frames::{Called, Context, Names, Stop, pay, pay_for, pay_for_all};
 use cl_seq::{list_of, try_len};

@@ -8,7 +8,7 @@ ghost use Rattle.cl_meaning.specs.Meaning.{head_form, means, applied};
 ghost use Rattle.cl_frames.specs.Seen.{scope, Fits};
 ghost use Rattle.cl_frames.specs.Watching.{Walks, amount};
 
-use crate::evaluate::{evaluate, evaluate_parts};
+use crate::walk::{evaluate, evaluate_parts};
 use cl_code::{Code, NameNative, Watch, Word};
 use cl_frames::{Context, Names, Stop, Taking, taking_of};
 use cl_shapes::Meter;

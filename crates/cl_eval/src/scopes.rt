@@ -10,7 +10,7 @@ ghost use Rattle.cl_meaning.specs.Meaning.{means};
 ghost use Rattle.cl_frames.specs.Seen.{costs_of, scope, scope_of, Fits};
 ghost use Rattle.cl_frames.specs.Watching.{BindsAll, Walks, amount, watched};
 
-use crate::evaluate::{evaluate, evaluate_parts};
+use crate::walk::{evaluate, evaluate_parts};
 use cl_code::{Binding, Code, Watch, Word};
 use cl_frames::{
     Context, Names, Stop, Way, into_content, optional_way_of, pay, pay_for, response_way_of,

@@ -12,7 +12,7 @@ ghost use Rattle.cl_meaning.specs.Meaning.{means};
 ghost use Rattle.cl_frames.specs.Seen.{scope, Fits};
 ghost use Rattle.cl_frames.specs.Watching.{Walks, amount};
 
-use crate::evaluate::{evaluate, evaluate_parts};
+use crate::walk::{evaluate, evaluate_parts};
 use cl_code::{Binding, Code, Watch};
 use cl_frames::{Context, Names, Stop};
 use cl_shapes::Meter;

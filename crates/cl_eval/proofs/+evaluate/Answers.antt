@@ -50,79 +50,79 @@ use Rattle.cl_frames.proofs.Rows
 use Rattle.cl_eval.proofs.+evaluate.Goals as goal
 use Rattle.cl_forms.specs.declared.head.TokenNative.TheVariants as natives
 
-pub evaluate::evaluate-returns-then-depth-eq0-clause-meant : goal.evaluate::evaluate-returns-then-depth-eq0-clause-meant
-evaluate::evaluate-returns-then-depth-eq0-clause-meant g t c fits = means_none _ _ _ _ _ _ _ c.if-depth-eq0.true
+pub walk::evaluate-returns-then-depth-eq0-clause-meant : goal.walk::evaluate-returns-then-depth-eq0-clause-meant
+walk::evaluate-returns-then-depth-eq0-clause-meant g t c fits = means_none _ _ _ _ _ _ _ c.if-depth-eq0.true
 
-pub evaluate::evaluate-returns-in_err-value-clause-meant : goal.evaluate::evaluate-returns-in_err-value-clause-meant
-evaluate::evaluate-returns-in_err-value-clause-meant g t c fits = hands_on _ _ c.in_err-value.field-0.0 _ _ _ (err_from_is_err_and c.from_residual.result c.from_residual.ensures.1) (stops_eq _ _ _ _ _ _ (means_down _ _ _ _ _ _ _ (omega arith)) (node_stops _ _ _ _ _ _ _ _ _ (c.in_err-value.ensures.meant fits)))
+pub walk::evaluate-returns-in_err-value-clause-meant : goal.walk::evaluate-returns-in_err-value-clause-meant
+walk::evaluate-returns-in_err-value-clause-meant g t c fits = hands_on _ _ c.in_err-value.field-0.0 _ _ _ (err_from_is_err_and c.from_residual.result c.from_residual.ensures.1) (stops_eq _ _ _ _ _ _ (means_down _ _ _ _ _ _ _ (omega arith)) (node_stops _ _ _ _ _ _ _ _ _ (c.in_err-value.ensures.meant fits)))
 
-pub evaluate::evaluate-returns-clause-meant : goal.evaluate::evaluate-returns-clause-meant
-evaluate::evaluate-returns-clause-meant g t c fits =
+pub walk::evaluate-returns-clause-meant : goal.walk::evaluate-returns-clause-meant
+walk::evaluate-returns-clause-meant g t c fits =
     means_down _ _ _ _ _ _ _ (omega arith) ∙ watched-ending _ _ _ _ _ ∙ node_gives _ _ _ _ _ _ _ _ _ (c.in_ok-value.ensures.meant fits) (Nodes.place_of _ _ _ _ _ c.code.view_is) refl c.in_ok-saw.ensures
 
-pub evaluate::evaluate_node-returns-in-Int-clause-meant : goal.evaluate::evaluate_node-returns-in-Int-clause-meant
-evaluate::evaluate_node-returns-in-Int-clause-meant g t c fits =
+pub walk::evaluate_node-returns-in-Int-clause-meant : goal.walk::evaluate_node-returns-in-Int-clause-meant
+walk::evaluate_node-returns-in-Int-clause-meant g t c fits =
     let s = c.args.world.now.stack.top in
     let same : to_z w128 (of_z w128 c.in-Int.number) ≡ c.in-Int.number = grind (arith, ints, to_z-of_z) in
     ends_so _ _ _ _ _ _
     (ap (watched _ _ _) (node_is _ _ _ _ _ _ _ _ _ _ _ c.code.view_is c.code.invariant.named c.in-Int.is c.as_slice-parts.ensures.value) ∙ ap (λ z. watched (costs_of c.args.context.now) c.args.meter.now (g.W.Watch.seen c.args.watch.now) (standing Literal (IntV z) s)) (sym same) ∙ ap (λ v. watched (costs_of c.args.context.now) c.args.meter.now (g.W.Watch.seen c.args.watch.now) (standing Literal v s)) (sym c.int_value.ensures))
     (unseen_ends _ _ _ _ _ _ _ (standing_unseen _ _ _ _ _) (c.stands.ensures s))
 
-pub evaluate::evaluate_node-returns-in-Uint-clause-meant : goal.evaluate::evaluate_node-returns-in-Uint-clause-meant
-evaluate::evaluate_node-returns-in-Uint-clause-meant g t c fits =
+pub walk::evaluate_node-returns-in-Uint-clause-meant : goal.walk::evaluate_node-returns-in-Uint-clause-meant
+walk::evaluate_node-returns-in-Uint-clause-meant g t c fits =
     let s = c.args.world.now.stack.top in
     ends_so _ _ _ _ _ _
     (ap (watched _ _ _) (node_is _ _ _ _ _ _ _ _ _ _ _ c.code.view_is c.code.invariant.named c.in-Uint.is c.as_slice-parts.ensures.value) ∙ ap (λ z. watched (costs_of c.args.context.now) c.args.meter.now (g.W.Watch.seen c.args.watch.now) (standing Literal z s)) (sym c.uint_value.ensures))
     (unseen_ends _ _ _ _ _ _ _ (standing_unseen _ _ _ _ _) (c.stands-in-Uint.ensures s))
 
-pub evaluate::evaluate_node-returns-in-Buff-clause-meant : goal.evaluate::evaluate_node-returns-in-Buff-clause-meant
-evaluate::evaluate_node-returns-in-Buff-clause-meant g t c fits =
+pub walk::evaluate_node-returns-in-Buff-clause-meant : goal.walk::evaluate_node-returns-in-Buff-clause-meant
+walk::evaluate_node-returns-in-Buff-clause-meant g t c fits =
     ends_so _ _ _ _ _ _ (ap (watched _ _ _) (node_is _ _ _ _ _ _ _ _ _ _ _ c.code.view_is c.code.invariant.named c.in-Buff.is c.as_slice-parts.ensures.value) ∙ ap (λ b. watched (costs_of c.args.context.now) c.args.meter.now (g.W.Watch.seen c.args.watch.now) (literal (made (Rattle.cl_values.specs.Tree.BuffV b)) c.args.world.now.stack.top)) (sym c.deref.ensures.value)) (unseen_ends _ _ _ _ _ _ _ (literal_unseen _ _ _ _) (c.buff_literal.ensures c.args.world.now.stack.top))
 
-pub evaluate::evaluate_node-returns-in-Ascii-clause-meant : goal.evaluate::evaluate_node-returns-in-Ascii-clause-meant
-evaluate::evaluate_node-returns-in-Ascii-clause-meant g t c fits =
+pub walk::evaluate_node-returns-in-Ascii-clause-meant : goal.walk::evaluate_node-returns-in-Ascii-clause-meant
+walk::evaluate_node-returns-in-Ascii-clause-meant g t c fits =
     ends_so _ _ _ _ _ _ (ap (watched _ _ _) (node_is _ _ _ _ _ _ _ _ _ _ _ c.code.view_is c.code.invariant.named c.in-Ascii.is c.as_slice-parts.ensures.value) ∙ ap (λ b. watched (costs_of c.args.context.now) c.args.meter.now (g.W.Watch.seen c.args.watch.now) (literal (made (Rattle.cl_values.specs.Tree.AsciiV b)) c.args.world.now.stack.top)) (sym c.deref-in-Ascii.ensures.value)) (unseen_ends _ _ _ _ _ _ _ (literal_unseen _ _ _ _) (c.ascii_literal.ensures c.args.world.now.stack.top))
 
-pub evaluate::evaluate_node-returns-in-Utf8-clause-meant : goal.evaluate::evaluate_node-returns-in-Utf8-clause-meant
-evaluate::evaluate_node-returns-in-Utf8-clause-meant g t c fits =
+pub walk::evaluate_node-returns-in-Utf8-clause-meant : goal.walk::evaluate_node-returns-in-Utf8-clause-meant
+walk::evaluate_node-returns-in-Utf8-clause-meant g t c fits =
     ends_so _ _ _ _ _ _ (ap (watched _ _ _) (node_is _ _ _ _ _ _ _ _ _ _ _ c.code.view_is c.code.invariant.named c.in-Utf8.is c.as_slice-parts.ensures.value) ∙ ap (λ b. watched (costs_of c.args.context.now) c.args.meter.now (g.W.Watch.seen c.args.watch.now) (literal (made (Rattle.cl_values.specs.Tree.Utf8V b)) c.args.world.now.stack.top)) (sym c.deref-in-Utf8.ensures.value)) (unseen_ends _ _ _ _ _ _ _ (literal_unseen _ _ _ _) (c.utf8_literal.ensures c.args.world.now.stack.top))
 
-pub evaluate::evaluate_node-returns-in-Standing-clause-meant : goal.evaluate::evaluate_node-returns-in-Standing-clause-meant
-evaluate::evaluate_node-returns-in-Standing-clause-meant g t c fits = ends_so _ _ _ _ _ _ (ap (watched _ _ _) (node_is _ _ _ _ _ _ _ _ _ _ _ c.code.view_is c.code.invariant.named c.in-Standing.is c.as_slice-parts.ensures.value)) (unseen_ends _ _ _ _ _ _ _ (standing_unseen _ _ _ _ _) (c.principal_literal.ensures c.args.world.now.stack.top))
+pub walk::evaluate_node-returns-in-Standing-clause-meant : goal.walk::evaluate_node-returns-in-Standing-clause-meant
+walk::evaluate_node-returns-in-Standing-clause-meant g t c fits = ends_so _ _ _ _ _ _ (ap (watched _ _ _) (node_is _ _ _ _ _ _ _ _ _ _ _ c.code.view_is c.code.invariant.named c.in-Standing.is c.as_slice-parts.ensures.value)) (unseen_ends _ _ _ _ _ _ _ (standing_unseen _ _ _ _ _) (c.principal_literal.ensures c.args.world.now.stack.top))
 
-pub evaluate::evaluate_node-returns-in-Local-clause-meant : goal.evaluate::evaluate_node-returns-in-Local-clause-meant
-evaluate::evaluate_node-returns-in-Local-clause-meant g t c fits =
+pub walk::evaluate_node-returns-in-Local-clause-meant : goal.walk::evaluate_node-returns-in-Local-clause-meant
+walk::evaluate_node-returns-in-Local-clause-meant g t c fits =
     ends_so _ _ _ _ _ _ (ap (watched _ _ _) (node_is _ _ _ _ _ _ _ _ _ _ _ c.code.view_is c.code.invariant.named c.in-Local.is c.as_slice-parts.ensures.value) ∙ ap (λ p. watched (costs_of c.args.context.now) c.args.meter.now (g.W.Watch.seen c.args.watch.now) (standing Literal (Rattle.cl_values.specs.Tree.PrincipalV p) c.args.world.now.stack.top)) (sym c.beside.ensures)) (unseen_ends _ _ _ _ _ _ _ (standing_unseen _ _ _ _ _) (c.principal_literal-in-Local.ensures c.args.world.now.stack.top))
 
-pub evaluate::evaluate_node-returns-in-Keyword-clause-meant : goal.evaluate::evaluate_node-returns-in-Keyword-clause-meant
-evaluate::evaluate_node-returns-in-Keyword-clause-meant g t c fits = ends_so _ _ _ _ _ _ (ap (watched _ _ _) (node_is _ _ _ _ _ _ _ _ _ _ _ c.code.view_is c.code.invariant.named c.in-Keyword.is c.as_slice-parts.ensures.value)) (unseen_ends _ _ _ _ _ _ _ (name_unseen _ _ _ _ _) (c.keyword.ensures c.args.world.now.stack.top))
+pub walk::evaluate_node-returns-in-Keyword-clause-meant : goal.walk::evaluate_node-returns-in-Keyword-clause-meant
+walk::evaluate_node-returns-in-Keyword-clause-meant g t c fits = ends_so _ _ _ _ _ _ (ap (watched _ _ _) (node_is _ _ _ _ _ _ _ _ _ _ _ c.code.view_is c.code.invariant.named c.in-Keyword.is c.as_slice-parts.ensures.value)) (unseen_ends _ _ _ _ _ _ _ (name_unseen _ _ _ _ _) (c.keyword.ensures c.args.world.now.stack.top))
 
-pub evaluate::evaluate_node-returns-in-Bound-clause-meant : goal.evaluate::evaluate_node-returns-in-Bound-clause-meant
-evaluate::evaluate_node-returns-in-Bound-clause-meant g t c fits = ends_so _ _ _ _ _ _ (ap (watched _ _ _) (node_is _ _ _ _ _ _ _ _ _ _ _ c.code.view_is c.code.invariant.named c.in-Bound.is c.as_slice-parts.ensures.value)) (unseen_ends _ _ _ _ _ _ _ (name_unseen _ _ _ _ _) (c.named.ensures c.args.world.now.stack.top fits))
+pub walk::evaluate_node-returns-in-Bound-clause-meant : goal.walk::evaluate_node-returns-in-Bound-clause-meant
+walk::evaluate_node-returns-in-Bound-clause-meant g t c fits = ends_so _ _ _ _ _ _ (ap (watched _ _ _) (node_is _ _ _ _ _ _ _ _ _ _ _ c.code.view_is c.code.invariant.named c.in-Bound.is c.as_slice-parts.ensures.value)) (unseen_ends _ _ _ _ _ _ _ (name_unseen _ _ _ _ _) (c.named.ensures c.args.world.now.stack.top fits))
 
-pub evaluate::evaluate_node-returns-in-Constant-clause-meant : goal.evaluate::evaluate_node-returns-in-Constant-clause-meant
-evaluate::evaluate_node-returns-in-Constant-clause-meant g t c fits = ends_so _ _ _ _ _ _ (ap (watched _ _ _) (node_is _ _ _ _ _ _ _ _ _ _ _ c.code.view_is c.code.invariant.named c.in-Constant.is c.as_slice-parts.ensures.value)) (unseen_ends _ _ _ _ _ _ _ (name_unseen _ _ _ _ _) (c.named-in-Constant.ensures c.args.world.now.stack.top fits))
+pub walk::evaluate_node-returns-in-Constant-clause-meant : goal.walk::evaluate_node-returns-in-Constant-clause-meant
+walk::evaluate_node-returns-in-Constant-clause-meant g t c fits = ends_so _ _ _ _ _ _ (ap (watched _ _ _) (node_is _ _ _ _ _ _ _ _ _ _ _ c.code.view_is c.code.invariant.named c.in-Constant.is c.as_slice-parts.ensures.value)) (unseen_ends _ _ _ _ _ _ _ (name_unseen _ _ _ _ _) (c.named-in-Constant.ensures c.args.world.now.stack.top fits))
 
-pub evaluate::evaluate_node-returns-in-OnValues-clause-meant : goal.evaluate::evaluate_node-returns-in-OnValues-clause-meant
-evaluate::evaluate_node-returns-in-OnValues-clause-meant g t c fits = ends_so _ _ _ _ _ _ (ap (watched _ _ _) (node_is _ _ _ _ _ _ _ _ _ _ _ c.code.view_is c.code.invariant.named c.in-OnValues.is c.as_slice-parts.ensures.value)) (c.evaluate_native.ensures.meant fits)
+pub walk::evaluate_node-returns-in-OnValues-clause-meant : goal.walk::evaluate_node-returns-in-OnValues-clause-meant
+walk::evaluate_node-returns-in-OnValues-clause-meant g t c fits = ends_so _ _ _ _ _ _ (ap (watched _ _ _) (node_is _ _ _ _ _ _ _ _ _ _ _ c.code.view_is c.code.invariant.named c.in-OnValues.is c.as_slice-parts.ensures.value)) (c.evaluate_native.ensures.meant fits)
 
-pub evaluate::evaluate_node-returns-in-OnParts-clause-meant : goal.evaluate::evaluate_node-returns-in-OnParts-clause-meant
-evaluate::evaluate_node-returns-in-OnParts-clause-meant g t c fits = ends_so _ _ _ _ _ _ (ap (watched _ _ _) (node_is _ _ _ _ _ _ _ _ _ _ _ c.code.view_is c.code.invariant.named c.in-OnParts.is c.as_slice-parts.ensures.value)) (c.evaluate_on_parts.ensures.meant fits)
+pub walk::evaluate_node-returns-in-OnParts-clause-meant : goal.walk::evaluate_node-returns-in-OnParts-clause-meant
+walk::evaluate_node-returns-in-OnParts-clause-meant g t c fits = ends_so _ _ _ _ _ _ (ap (watched _ _ _) (node_is _ _ _ _ _ _ _ _ _ _ _ c.code.view_is c.code.invariant.named c.in-OnParts.is c.as_slice-parts.ensures.value)) (c.evaluate_on_parts.ensures.meant fits)
 
-pub evaluate::evaluate_node-returns-in-OnName-clause-meant : goal.evaluate::evaluate_node-returns-in-OnName-clause-meant
-evaluate::evaluate_node-returns-in-OnName-clause-meant g t c fits = ends_so _ _ _ _ _ _ (ap (watched _ _ _) (node_is _ _ _ _ _ _ _ _ _ _ _ c.code.view_is c.code.invariant.named c.in-OnName.is c.as_slice-parts.ensures.value)) (c.evaluate_on_name.ensures.meant fits)
+pub walk::evaluate_node-returns-in-OnName-clause-meant : goal.walk::evaluate_node-returns-in-OnName-clause-meant
+walk::evaluate_node-returns-in-OnName-clause-meant g t c fits = ends_so _ _ _ _ _ _ (ap (watched _ _ _) (node_is _ _ _ _ _ _ _ _ _ _ _ c.code.view_is c.code.invariant.named c.in-OnName.is c.as_slice-parts.ensures.value)) (c.evaluate_on_name.ensures.meant fits)
 
-pub evaluate::evaluate_node-returns-in-MatchOptional-clause-meant : goal.evaluate::evaluate_node-returns-in-MatchOptional-clause-meant
-evaluate::evaluate_node-returns-in-MatchOptional-clause-meant g t c fits = ends_so _ _ _ _ _ _ (ap (watched _ _ _) (node_is _ _ _ _ _ _ _ _ _ _ _ c.code.view_is c.code.invariant.named c.in-MatchOptional.is c.as_slice-parts.ensures.value)) (c.evaluate_match_optional.ensures.meant fits)
+pub walk::evaluate_node-returns-in-MatchOptional-clause-meant : goal.walk::evaluate_node-returns-in-MatchOptional-clause-meant
+walk::evaluate_node-returns-in-MatchOptional-clause-meant g t c fits = ends_so _ _ _ _ _ _ (ap (watched _ _ _) (node_is _ _ _ _ _ _ _ _ _ _ _ c.code.view_is c.code.invariant.named c.in-MatchOptional.is c.as_slice-parts.ensures.value)) (c.evaluate_match_optional.ensures.meant fits)
 
-pub evaluate::evaluate_node-returns-in-MatchResponse-clause-meant : goal.evaluate::evaluate_node-returns-in-MatchResponse-clause-meant
-evaluate::evaluate_node-returns-in-MatchResponse-clause-meant g t c fits = ends_so _ _ _ _ _ _ (ap (watched _ _ _) (node_is _ _ _ _ _ _ _ _ _ _ _ c.code.view_is c.code.invariant.named c.in-MatchResponse.is c.as_slice-parts.ensures.value)) (c.evaluate_match_response.ensures.meant fits)
+pub walk::evaluate_node-returns-in-MatchResponse-clause-meant : goal.walk::evaluate_node-returns-in-MatchResponse-clause-meant
+walk::evaluate_node-returns-in-MatchResponse-clause-meant g t c fits = ends_so _ _ _ _ _ _ (ap (watched _ _ _) (node_is _ _ _ _ _ _ _ _ _ _ _ c.code.view_is c.code.invariant.named c.in-MatchResponse.is c.as_slice-parts.ensures.value)) (c.evaluate_match_response.ensures.meant fits)
 
-pub evaluate::evaluate_node-returns-in-Call-clause-meant : goal.evaluate::evaluate_node-returns-in-Call-clause-meant
-evaluate::evaluate_node-returns-in-Call-clause-meant g t c fits = ends_so _ _ _ _ _ _ (ap (watched _ _ _) (node_is _ _ _ _ _ _ _ _ _ _ _ c.code.view_is c.code.invariant.named c.in-Call.is c.as_slice-parts.ensures.value)) (c.evaluate_call.ensures.meant fits)
+pub walk::evaluate_node-returns-in-Call-clause-meant : goal.walk::evaluate_node-returns-in-Call-clause-meant
+walk::evaluate_node-returns-in-Call-clause-meant g t c fits = ends_so _ _ _ _ _ _ (ap (watched _ _ _) (node_is _ _ _ _ _ _ _ _ _ _ _ c.code.view_is c.code.invariant.named c.in-Call.is c.as_slice-parts.ensures.value)) (c.evaluate_call.ensures.meant fits)
 
-pub evaluate::evaluate_node-returns-in-Let-clause-meant : goal.evaluate::evaluate_node-returns-in-Let-clause-meant
-evaluate::evaluate_node-returns-in-Let-clause-meant g t c fits = ends_so _ _ _ _ _ _ (ap (watched _ _ _) (node_is _ _ _ _ _ _ _ _ _ _ _ c.code.view_is c.code.invariant.named c.in-Let.is c.as_slice-parts.ensures.value) ∙ Lets.let_names _ _ _ _ _ _ _ _ _ _ c.deref-in-Let.ensures.value) (c.evaluate_let.ensures.meant _ fits)
+pub walk::evaluate_node-returns-in-Let-clause-meant : goal.walk::evaluate_node-returns-in-Let-clause-meant
+walk::evaluate_node-returns-in-Let-clause-meant g t c fits = ends_so _ _ _ _ _ _ (ap (watched _ _ _) (node_is _ _ _ _ _ _ _ _ _ _ _ c.code.view_is c.code.invariant.named c.in-Let.is c.as_slice-parts.ensures.value) ∙ Lets.let_names _ _ _ _ _ _ _ _ _ _ c.deref-in-Let.ensures.value) (c.evaluate_let.ensures.meant _ fits)
 
 pub on_parts::evaluate_on_parts-returns-in-If-clause-meant : goal.on_parts::evaluate_on_parts-returns-in-If-clause-meant
 on_parts::evaluate_on_parts-returns-in-If-clause-meant g t c fits = ends_so _ _ _ _ _ _ (ap (watched _ _ _) (Heads.parts_at _ _ _ _ _ _ _ _ c.in-If.is)) (c.evaluate_if.ensures.meant fits)
@@ -171,14 +171,14 @@ on_names::evaluate_on_name-returns-in_err-values-in-All-clause-meant g t c fits 
 pub on_names::evaluate_on_name-returns-in_ok-values-in-All-clause-meant : goal.on_names::evaluate_on_name-returns-in_ok-values-in-All-clause-meant
 on_names::evaluate_on_name-returns-in_ok-values-in-All-clause-meant g t c fits = ends_so _ _ _ _ _ _ (ap (watched _ _ _) (Heads.all_at _ _ _ _ _ _ _ _ (sym c.in-All.is ∙ c.taking_of.ensures)) ∙ then_gave _ _ _ _ _ _ _ _ _ (c.in_ok-values-in-All.ensures.meant fits)) (unseen_ends _ _ _ _ _ _ _ (all_unseen c.args.native (scope c.args.context.now c.args.names.now) c.args.name.now.name _ _ _ _) (c.with_all.ensures.meant fits))
 
-pub evaluate::evaluate_parts-returns-in_err-value-clause-meant : goal.evaluate::evaluate_parts-returns-in_err-value-clause-meant
-evaluate::evaluate_parts-returns-in_err-value-clause-meant g t c fits =
+pub walk::evaluate_parts-returns-in_err-value-clause-meant : goal.walk::evaluate_parts-returns-in_err-value-clause-meant
+walk::evaluate_parts-returns-in_err-value-clause-meant g t c fits =
     let here : c.loop-code.code-index < length c.args.codes.now = omega arith in
     hands_on_all _ _ c.in_err-value.field-0.0 _ _ _ (err_from_is_err_and c.from_residual-in_err-value.result c.from_residual-in_err-value.ensures.1)
     (stops_eq _ _ _ _ _ _ (c.loop-code.invariant.so_far fits) (parts_turn_stop _ _ _ _ _ _ _ _ _ _ _ _ _ _ here c.code-item.is (c.in_err-value.ensures.meant fits)))
 
-pub evaluate::evaluate_parts-loop-code-preserved : goal.evaluate::evaluate_parts-loop-code-preserved
-evaluate::evaluate_parts-loop-code-preserved g t c = record {
+pub walk::evaluate_parts-loop-code-preserved : goal.walk::evaluate_parts-loop-code-preserved
+walk::evaluate_parts-loop-code-preserved g t c = record {
   so_far = λ fits.
       let here : c.loop-code.code-index < length c.args.codes.now = omega arith in
       c.loop-code.invariant.so_far fits
@@ -189,28 +189,28 @@ evaluate::evaluate_parts-loop-code-preserved g t c = record {
   count = omega (arith, c.loop-code.invariant.count, c.push_reserved.ensures.len);
 }
 
-pub evaluate::evaluate_parts-returns-clause-meant : goal.evaluate::evaluate_parts-returns-clause-meant
-evaluate::evaluate_parts-returns-clause-meant g t c fits =
+pub walk::evaluate_parts-returns-clause-meant : goal.walk::evaluate_parts-returns-clause-meant
+walk::evaluate_parts-returns-clause-meant g t c fits =
     let past : length c.args.codes.now ≤ c.loop-code.code-index = omega arith in
     c.loop-code.invariant.so_far fits ∙ parts_end _ _ _ _ _ _ _ _ _ past
 
-pub evaluate::evaluate_native-returns-in_err-values-clause-meant : goal.evaluate::evaluate_native-returns-in_err-values-clause-meant
-evaluate::evaluate_native-returns-in_err-values-clause-meant g t c fits = part_fails _ _ c.in_err-values.field-0.0 _ _ _ _ _ _ _ _ (err_from_is_err_and c.from_residual.result c.from_residual.ensures.1) (ap (watched _ _ _) (strict_at _ _ _ _ _ _)) (c.in_err-values.ensures.meant fits)
+pub walk::evaluate_native-returns-in_err-values-clause-meant : goal.walk::evaluate_native-returns-in_err-values-clause-meant
+walk::evaluate_native-returns-in_err-values-clause-meant g t c fits = part_fails _ _ c.in_err-values.field-0.0 _ _ _ _ _ _ _ _ (err_from_is_err_and c.from_residual.result c.from_residual.ensures.1) (ap (watched _ _ _) (strict_at _ _ _ _ _ _)) (c.in_err-values.ensures.meant fits)
 
-pub evaluate::evaluate_native-returns-clause-meant : goal.evaluate::evaluate_native-returns-clause-meant
-evaluate::evaluate_native-returns-clause-meant g t c fits = ends_so _ _ _ _ _ _ (ap (watched _ _ _) (strict_at _ _ _ _ _ _) ∙ then_gave _ _ _ _ _ _ _ _ _ (c.in_ok-values.ensures.meant fits)) (unseen_ends _ _ _ _ _ _ _ (values_unseen _ _ _ _ _ _) (c.native_on.ensures _))
+pub walk::evaluate_native-returns-clause-meant : goal.walk::evaluate_native-returns-clause-meant
+walk::evaluate_native-returns-clause-meant g t c fits = ends_so _ _ _ _ _ _ (ap (watched _ _ _) (strict_at _ _ _ _ _ _) ∙ then_gave _ _ _ _ _ _ _ _ _ (c.in_ok-values.ensures.meant fits)) (unseen_ends _ _ _ _ _ _ _ (values_unseen _ _ _ _ _ _) (c.native_on.ensures _))
 
-pub evaluate::evaluate_truth-returns-in_err-value-clause-meant : goal.evaluate::evaluate_truth-returns-in_err-value-clause-meant
-evaluate::evaluate_truth-returns-in_err-value-clause-meant g t c fits = hands_on _ _ c.in_err-value.field-0.0 _ _ _ (err_from_is_err_and c.from_residual.result c.from_residual.ensures.1) (truth_stops _ _ _ _ _ (c.in_err-value.ensures.meant fits))
+pub walk::evaluate_truth-returns-in_err-value-clause-meant : goal.walk::evaluate_truth-returns-in_err-value-clause-meant
+walk::evaluate_truth-returns-in_err-value-clause-meant g t c fits = hands_on _ _ c.in_err-value.field-0.0 _ _ _ (err_from_is_err_and c.from_residual.result c.from_residual.ensures.1) (truth_stops _ _ _ _ _ (c.in_err-value.ensures.meant fits))
 
-pub evaluate::evaluate_truth-returns-clause-meant : goal.evaluate::evaluate_truth-returns-clause-meant
-evaluate::evaluate_truth-returns-clause-meant g t c fits = ends_so _ _ _ _ _ _ (ap truthful (c.in_ok-value.ensures.meant fits)) (truth_ends _ _ _ _ _ (c.truth.ensures _ _))
+pub walk::evaluate_truth-returns-clause-meant : goal.walk::evaluate_truth-returns-clause-meant
+walk::evaluate_truth-returns-clause-meant g t c fits = ends_so _ _ _ _ _ _ (ap truthful (c.in_ok-value.ensures.meant fits)) (truth_ends _ _ _ _ _ (c.truth.ensures _ _))
 
-pub evaluate::evaluate_thrown-returns-in_err-value-clause-meant : goal.evaluate::evaluate_thrown-returns-in_err-value-clause-meant
-evaluate::evaluate_thrown-returns-in_err-value-clause-meant g t c fits = part_fails _ _ c.in_err-value.field-0.0 _ _ _ _ _ _ _ _ (err_from_is_err_and c.from_residual.result c.from_residual.ensures.1) refl (c.in_err-value.ensures.meant fits)
+pub walk::evaluate_thrown-returns-in_err-value-clause-meant : goal.walk::evaluate_thrown-returns-in_err-value-clause-meant
+walk::evaluate_thrown-returns-in_err-value-clause-meant g t c fits = part_fails _ _ c.in_err-value.field-0.0 _ _ _ _ _ _ _ _ (err_from_is_err_and c.from_residual.result c.from_residual.ensures.1) refl (c.in_err-value.ensures.meant fits)
 
-pub evaluate::evaluate_thrown-returns-clause-meant : goal.evaluate::evaluate_thrown-returns-clause-meant
-evaluate::evaluate_thrown-returns-clause-meant g t c fits = then_gave _ _ _ _ _ _ _ _ _ (c.in_ok-value.ensures.meant fits) ∙ watched-stop _ _ _ _ _
+pub walk::evaluate_thrown-returns-clause-meant : goal.walk::evaluate_thrown-returns-clause-meant
+walk::evaluate_thrown-returns-clause-meant g t c fits = then_gave _ _ _ _ _ _ _ _ _ (c.in_ok-value.ensures.meant fits) ∙ watched-stop _ _ _ _ _
 
 pub control::evaluate_if-returns-in_err-pay-clause-meant : goal.control::evaluate_if-returns-in_err-pay-clause-meant
 control::evaluate_if-returns-in_err-pay-clause-meant g t c fits = pay_fails _ _ c.in_err-pay.field-0.0 _ _ _ _ _ _ _ _ (err_from_is_err_and c.from_residual.result c.from_residual.ensures.1) (ap (watched _ _ _) (Forms.if_at _ _ _ _ c.requires _ c.index-codes-0.is _ c.index-codes-1.is _ c.index-codes-2.is)) c.in_err-pay.ensures
@@ -531,11 +531,11 @@ tuples::evaluate_as_max_len-returns-in_err-value-clause-meant g t c at fits = pa
 pub tuples::evaluate_as_max_len-returns-clause-meant : goal.tuples::evaluate_as_max_len-returns-clause-meant
 tuples::evaluate_as_max_len-returns-clause-meant g t c at fits = ends_so _ _ _ _ _ _ (ap (watched _ _ _) (Forms.max_len_at _ _ _ _ _ _ c.requires _ c.index-codes-0.is) ∙ then_gave _ _ _ _ _ _ _ _ _ (c.in_ok-value.ensures.meant fits)) (unseen_ends _ _ _ _ _ _ _ (shortened_unseen _ _ _ _ _) (c.shorten.ensures _))
 
-pub evaluate::evaluate_node-returns-in-AsMaxLen-clause-meant : goal.evaluate::evaluate_node-returns-in-AsMaxLen-clause-meant
-evaluate::evaluate_node-returns-in-AsMaxLen-clause-meant g t c fits = ends_so _ _ _ _ _ _ (ap (watched _ _ _) (node_is _ _ _ _ _ _ _ _ _ _ _ c.code.view_is c.code.invariant.named c.in-AsMaxLen.is c.as_slice-parts.ensures.value)) (c.evaluate_as_max_len.ensures.meant _ fits)
+pub walk::evaluate_node-returns-in-AsMaxLen-clause-meant : goal.walk::evaluate_node-returns-in-AsMaxLen-clause-meant
+walk::evaluate_node-returns-in-AsMaxLen-clause-meant g t c fits = ends_so _ _ _ _ _ _ (ap (watched _ _ _) (node_is _ _ _ _ _ _ _ _ _ _ _ c.code.view_is c.code.invariant.named c.in-AsMaxLen.is c.as_slice-parts.ensures.value)) (c.evaluate_as_max_len.ensures.meant _ fits)
 
-pub evaluate::evaluate_node-returns-in-ContractCall-clause-meant : goal.evaluate::evaluate_node-returns-in-ContractCall-clause-meant
-evaluate::evaluate_node-returns-in-ContractCall-clause-meant g t c fits = ends_so _ _ _ _ _ _ (ap (watched _ _ _) (node_is _ _ _ _ _ _ _ _ _ _ _ c.code.view_is c.code.invariant.named c.in-ContractCall.is c.as_slice-parts.ensures.value)) (c.evaluate_contract_call.ensures.meant fits)
+pub walk::evaluate_node-returns-in-ContractCall-clause-meant : goal.walk::evaluate_node-returns-in-ContractCall-clause-meant
+walk::evaluate_node-returns-in-ContractCall-clause-meant g t c fits = ends_so _ _ _ _ _ _ (ap (watched _ _ _) (node_is _ _ _ _ _ _ _ _ _ _ _ c.code.view_is c.code.invariant.named c.in-ContractCall.is c.as_slice-parts.ensures.value)) (c.evaluate_contract_call.ensures.meant fits)
 
 pub across::evaluate_contract_call-returns-in_err-values-clause-meant : goal.across::evaluate_contract_call-returns-in_err-values-clause-meant
 across::evaluate_contract_call-returns-in_err-values-clause-meant g t c fits = part_fails _ _ c.in_err-values.field-0.0 _ _ _ _ _ _ _ _ (err_from_is_err_and c.from_residual.result c.from_residual.ensures.1) (ap (watched _ _ _) (Forms.contract_call_at _ _ _ _ _ _ _)) (c.in_err-values.ensures.meant fits)
@@ -561,20 +561,20 @@ across::enter_there-returns-in-Some-clause-meant g t c bound fits at =
 pub across::enter_there-returns-in-None-clause-meant : goal.across::enter_there-returns-in-None-clause-meant
 across::enter_there-returns-in-None-clause-meant g t c bound fits at = charge_spent _ _ _ _ _ _ _ _ c.from-length.ensures c.in_ok-pay.ensures ∙ known_none _ _ _ _ _ _ (sym (c.callable.ensures at.indexed) ∙ ap (option_map (λ f. function_seen f.now)) c.in-None.is)
 
-pub evaluate::evaluate_node-named-requires : goal.evaluate::evaluate_node-named-requires
-evaluate::evaluate_node-named-requires g t c = Nodes.no_keyword _ _ c.code.invariant.named c.in-Bound.is
+pub walk::evaluate_node-named-requires : goal.walk::evaluate_node-named-requires
+walk::evaluate_node-named-requires g t c = Nodes.no_keyword _ _ c.code.invariant.named c.in-Bound.is
 
-pub evaluate::evaluate_node-named-requires-in-Constant : goal.evaluate::evaluate_node-named-requires-in-Constant
-evaluate::evaluate_node-named-requires-in-Constant g t c = Nodes.no_keyword_constant _ _ c.code.invariant.named c.in-Constant.is
+pub walk::evaluate_node-named-requires-in-Constant : goal.walk::evaluate_node-named-requires-in-Constant
+walk::evaluate_node-named-requires-in-Constant g t c = Nodes.no_keyword_constant _ _ c.code.invariant.named c.in-Constant.is
 
-pub evaluate::evaluate_node-returns-in-Tuple-clause-meant : goal.evaluate::evaluate_node-returns-in-Tuple-clause-meant
-evaluate::evaluate_node-returns-in-Tuple-clause-meant g t c fits = ends_so _ _ _ _ _ _ (ap (watched _ _ _) (node_is _ _ _ _ _ _ _ _ _ _ _ c.code.view_is c.code.invariant.named c.in-Tuple.is c.as_slice-parts.ensures.value) ∙ TupleLaws.keys_are _ _ _ _ _ _ _ _ _ c.deref-in-Tuple.ensures.value) (c.evaluate_tuple.ensures.meant fits)
+pub walk::evaluate_node-returns-in-Tuple-clause-meant : goal.walk::evaluate_node-returns-in-Tuple-clause-meant
+walk::evaluate_node-returns-in-Tuple-clause-meant g t c fits = ends_so _ _ _ _ _ _ (ap (watched _ _ _) (node_is _ _ _ _ _ _ _ _ _ _ _ c.code.view_is c.code.invariant.named c.in-Tuple.is c.as_slice-parts.ensures.value) ∙ TupleLaws.keys_are _ _ _ _ _ _ _ _ _ c.deref-in-Tuple.ensures.value) (c.evaluate_tuple.ensures.meant fits)
 
-pub evaluate::evaluate_node-returns-in-TupleOf-clause-meant : goal.evaluate::evaluate_node-returns-in-TupleOf-clause-meant
-evaluate::evaluate_node-returns-in-TupleOf-clause-meant g t c fits = ends_so _ _ _ _ _ _ (ap (watched _ _ _) (node_is _ _ _ _ _ _ _ _ _ _ _ c.code.view_is c.code.invariant.named c.in-TupleOf.is c.as_slice-parts.ensures.value) ∙ TupleLaws.pairs_are _ _ _ _ _ _ _ _ _ c.deref-in-TupleOf.ensures.value) (c.evaluate_tuple_of.ensures.meant fits)
+pub walk::evaluate_node-returns-in-TupleOf-clause-meant : goal.walk::evaluate_node-returns-in-TupleOf-clause-meant
+walk::evaluate_node-returns-in-TupleOf-clause-meant g t c fits = ends_so _ _ _ _ _ _ (ap (watched _ _ _) (node_is _ _ _ _ _ _ _ _ _ _ _ c.code.view_is c.code.invariant.named c.in-TupleOf.is c.as_slice-parts.ensures.value) ∙ TupleLaws.pairs_are _ _ _ _ _ _ _ _ _ c.deref-in-TupleOf.ensures.value) (c.evaluate_tuple_of.ensures.meant fits)
 
-pub evaluate::evaluate_node-evaluate_tuple-requires : goal.evaluate::evaluate_node-evaluate_tuple-requires
-evaluate::evaluate_node-evaluate_tuple-requires g t c = λ κs alive. (
+pub walk::evaluate_node-evaluate_tuple-requires : goal.walk::evaluate_node-evaluate_tuple-requires
+walk::evaluate_node-evaluate_tuple-requires g t c = λ κs alive. (
   omega (arith, c.decreases),
   (
     alive,
@@ -588,8 +588,8 @@ evaluate::evaluate_node-evaluate_tuple-requires g t c = λ κs alive. (
   ),
 )
 
-pub evaluate::evaluate_node-evaluate_tuple_of-requires : goal.evaluate::evaluate_node-evaluate_tuple_of-requires
-evaluate::evaluate_node-evaluate_tuple_of-requires g t c = λ κs alive. (
+pub walk::evaluate_node-evaluate_tuple_of-requires : goal.walk::evaluate_node-evaluate_tuple_of-requires
+walk::evaluate_node-evaluate_tuple_of-requires g t c = λ κs alive. (
   omega (arith, c.decreases),
   (
     alive,
@@ -657,8 +657,8 @@ iterate::evaluate_iteration-returns-in-Filter-clause-meant g t c fits = ends_so 
 pub iterate::evaluate_iteration-returns-in-Fold-clause-meant : goal.iterate::evaluate_iteration-returns-in-Fold-clause-meant
 iterate::evaluate_iteration-returns-in-Fold-clause-meant g t c fits = ends_so _ _ _ _ _ _ (ap (watched _ _ _) (IterateLaws.iteration_at _ _ _ _ _ _ _ _ c.in-Fold.is ∙ IterateLaws.fold_head _ _ _ _ _ _)) (c.evaluate_fold.ensures.meant fits)
 
-pub evaluate::evaluate_node-returns-in-Iterate-clause-meant : goal.evaluate::evaluate_node-returns-in-Iterate-clause-meant
-evaluate::evaluate_node-returns-in-Iterate-clause-meant g t c fits = ends_so _ _ _ _ _ _ (ap (watched _ _ _) (node_is _ _ _ _ _ _ _ _ _ _ _ c.code.view_is c.code.invariant.named c.in-Iterate.is c.as_slice-parts.ensures.value)) (c.evaluate_iteration.ensures.meant fits)
+pub walk::evaluate_node-returns-in-Iterate-clause-meant : goal.walk::evaluate_node-returns-in-Iterate-clause-meant
+walk::evaluate_node-returns-in-Iterate-clause-meant g t c fits = ends_so _ _ _ _ _ _ (ap (watched _ _ _) (node_is _ _ _ _ _ _ _ _ _ _ _ c.code.view_is c.code.invariant.named c.in-Iterate.is c.as_slice-parts.ensures.value)) (c.evaluate_iteration.ensures.meant fits)
 
 pub iterate::evaluate_fold-returns-in_err-sequence-clause-meant : goal.iterate::evaluate_fold-returns-in_err-sequence-clause-meant
 iterate::evaluate_fold-returns-in_err-sequence-clause-meant g t c fits = part_fails _ _ c.in_err-sequence.field-0.0 _ _ _ _ _ _ _ _ (err_from_is_err_and c.from_residual.result c.from_residual.ensures.1) (ap (watched _ _ _) (IterateLaws.fold_at _ _ _ _ _ _ c.requires.fit _ c.index-codes-0.is _ c.index-codes-1.is)) (c.in_err-sequence.ensures.meant fits)
@@ -795,8 +795,8 @@ iterate::filter-apply_each-requires g t c =
     let one : length c.deref.result.now ≡ 1 = ap length (c.deref.ensures.value ∙ c.in_ok-sequences.ensures) in
     λ κs alive. (omega arith, (alive, omega (arith, one)))
 
-pub evaluate::evaluate_node-evaluate_iteration-requires : goal.evaluate::evaluate_node-evaluate_iteration-requires
-evaluate::evaluate_node-evaluate_iteration-requires g t c =
+pub walk::evaluate_node-evaluate_iteration-requires : goal.walk::evaluate_node-evaluate_iteration-requires
+walk::evaluate_node-evaluate_iteration-requires g t c =
     let count : length c.as_slice-parts.result.now ≡ length c.code.inside.parts.items = ap length c.as_slice-parts.ensures.value in
     λ κs alive. (omega arith, (alive, (IterateLaws.own_applied _ _ _ _ c.code.invariant.named c.in-Iterate.is, (omega (arith, count, c.code.invariant.few), Nodes.parts_of_node _ _ _ _ c.code.invariant.fit c.in-Iterate.is count))))
 
@@ -806,13 +806,13 @@ iterate::evaluate_iteration-evaluate_filter-requires g t c = λ κs alive. (omeg
 pub iterate::evaluate_iteration-evaluate_fold-requires : goal.iterate::evaluate_iteration-evaluate_fold-requires
 iterate::evaluate_iteration-evaluate_fold-requires g t c = λ κs alive. (omega arith, (alive, (c.requires.own, IterateLaws.fold_parts _ _ c.in-Fold.is c.requires.fit)))
 
-pub evaluate::evaluate-returns-in_err-saw-clause-meant : goal.evaluate::evaluate-returns-in_err-saw-clause-meant
-evaluate::evaluate-returns-in_err-saw-clause-meant g t c fits =
+pub walk::evaluate-returns-in_err-saw-clause-meant : goal.walk::evaluate-returns-in_err-saw-clause-meant
+walk::evaluate-returns-in_err-saw-clause-meant g t c fits =
     memory_ends _ _ _ _ _ _ (err_from_is_err_and c.from_residual-in_err-saw.result c.from_residual-in_err-saw.ensures.1)
     (means_down _ _ _ _ _ _ _ (omega arith) ∙ watched-ending _ _ _ _ _) (node_unseen _ _ _ _ _ _ _ (c.in_ok-value.ensures.meant fits) c.in_err-saw.ensures)
 
-pub evaluate::evaluate_parts-returns-in_err-values-clause-meant : goal.evaluate::evaluate_parts-returns-in_err-values-clause-meant
-evaluate::evaluate_parts-returns-in_err-values-clause-meant g t c fits = onto_memory _ _ _ _ _ [] _ _ (err_from_is_err_and c.from_residual.result c.from_residual.ensures.1) (onto-nil _)
+pub walk::evaluate_parts-returns-in_err-values-clause-meant : goal.walk::evaluate_parts-returns-in_err-values-clause-meant
+walk::evaluate_parts-returns-in_err-values-clause-meant g t c fits = onto_memory _ _ _ _ _ [] _ _ (err_from_is_err_and c.from_residual.result c.from_residual.ensures.1) (onto-nil _)
 
 pub scopes::evaluate_bindings-returns-in_err-own-clause-meant : goal.scopes::evaluate_bindings-returns-in_err-own-clause-meant
 scopes::evaluate_bindings-returns-in_err-own-clause-meant g t c body fits =
@@ -848,5 +848,5 @@ iterate::filter-returns-in_err-sequences-clause-meant g t c bound fits = memory_
 pub tuples::evaluate_tuple_of-returns-in_err-keys-clause-meant : goal.tuples::evaluate_tuple_of-returns-in_err-keys-clause-meant
 tuples::evaluate_tuple_of-returns-in_err-keys-clause-meant g t c fits = memory_fails _ _ _ _ _ _ _ _ (err_from_is_err_and c.from_residual.result c.from_residual.ensures.1) refl
 
-pub evaluate::evaluate-returns-clause-grew : goal.evaluate::evaluate-returns-clause-grew
-evaluate::evaluate-returns-clause-grew g t c = omega (arith, c.in_ok-value.ensures.grew, grew_more _ _ _ c.in_ok-saw.ensures)
+pub walk::evaluate-returns-clause-grew : goal.walk::evaluate-returns-clause-grew
+walk::evaluate-returns-clause-grew g t c = omega (arith, c.in_ok-value.ensures.grew, grew_more _ _ _ c.in_ok-saw.ensures)

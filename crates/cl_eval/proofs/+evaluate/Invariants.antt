@@ -15,8 +15,8 @@ use Rattle.cl_frames.specs.Rows.{rows_from, entries_from}
 use Rattle.std.specs.Vec.{vec_capacity}
 use Rattle.cl_eval.proofs.+evaluate.Given as goal
 
-abbrev pub invariant-evaluate::evaluate_parts-loop-code : goal.invariant-evaluate::evaluate_parts-loop-code
-invariant-evaluate::evaluate_parts-loop-code g l = record {
+abbrev pub invariant-walk::evaluate_parts-loop-code : goal.invariant-walk::evaluate_parts-loop-code
+invariant-walk::evaluate_parts-loop-code g l = record {
   so_far :
       Fits l.context →
       watched (costs_of l.context) l.initial.meter (g.W.Watch.seen l.initial.watch) (parts (means l.below) (scope l.context l.names) (map expression_of l.codes) l.initial.world.stack.top)
@@ -58,23 +58,23 @@ invariant-control::or_parts-loop-code g l = record {
   grew : amount (g.W.Watch.seen l.initial.watch) ≤ amount (g.W.Watch.seen l.watch);
 }
 
-abbrev pub decreases-evaluate::evaluate : goal.decreases-evaluate::evaluate
-decreases-evaluate::evaluate g l = 9 * l.depth + 0
+abbrev pub decreases-walk::evaluate : goal.decreases-walk::evaluate
+decreases-walk::evaluate g l = 9 * l.depth + 0
 
-abbrev pub decreases-evaluate::evaluate_node : goal.decreases-evaluate::evaluate_node
-decreases-evaluate::evaluate_node g l = 9 * l.below + 7
+abbrev pub decreases-walk::evaluate_node : goal.decreases-walk::evaluate_node
+decreases-walk::evaluate_node g l = 9 * l.below + 7
 
-abbrev pub decreases-evaluate::evaluate_parts : goal.decreases-evaluate::evaluate_parts
-decreases-evaluate::evaluate_parts g l = 9 * l.below + 1
+abbrev pub decreases-walk::evaluate_parts : goal.decreases-walk::evaluate_parts
+decreases-walk::evaluate_parts g l = 9 * l.below + 1
 
-abbrev pub decreases-evaluate::evaluate_native : goal.decreases-evaluate::evaluate_native
-decreases-evaluate::evaluate_native g l = 9 * l.below + 5
+abbrev pub decreases-walk::evaluate_native : goal.decreases-walk::evaluate_native
+decreases-walk::evaluate_native g l = 9 * l.below + 5
 
-abbrev pub decreases-evaluate::evaluate_truth : goal.decreases-evaluate::evaluate_truth
-decreases-evaluate::evaluate_truth g l = 9 * l.below + 1
+abbrev pub decreases-walk::evaluate_truth : goal.decreases-walk::evaluate_truth
+decreases-walk::evaluate_truth g l = 9 * l.below + 1
 
-abbrev pub decreases-evaluate::evaluate_thrown : goal.decreases-evaluate::evaluate_thrown
-decreases-evaluate::evaluate_thrown g l = 9 * l.below + 1
+abbrev pub decreases-walk::evaluate_thrown : goal.decreases-walk::evaluate_thrown
+decreases-walk::evaluate_thrown g l = 9 * l.below + 1
 
 abbrev pub decreases-on_parts::evaluate_on_parts : goal.decreases-on_parts::evaluate_on_parts
 decreases-on_parts::evaluate_on_parts g l = 9 * l.below + 6

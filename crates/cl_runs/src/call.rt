@@ -1,0 +1,173 @@
+//! Calls from outside.
+ghost use Rattle.std.specs.Prelude.{◌≡◌, ◌≢◌, ◌<◌, ◌≤◌, length, Some, IfOk};
+ghost use Rattle.cl_types.specs.Fault.{IfRefused};
+ghost use Rattle.cl_costs.specs.Tables.{function_of as cost_function};
+ghost use Rattle.cl_contracts.specs.Seen.{AreIndexed, IsEntry, contract_seen, deployed_seen};
+ghost use Rattle.cl_meaning.specs.Answers.{with_known};
+ghost use Rattle.cl_meaning.specs.Deployed.{contract_at, function_of};
+ghost use Rattle.cl_meaning.specs.Limits.{limited};
+ghost use Rattle.cl_meaning.specs.Top.{call_from};
+ghost use Rattle.cl_frames.specs.Aborts.{Answers};
+ghost use Rattle.cl_frames.specs.Homes.{frame_seen};
+ghost use Rattle.cl_frames.specs.Sound.{IsFittingCall, IsKeptWorld, IsReturnOf, SpendsWithin};
+ghost use Rattle.cl_frames.specs.Watching.{Ends, Tells, amount, trace, watched};
+
+use cl_code::{Silent, Watch};
+use cl_contract_sound::{
+    charges_stay_within_bounds, functions_are_sound, limits_leave_sound_answers,
+};
+use cl_contracts::{Contract, Deployed};
+use cl_costs::CostTable;
+use cl_eval::enter;
+use cl_frames::{Abort, Context, Frame, Home, Stop, fault};
+use cl_shapes::Meter;
+use cl_state::World;
+use cl_steps::is_valid;
+use cl_types::{Fault, Name};
+use cl_values::Val;
+use std::alloc::Global;
+
+/// How deep an evaluation goes, calls included.
+pub(crate) const MOST_DEPTH: u32 = 256;
+
+/// Calls a function of a contract that is deployed under the frame's principal.
+fn call_in<'a, W: Watch>(
+    alloc: Global,
+    world: &mut World,
+    deployed: &'a Deployed,
+    contract: &'a Contract,
+    frame: &'a Frame,
+    function: &Name,
+    args: Vec<Val>,
+    costs: &'a CostTable,
+    meter: &mut Meter,
+    watch: &mut W,
+) -> Result<Val, Stop>
+    requires indexed { AreIndexed deployed.now }
+    requires found { contract_at frame.now.contract (deployed_seen deployed.now) ≡ Some (contract_seen (frame.now.contract, contract.now)) }
+    requires entry { IsEntry (frame.now.contract, contract.now) }
+    requires few { length args.items < 4294967296 }
+    ensures meant { Ends (watched (cost_function costs.now) meter.old (W.seen watch.old) (with_known (function_of function.now (Some (contract_seen (frame.now.contract, contract.now)))) (λ f. call_from (deployed_seen deployed.now) (frame_seen frame.now) f args.items) world.old.stack.top)) result meter.new (W.seen watch.new) world.new.stack.top }
+    ensures below { world.new.stack.below ≡ world.old.stack.below }
+    ensures grew { amount (W.seen watch.old) ≤ amount (W.seen watch.new) }
+{
+    let context = Context {
+        alloc,
+        deployed,
+        opening: None,
+        home: Home {
+            checked: &contract.checked,
+            constants: &contract.constants,
+        },
+        frame,
+        costs,
+    };
+    match contract.function(function) {
+        Some(f) => enter(&context, f, args, MOST_DEPTH, world, meter, watch),
+        None => Err(Stop::Stuck),
+    }
+}
+
+fn call_named<W: Watch>(
+    alloc: Global,
+    world: &mut World,
+    deployed: &Deployed,
+    frame: &Frame,
+    function: &Name,
+    args: Vec<Val>,
+    costs: &CostTable,
+    meter: &mut Meter,
+    watch: &mut W,
+) -> Result<Val, Stop>
+    requires indexed { AreIndexed deployed.now }
+    requires few { length args.items < 4294967296 }
+    ensures meant { Ends (watched (cost_function costs.now) meter.old (W.seen watch.old) (with_known (function_of function.now (contract_at frame.now.contract (deployed_seen deployed.now))) (λ f. call_from (deployed_seen deployed.now) (frame_seen frame.now) f args.items) world.old.stack.top)) result meter.new (W.seen watch.new) world.new.stack.top }
+    ensures below { world.new.stack.below ≡ world.old.stack.below }
+    ensures grew { amount (W.seen watch.old) ≤ amount (W.seen watch.new) }
+{
+    match deployed.find(&frame.contract) {
+        Some(contract) => call_in(
+            alloc, world, deployed, contract, frame, function, args, costs, meter, watch,
+        ),
+        None => Err(Stop::Stuck),
+    }
+}
+
+/// Calls a function of the frame's contract with values of its parameters' types. What it does is done to the top state of the
+/// world, and charged to the meter. Where a public function answers err, the state is as before and the charges stay. It never
+/// aborts by `EarlyTop`. What it answers is of the function's return type, and the state that it leaves is kept. Whatever it answers,
+/// what is charged is within the function's bound; after want of memory nothing is.
+pub fn run(
+    alloc: Global,
+    world: &mut World,
+    deployed: &Deployed,
+    frame: &Frame,
+    function: &Name,
+    args: Vec<Val>,
+    costs: &CostTable,
+    meter: &mut Meter,
+) -> Result<Val, Fault<Abort>>
+    requires indexed { AreIndexed deployed.now }
+    requires kept { IsKeptWorld (deployed_seen deployed.now) world.old.stack.top }
+    requires called { IsFittingCall (deployed_seen deployed.now) frame.now.contract function.now args.items }
+    requires few { length args.items < 4294967296 }
+    ensures meant { Answers (limited (cost_function costs.now) meter.old (with_known (function_of function.now (contract_at frame.now.contract (deployed_seen deployed.now))) (λ f. call_from (deployed_seen deployed.now) (frame_seen frame.now) f args.items) world.old.stack.top)) result meter.new world.new.stack.top }
+    ensures returned { IfRefused result (λ abort. abort ≢ Abort.EarlyTop) }
+    ensures typed { IfOk result (λ value. IsReturnOf (deployed_seen deployed.now) frame.now.contract function.now value) }
+    ensures kept { IfOk result (λ _. IsKeptWorld (deployed_seen deployed.now) world.new.stack.top) }
+    ensures within { SpendsWithin (cost_function costs.now) (deployed_seen deployed.now) frame.now.contract function.now meter.old meter.new }
+    ensures memory { result ≡ Err Fault.NoMemory → meter.new ≡ meter.old }
+    ensures below { world.new.stack.below ≡ world.old.stack.below }
+{
+    let mut nobody = Silent;
+    run_watched(
+        alloc,
+        world,
+        deployed,
+        frame,
+        function,
+        args,
+        costs,
+        meter,
+        &mut nobody,
+    )
+}
+
+/// Calls a function as `run` does, and tells `watch` the value of each node that gives one, in the order in which they end. Where
+/// the limit stops the call, these are the nodes before that charge; after want of memory, the start of them.
+pub fn run_watched<W: Watch>(
+    alloc: Global,
+    world: &mut World,
+    deployed: &Deployed,
+    frame: &Frame,
+    function: &Name,
+    args: Vec<Val>,
+    costs: &CostTable,
+    meter: &mut Meter,
+    watch: &mut W,
+) -> Result<Val, Fault<Abort>>
+    requires indexed { AreIndexed deployed.now }
+    requires kept { IsKeptWorld (deployed_seen deployed.now) world.old.stack.top }
+    requires called { IsFittingCall (deployed_seen deployed.now) frame.now.contract function.now args.items }
+    requires few { length args.items < 4294967296 }
+    ensures meant { Answers (limited (cost_function costs.now) meter.old (with_known (function_of function.now (contract_at frame.now.contract (deployed_seen deployed.now))) (λ f. call_from (deployed_seen deployed.now) (frame_seen frame.now) f args.items) world.old.stack.top)) result meter.new world.new.stack.top }
+    ensures returned { IfRefused result (λ abort. abort ≢ Abort.EarlyTop) }
+    ensures typed { IfOk result (λ value. IsReturnOf (deployed_seen deployed.now) frame.now.contract function.now value) }
+    ensures kept { IfOk result (λ _. IsKeptWorld (deployed_seen deployed.now) world.new.stack.top) }
+    ensures within { SpendsWithin (cost_function costs.now) (deployed_seen deployed.now) frame.now.contract function.now meter.old meter.new }
+    ensures memory { result ≡ Err Fault.NoMemory → meter.new ≡ meter.old }
+    ensures below { world.new.stack.below ≡ world.old.stack.below }
+    ensures seen { Tells (W.seen watch.old) (W.seen watch.new) (trace (cost_function costs.now) meter.old (with_known (function_of function.now (contract_at frame.now.contract (deployed_seen deployed.now))) (λ f. call_from (deployed_seen deployed.now) (frame_seen frame.now) f args.items) world.old.stack.top)) result }
+{
+    functions_are_sound();
+    limits_leave_sound_answers();
+    charges_stay_within_bounds();
+    is_valid(frame);
+    let before = meter.copy();
+    match call_named(
+        alloc, world, deployed, frame, function, args, costs, meter, watch,
+    ) {
+        Ok(value) => Ok(value),
+        Err(stop) => Err(fault(stop, before, meter)),
+    }
+}
