@@ -12,11 +12,11 @@ ghost use Rattle.cl_frames.specs.Seen.{scope, scope_of, Fits};
 
 use crate::calls::enter;
 use crate::walk::evaluate_parts;
+use cl_calls::{callable, called, contract_there, principal_of, same};
 use cl_code::{Code, Target, Watch, Word};
 use cl_frames::{Context, Home, Names, Stop, pay};
 use cl_shapes::{CostName, Meter};
 use cl_state::World;
-use cl_steps::{callable, called, contract_there, principal_of, same};
 use cl_types::Name;
 use cl_values::Val;
 

@@ -9,11 +9,12 @@ ghost use Rattle.cl_frames.specs.Seen.{scope, scope_of, Fits};
 ghost use Rattle.cl_frames.specs.Watching.{Walks, amount};
 
 use crate::walk::{evaluate, evaluate_parts};
+use cl_calls::{bind, close, is_public, returned};
 use cl_code::{Code, Function, Watch};
 use cl_frames::{Context, Names, Stop, pay};
 use cl_shapes::{CostName, Meter};
 use cl_state::World;
-use cl_steps::{bind, close, is_public, own_function, returned};
+use cl_steps::own_function;
 use cl_types::Name;
 use cl_values::Val;
 

@@ -8,12 +8,13 @@ ghost use Rattle.cl_frames.specs.Seen.{scope, Fits};
 ghost use Rattle.cl_frames.specs.Watching.{Walks, amount};
 
 use crate::walk::{evaluate, evaluate_parts, evaluate_thrown, evaluate_truth};
+use cl_calls::{as_contract, last};
 use cl_code::{Code, Watch};
 use cl_frames::{Context, Names, Stop, Way, err_way_of, into_content, pay, tried, way_of};
 use cl_seq::bool_value;
 use cl_shapes::{CostName, Meter};
 use cl_state::World;
-use cl_steps::{as_contract, last, print};
+use cl_steps::print;
 use cl_values::Val;
 
 #[cycle(evaluate)]

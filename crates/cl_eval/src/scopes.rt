@@ -11,13 +11,13 @@ ghost use Rattle.cl_frames.specs.Seen.{costs_of, scope, scope_of, Fits};
 ghost use Rattle.cl_frames.specs.Watching.{BindsAll, Walks, amount, watched};
 
 use crate::walk::{evaluate, evaluate_parts};
+use cl_calls::last;
 use cl_code::{Binding, Code, Watch, Word};
 use cl_frames::{
     Context, Names, Stop, Way, into_content, optional_way_of, pay, pay_for, response_way_of,
 };
 use cl_shapes::{CostName, Meter};
 use cl_state::World;
-use cl_steps::last;
 use cl_types::Name;
 use cl_values::Val;
 

@@ -18,14 +18,14 @@ use crate::on_names::evaluate_on_name;
 use crate::on_parts::evaluate_on_parts;
 use crate::scopes::{evaluate_let, evaluate_match_optional, evaluate_match_response};
 use crate::tuples::{evaluate_as_max_len, evaluate_tuple, evaluate_tuple_of};
+use cl_calls::beside;
 use cl_code::{Code, Op, Watch};
 use cl_frames::{Context, Names, Stop, truth};
 use cl_seq::{int_value, uint_value};
 use cl_shapes::{CostName, Meter};
 use cl_state::World;
 use cl_steps::{
-    ascii_literal, beside, buff_literal, keyword, named, native_on, principal_literal, stands,
-    utf8_literal,
+    ascii_literal, buff_literal, keyword, named, native_on, principal_literal, stands, utf8_literal,
 };
 use cl_values::{Native, Val};
 

@@ -12,6 +12,7 @@ ghost use Rattle.cl_frames.specs.Homes.{frame_seen};
 ghost use Rattle.cl_frames.specs.Sound.{IsFittingCall, IsKeptWorld, IsReturnOf, SpendsWithin};
 ghost use Rattle.cl_frames.specs.Watching.{Ends, Tells, amount, trace, watched};
 
+use cl_calls::is_valid;
 use cl_code::{Silent, Watch};
 use cl_contract_sound::{
     charges_stay_within_bounds, functions_are_sound, limits_leave_sound_answers,
@@ -22,7 +23,6 @@ use cl_eval::enter;
 use cl_frames::{Abort, Context, Frame, Home, Stop, fault};
 use cl_shapes::Meter;
 use cl_state::World;
-use cl_steps::is_valid;
 use cl_types::{Fault, Name};
 use cl_values::Val;
 use std::alloc::Global;

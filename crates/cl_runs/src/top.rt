@@ -10,6 +10,7 @@ ghost use Rattle.cl_frames.specs.Sound.{DeploySpendsWithin, IsAcceptedAfter, IsK
 ghost use Rattle.cl_frames.specs.Watching.{Tells, amount, trace};
 
 use crate::definitions::define;
+use cl_calls::is_valid;
 use cl_code::{Definition, Silent, Watch};
 use cl_contract_sound::{
     charges_stay_within_bounds, deployments_are_sound, limits_leave_sound_answers,
@@ -19,7 +20,6 @@ use cl_costs::CostTable;
 use cl_frames::{Abort, Deploying, Frame, Stop, fault, pay};
 use cl_shapes::{CostName, Meter};
 use cl_state::World;
-use cl_steps::is_valid;
 use cl_types::{Fault, Name};
 use cl_values::Val;
 use indexmap::IndexMap;

@@ -4,7 +4,6 @@ ghost use Rattle.cl_c32.specs.declared.principal.Principal.{Principal};
 ghost use Rattle.cl_events.specs.State.{State};
 ghost use Rattle.cl_forms.specs.Names.{is_one_of};
 ghost use Rattle.cl_forms.specs.Keywords.{keyword_name, keywords};
-ghost use Rattle.cl_forms.specs.Shapes.{beside};
 ghost use Rattle.cl_shapes.specs.declared.name.CostName.TheVariants.{Literal};
 ghost use Rattle.cl_values.specs.Tree.{BuffV, AsciiV, Utf8V, PrincipalV, depth_of};
 ghost use Rattle.cl_values.specs.View.{tree_of};
@@ -14,7 +13,7 @@ ghost use Rattle.cl_meaning.specs.Names.{name_form, standing, literal};
 ghost use Rattle.cl_frames.specs.Runs.{Runs};
 ghost use Rattle.cl_frames.specs.Seen.{scope, Fits};
 
-use cl_c32::{ContractName, Principal};
+use cl_c32::Principal;
 use cl_forms::Keyword;
 use cl_frames::{Context, Names, Stop, pay_for};
 use cl_seq::{bool_value, int_value, none, uint_value};
@@ -113,16 +112,6 @@ pub fn principal_literal(
         principal_value(principal),
         meter,
     )
-}
-
-/// The contract of a name beside another.
-pub fn beside(contract: &Principal, name: ContractName) -> Principal
-    ensures { result ≡ beside contract.now name }
-{
-    Principal {
-        address: contract.address,
-        contract: Some(name),
-    }
 }
 
 /// A keyword.

@@ -19,11 +19,11 @@ ghost use Rattle.cl_frames.specs.Runs.{Ends, Runs, Computes};
 ghost use Rattle.cl_frames.specs.Seen.{scope};
 ghost use Rattle.cl_frames.specs.Tails.{supply_read, balance_read, stx_read, owner_read, amount_read, token_acted};
 
-use crate::across::{is_valid, same};
 use crate::acts::{act_of, burn_stx, principal_of, send_stx};
 use crate::literals::principal_value;
 use crate::natives::computed;
 use cl_c32::Principal;
+use cl_calls::{is_valid_principal, same};
 use cl_events::{Asset, EventKind};
 use cl_forms::TokenNative;
 use cl_frames::{Context, Names, Stop, pay, pay_for, pay_for_all};
@@ -106,7 +106,7 @@ pub fn read_stx(
 fn some_principal(context: &Context, principal: Principal) -> Result<Val, Stop>
     ensures { (costs : Costs) (p : Purse) (s : State) → Ends (limited costs p (give (SomeV (PrincipalV principal)) s)) result p s }
 {
-    is_valid(&principal);
+    is_valid_principal(&principal);
     computed(some(context.alloc, principal_value(principal)))
 }
 

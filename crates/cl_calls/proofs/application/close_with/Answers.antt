@@ -4,7 +4,7 @@ use Rattle.cl_meaning.specs.Answers.{Wrong}
 use Rattle.cl_meaning.specs.Limits.{limited}
 use Rattle.cl_meaning.proofs.LimitLaws.{limited-stop}
 use Rattle.cl_frames.proofs.Closing.{closing_wrong}
-use Rattle.cl_steps.proofs.application.close_with.Goals as goal
+use Rattle.cl_calls.proofs.application.close_with.Goals as goal
 
 pub returns-in-None : goal.returns-in-None
 returns-in-None c costs p before rest h = record {

@@ -6,7 +6,7 @@ use Rattle.cl_meaning.specs.Answers.{Given}
 use Rattle.cl_meaning.specs.Limits.{Gave, limited}
 use Rattle.cl_meaning.proofs.LimitLaws.{limited-stop}
 use Rattle.cl_frames.proofs.Closing.{closing_err}
-use Rattle.cl_steps.proofs.application.close_response.Goals as goal
+use Rattle.cl_calls.proofs.application.close_response.Goals as goal
 
 pub returns-else-good : goal.returns-else-good
 returns-else-good c costs p before rest h =

@@ -4,7 +4,7 @@ ghost use Rattle.cl_values.specs.Valid.{IsPrincipal};
 ghost use Rattle.cl_meaning.specs.Scope.{as_contract, called};
 ghost use Rattle.cl_frames.specs.Homes.{frame_seen};
 
-use crate::across::is_valid as is_principal;
+use crate::across::is_valid_principal;
 use cl_c32::Principal;
 use cl_frames::Frame;
 
@@ -40,8 +40,8 @@ pub fn is_valid(frame: &Frame)
     ensures caller { IsPrincipal frame.now.caller }
     ensures height { frame.now.height < 2 ^ 128 }
 {
-    is_principal(&frame.contract);
-    is_principal(&frame.sender);
-    is_principal(&frame.caller);
+    is_valid_principal(&frame.contract);
+    is_valid_principal(&frame.sender);
+    is_valid_principal(&frame.caller);
     let _height = frame.height;
 }

@@ -2,7 +2,7 @@ use Rattle.std.proofs.Common.{◌<◌, ◌≤◌, ◌∙◌, length, arith}
 use Rattle.std.proofs.lemmas.Result.{err_from_is_err_and}
 use Rattle.cl_frames.proofs.WatchSteps.{stops_eq}
 use Rattle.cl_frames.proofs.Binding.{bind_starts, bind_turn, bind_stops, bind_past, bind_short, bind_end, binds_not}
-use Rattle.cl_steps.proofs.application.bind.Goals as goal
+use Rattle.cl_calls.proofs.application.bind.Goals as goal
 
 pub loop-place-init : goal.loop-place-init
 loop-place-init c = bind_starts _ _ _ _

@@ -4,7 +4,7 @@ use Rattle.cl_meaning.specs.Control.{last_of}
 use Rattle.cl_meaning.specs.Limits.{limited}
 use Rattle.cl_meaning.proofs.LimitLaws.{limited-stop}
 use Rattle.cl_frames.proofs.Lasts.{last_at, last_of_none}
-use Rattle.cl_steps.proofs.application.last.Goals as goal
+use Rattle.cl_calls.proofs.application.last.Goals as goal
 
 pub returns-in-Some : goal.returns-in-Some
 returns-in-Some c costs p s =

@@ -5,7 +5,7 @@ use Rattle.cl_meaning.specs.Answers.{Given}
 use Rattle.cl_meaning.specs.Limits.{Gave, limited}
 use Rattle.cl_meaning.proofs.LimitLaws.{limited-stop}
 use Rattle.cl_frames.proofs.Closing.{closing_ok}
-use Rattle.cl_steps.proofs.application.keep.Goals as goal
+use Rattle.cl_calls.proofs.application.keep.Goals as goal
 
 pub returns-in-Ok : goal.returns-in-Ok
 returns-in-Ok c costs p before rest h = record {

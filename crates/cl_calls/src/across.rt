@@ -3,18 +3,28 @@ ghost use Rattle.std.specs.Prelude.{◌≡◌, [], option_map, option_and_then, 
 ghost use Rattle.cl_values.specs.Valid.{IsPrincipal};
 ghost use Rattle.cl_contracts.specs.Seen.{AreIndexed, IsIndexed, forms_of, function_seen, deployed_seen};
 ghost use Rattle.cl_events.specs.State.{is_principal};
+ghost use Rattle.cl_forms.specs.Shapes.{beside};
 ghost use Rattle.cl_meaning.specs.Deployed.{contract_at, function_in};
 ghost use Rattle.cl_meaning.specs.Calls.{callable};
 ghost use Rattle.cl_frames.specs.Homes.{home_seen, with_opening, IsOpening};
 ghost use Rattle.cl_frames.specs.Across.{principal_in, there};
 
-use crate::literals::beside;
-use cl_c32::Principal;
+use cl_c32::{ContractName, Principal};
 use cl_code::{Function, Target};
 use cl_contracts::{Checked, Deployed};
 use cl_frames::{Context, Home};
 use cl_types::{Access, Name};
 use cl_values::one_spelling;
+
+/// The contract of a name beside another.
+pub fn beside(contract: &Principal, name: ContractName) -> Principal
+    ensures { result ≡ beside contract.now name }
+{
+    Principal {
+        address: contract.address,
+        contract: Some(name),
+    }
+}
 
 /// The principal that a literal names.
 pub fn principal_of(context: &Context, target: &Target) -> Principal
@@ -27,7 +37,7 @@ pub fn principal_of(context: &Context, target: &Target) -> Principal
 }
 
 /// A law of each principal: it is valid.
-pub(crate) fn is_valid(principal: &Principal)
+pub fn is_valid_principal(principal: &Principal)
     ensures { IsPrincipal principal.now }
 {
     let _version = principal.address.version;
@@ -41,8 +51,8 @@ pub fn same(one: &Principal, other: &Principal) -> bool
     ensures { result ≡ is_principal one.now other.now }
 {
     one_spelling();
-    is_valid(one);
-    is_valid(other);
+    is_valid_principal(one);
+    is_valid_principal(other);
     *one == *other
 }
 

@@ -1,0 +1,10 @@
+//! What comes before and after the body of a function: the frame, the charges of its parameters, and the layer.
+#![tactic(auto)]
+
+mod across;
+mod application;
+mod frame;
+
+pub use across::{beside, callable, contract_there, is_valid_principal, principal_of, same};
+pub use application::{bind, close, is_public, last, returned};
+pub use frame::{as_contract, called, is_valid};
