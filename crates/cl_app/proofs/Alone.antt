@@ -6,10 +6,10 @@ use Rattle.cl_values.specs.Tree.{Tree}
 use Rattle.cl_app.specs.declared.pieces.Reply.{Reply}
 use Rattle.cl_app.specs.declared.pieces.Stop.{Stop}
 use Rattle.cl_app.specs.Answer.{IsAnswerAlone}
-use Rattle.cl_app.specs.Argument.{Arguments, Spell}
+use Rattle.cl_words.specs.Argument.{Arguments, Spell}
 use Rattle.cl_app.specs.Reply.{answer_of}
 use Rattle.cl_app.specs.Spelling.{Answer, no_value_answer}
-use Rattle.cl_app.specs.Words.{Command, Call, Run, Check}
+use Rattle.cl_words.specs.Words.{Command, Call, Run, Check}
 use Rattle.cl_app.proofs.Once.{OneOutcome, spell_same}
 
 -- a reply to a command by another word for it

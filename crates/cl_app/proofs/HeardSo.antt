@@ -18,7 +18,7 @@ use Rattle.cl_tx.specs.Step.{Commits}
 use Rattle.cl_app.specs.FileAnswers.{is_long}
 use Rattle.cl_app.specs.Heard.{IsEventsByLength, IsFileEvents, IsEventsOf, IsEventsIn, IsEventsUnder, IsCommittedBy, HearsAllOf, HearsAll, HearsPart, HearsHeld, HearsUnder}
 use Rattle.cl_app.specs.Streams.{TellsAll}
-use Rattle.cl_app.specs.Words.{Command, Run}
+use Rattle.cl_words.specs.Words.{Command, Run}
 use Rattle.cl_app.proofs.ReadSo.{long_is}
 
 -- ---- nothing was told

@@ -26,11 +26,11 @@ use Rattle.cl_tx.specs.Nodes.{Told}
 use Rattle.cl_tx.specs.Seen.{SourceBreak}
 use Rattle.cl_tx.specs.Step.{told_of, return_of}
 use Rattle.cl_report.specs.Checks.{accepted_lines, refused_line}
-use Rattle.cl_app.specs.declared.sources.Source.{Source}
+use Rattle.cl_words.specs.declared.sources.Source.{Source}
 use Rattle.cl_app.specs.Checked.{IsReport, accepted_answer, all_checked, refused_answer}
 use Rattle.cl_app.specs.Checking.{Contracts, IsAccepted, IsBounded, IsChecked, IsKept, IsRefused, AcceptedSoFar, AreApart, AreNew, AreOthers}
 use Rattle.cl_app.specs.Reply.{bytes_of}
-use Rattle.cl_app.specs.Sources.{are_sources, contract_at, has_name, have_one_name, names_differ, source_name}
+use Rattle.cl_words.specs.Sources.{are_sources, contract_at, has_name, have_one_name, names_differ, source_name}
 use Rattle.cl_engine.specs.Deploying.{type_returned}
 use Rattle.cl_engine.proofs.Knowing.{standing_push, types_told}
 

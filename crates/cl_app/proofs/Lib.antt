@@ -2,10 +2,6 @@ pub mod Reached
 pub mod Telling
 pub mod Counted
 pub mod Called
-pub mod Components
-pub mod SameTexts
-pub mod Digits
-pub mod WordSources
 pub mod Judged
 pub mod ReadSo
 pub mod HeardSo
@@ -14,5 +10,4 @@ pub mod Stopped
 pub mod RunSo
 pub mod Once
 mod Alone
-pub mod Arguments
 pub mod Spellings

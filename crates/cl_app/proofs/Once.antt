@@ -28,9 +28,9 @@ use Rattle.cl_tx.specs.Step.{told_of}
 use Rattle.cl_report.specs.Lines.{report_from}
 use Rattle.cl_report.specs.StateLines.{IsStateText}
 use Rattle.cl_app.specs.declared.pieces.Reply.{Reply}
-use Rattle.cl_app.specs.declared.sources.Source.{Source}
-use Rattle.cl_app.specs.Words.{Command, Call, Run, Check, Value, Wire, Gen}
-use Rattle.cl_app.specs.Argument.{Arguments, before, from_word, Spell}
+use Rattle.cl_words.specs.declared.sources.Source.{Source}
+use Rattle.cl_words.specs.Words.{Command, Call, Run, Check, Value, Wire, Gen}
+use Rattle.cl_words.specs.Argument.{Arguments, before, from_word, Spell}
 use Rattle.cl_app.specs.Spelling.{Answer, wire_answer}
 use Rattle.cl_app.specs.Called.{deployment, call, called_answer, IsCalled}
 use Rattle.cl_app.specs.Ran.{IsStatePart, IsRun, IsRunOf, IsRan, IsRanUnder, IsRunAnswer}

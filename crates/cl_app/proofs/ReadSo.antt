@@ -13,16 +13,16 @@ use Rattle.cl_ports.specs.Files.{Held, IsContent, content_of}
 use Rattle.cl_ports.specs.Growth.{Grows, GrowsPart}
 use Rattle.cl_ports.proofs.Grown.{grows_twice, part_next, part_more, part_whole}
 use Rattle.cl_app.specs.declared.pieces.Reply.{Reply}
-use Rattle.cl_app.specs.declared.sources.Source.{Source}
+use Rattle.cl_words.specs.declared.sources.Source.{Source}
 use Rattle.cl_app.specs.Checked.{Sources, check_named, named_after, named_by, named_under, names_behind, names_by, paths_named, sources_by_length, sources_under, sources_with, with_source}
 use Rattle.cl_app.specs.CheckReply.{AsksUnder}
 use Rattle.cl_app.specs.FileAnswers.{is_long}
 use Rattle.cl_app.specs.Reading.{AreRead, AskedSoFar, AsksPaths, IsRead, ReadSoFar, behind_sources}
 use Rattle.cl_app.specs.Reply.{answer_of}
-use Rattle.cl_app.specs.Sources.{contract_at}
+use Rattle.cl_words.specs.Sources.{contract_at}
 use Rattle.cl_app.specs.Spelling.{Answer}
 use Rattle.cl_app.specs.Top.{AsksPart}
-use Rattle.cl_app.specs.Words.{Check, texts}
+use Rattle.cl_words.specs.Words.{Check, texts}
 
 -- ---- what is read
 

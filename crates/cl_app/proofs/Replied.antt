@@ -11,7 +11,7 @@ use Rattle.cl_app.specs.Answer.{IsAnswerAlone}
 use Rattle.cl_app.specs.Reply.{answer_of, bytes_of, Completes, CountsReadStop, CountsStop, CountsWriteStop}
 use Rattle.cl_app.specs.Spelling.{Answer}
 use Rattle.cl_app.specs.Top.{Answers, AnswersAlone, IsAnswer}
-use Rattle.cl_app.specs.Words.{Command}
+use Rattle.cl_words.specs.Words.{Command}
 use Rattle.cl_app.proofs.Telling.{grows_nothing}
 
 -- ---- what a reply completes

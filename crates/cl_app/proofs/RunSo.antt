@@ -13,7 +13,7 @@ use Rattle.cl_app.specs.Reply.{IsHeldAnswer}
 use Rattle.cl_app.specs.RunReply.{IsRunUnder}
 use Rattle.cl_app.specs.Spelling.{Answer}
 use Rattle.cl_app.specs.Top.{AsksPart, IsAnswer}
-use Rattle.cl_app.specs.Words.{Run}
+use Rattle.cl_words.specs.Words.{Run}
 use Rattle.cl_app.proofs.ReadSo.{long_is}
 
 -- the file of costs alone may have been asked for

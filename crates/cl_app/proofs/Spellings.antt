@@ -9,7 +9,7 @@ use Rattle.cl_text.specs.Parsed.{Reading, Parses, outcome_of}
 use Rattle.cl_text.specs.declared.refusal.TextRefusal.{TextRefusal}
 use Rattle.cl_text.specs.declared.refusal.TextRefusal.TheVariants as refused
 use Rattle.cl_app.specs.Spelling.{Answer, digits_in, bytes_answer, hex_answer, value_answer, no_value_answer, wire_answer}
-use Rattle.cl_app.specs.Words.{Command, Wire}
+use Rattle.cl_words.specs.Words.{Command, Wire}
 use Rattle.cl_app.specs.Answer.{IsWireAnswer}
 use Rattle.cl_app.specs.Top.{IsAnswer}
 use Rattle.cl_app.specs.Reply.{answer_of}

@@ -29,7 +29,7 @@ use Rattle.cl_app.specs.Reply.{bytes_of, Completes}
 use Rattle.cl_app.specs.Spelling.{Answer}
 use Rattle.cl_app.specs.Streams.{HearsWritten, RunReads, Stops, StopsHeld, StopsIn, StopsUnder, Untouched, WritesAll, WritesFirst}
 use Rattle.cl_app.specs.Top.{AnswersPart, IsAnswer}
-use Rattle.cl_app.specs.Words.{Command, Run}
+use Rattle.cl_words.specs.Words.{Command, Run}
 use Rattle.cl_app.proofs.Telling.{committed_append, each_result, report_front, written_none}
 
 -- ---- so many first entries, and all

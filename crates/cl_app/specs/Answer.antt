@@ -2,8 +2,8 @@
 use Rattle.std.specs.Prelude.{◌≡◌, ℕ, List, [], ◌∷◌, Option, Some, None, Ok, Err, codes}
 use Rattle.cl_ports.specs.Files.{Held, content_of}
 use Rattle.cl_text.specs.Parsed.{Reading, Parses}
-use Rattle.cl_app.specs.Words.{Command, Call, Run, Check, Value, Wire, Gen}
-use Rattle.cl_app.specs.Argument.{Arguments, Spell}
+use Rattle.cl_words.specs.Words.{Command, Call, Run, Check, Value, Wire, Gen}
+use Rattle.cl_words.specs.Argument.{Arguments, Spell}
 use Rattle.cl_app.specs.Spelling.{Answer, no_value_answer, value_answer, wire_answer}
 use Rattle.cl_app.specs.FileAnswers.{IsFileAnswer}
 use Rattle.cl_app.specs.Called.{IsCalled}

@@ -12,7 +12,7 @@ use Rattle.cl_file.specs.Paths.{Read}
 use Rattle.cl_file.specs.Files.{FileSeen, FileReads}
 use Rattle.cl_tx.specs.Step.{Commits}
 use Rattle.cl_app.specs.FileAnswers.{is_long}
-use Rattle.cl_app.specs.Words.{Command, Run}
+use Rattle.cl_words.specs.Words.{Command, Run}
 
 -- ---- the events of a command
 

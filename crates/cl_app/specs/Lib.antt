@@ -1,9 +1,4 @@
-pub mod Sources
-pub mod Numbers
 pub mod Generated
-pub mod Words
-pub mod Seen
-pub mod Argument
 pub mod Spelling
 pub mod FileAnswers
 pub mod Checked

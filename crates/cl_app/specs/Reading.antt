@@ -6,11 +6,11 @@ use Rattle.cl_c32.specs.Address.{AddressParts}
 use Rattle.cl_ports.specs.Files.{Held, IsContent, IsLongContent}
 use Rattle.cl_ports.specs.Growth.{Grows, GrowsPart}
 use Rattle.cl_app.specs.declared.pieces.Reply.{Reply}
-use Rattle.cl_app.specs.declared.sources.Source.{Source}
+use Rattle.cl_words.specs.declared.sources.Source.{Source}
 use Rattle.cl_app.specs.Checked.{Sources, sources_under, paths_named}
 use Rattle.cl_app.specs.FileAnswers.{is_long, long_file_answer}
 use Rattle.cl_app.specs.Reply.{answer_of}
-use Rattle.cl_app.specs.Sources.{contract_at}
+use Rattle.cl_words.specs.Sources.{contract_at}
 
 -- the source under a path, or the reply where it is too long
 abbrev pub IsRead : Option Held → AddressParts → List ℕ → Result Source Reply → Type 0

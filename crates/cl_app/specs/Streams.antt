@@ -24,7 +24,7 @@ use Rattle.cl_app.specs.Entries.{Reaches}
 use Rattle.cl_app.specs.FileAnswers.{is_long}
 use Rattle.cl_app.specs.Ran.{IsRun}
 use Rattle.cl_app.specs.Spelling.{Answer}
-use Rattle.cl_app.specs.Words.{Command, Run}
+use Rattle.cl_words.specs.Words.{Command, Run}
 
 -- nothing was written, and nobody told
 pub record Untouched (before now : Option (List ℕ)) (were are : Both) : Type 0 where

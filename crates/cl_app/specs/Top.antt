@@ -2,7 +2,7 @@
 use Rattle.std.specs.Prelude.{◌≡◌, ◌≢◌, ℕ, List, Option, Some}
 use Rattle.cl_ports.specs.Files.{Held}
 use Rattle.cl_ports.specs.Growth.{Grows, GrowsPart}
-use Rattle.cl_app.specs.Words.{Command}
+use Rattle.cl_words.specs.Words.{Command}
 use Rattle.cl_app.specs.Spelling.{Answer}
 use Rattle.cl_app.specs.Answer.{IsAnswerAlone, IsAnswerTo, IsNamed}
 

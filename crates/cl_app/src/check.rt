@@ -5,19 +5,19 @@ ghost use Rattle.cl_costs.specs.Tables.{function_of};
 ghost use Rattle.cl_app.specs.CheckReply.{AsksUnder, IsCostsAnswer, IsPathsAnswer};
 ghost use Rattle.cl_app.specs.Reading.{AsksPaths};
 ghost use Rattle.cl_app.specs.Reply.{answer_of, CountsReadStop};
-ghost use Rattle.cl_app.specs.Sources.{are_sources};
+ghost use Rattle.cl_words.specs.Sources.{are_sources};
 ghost use Rattle.cl_app.specs.Top.{AsksPart, IsAnswer, IsOwnStatus};
-ghost use Rattle.cl_app.specs.Words.{Check, texts};
+ghost use Rattle.cl_words.specs.Words.{Check, texts};
 
 use crate::bad_file::{bad_costs, long_file};
 use crate::judge::report;
 use crate::pieces::{Reply, Stop};
 use crate::reading::read_sources;
-use crate::words::CheckWords;
 use cl_c32::Address;
 use cl_costs::{CostTable, read};
 use cl_ports::{Files, ReadRefusal};
 use cl_types::Fault;
+use cl_words::CheckWords;
 use std::alloc::Global;
 
 /// The reply under a table of costs.

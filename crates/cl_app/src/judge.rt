@@ -12,7 +12,6 @@ ghost use Rattle.cl_app.specs.Reply.{answer_of, bytes_of};
 ghost use Rattle.cl_app.specs.Top.{IsOwnStatus};
 
 use crate::pieces::Reply;
-use crate::sources::Source;
 use cl_bound::{ContractBounds, KnownBounds, Priced, bound};
 use cl_check::check;
 use cl_contracts::{Checked, Contract, Deployed, what_callers_know};
@@ -22,6 +21,7 @@ use cl_report::{accepted_lines, refused_line};
 use cl_sexpr::Refusal;
 use cl_tx::{Bounds, SourceRefusal};
 use cl_types::{Fault, NoMemory};
+use cl_words::Source;
 use indexmap::IndexMap;
 use std::alloc::Global;
 

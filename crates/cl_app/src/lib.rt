@@ -2,23 +2,18 @@
 //! are written and the status.
 #![tactic(auto)]
 
-mod argument;
 mod bad_file;
 mod call;
 mod check;
 mod entries;
 mod generated;
 mod judge;
-mod line;
-mod numbers;
 mod pieces;
 mod reading;
 mod reply;
 mod run;
 mod run_words;
-mod sources;
 mod spelling;
 mod top;
-mod words;
 
 pub use top::clarity;

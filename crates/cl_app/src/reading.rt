@@ -3,17 +3,17 @@ ghost use Rattle.std.specs.Prelude.{◌≡◌, ◌≢◌, ◌++◌, ◌∷◌, [
 ghost use Rattle.cl_ports.specs.Growth.{Grows, GrowsPart};
 ghost use Rattle.cl_app.specs.Reading.{sources_seen, AreRead, AsksPaths, IsRead};
 ghost use Rattle.cl_app.specs.Reply.{CountsReadStop};
-ghost use Rattle.cl_app.specs.Sources.{contract_at};
+ghost use Rattle.cl_words.specs.Sources.{contract_at};
 ghost use Rattle.cl_app.specs.Top.{IsOwnStatus};
-ghost use Rattle.cl_app.specs.Words.{texts};
+ghost use Rattle.cl_words.specs.Words.{texts};
 
 use crate::bad_file::long_file;
 use crate::pieces::{Reply, Stop};
-use crate::sources::{Source, contract_at};
 use cl_c32::Address;
 use cl_ports::{Files, ReadRefusal};
 use cl_tx::Row;
 use cl_types::NoMemory;
+use cl_words::{Source, contract_at};
 use std::alloc::Global;
 
 /// The source under a path, or the reply where it is too long.

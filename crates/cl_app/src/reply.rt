@@ -5,27 +5,25 @@ ghost use Rattle.cl_ports.specs.Growth.{GrowsPart};
 ghost use Rattle.cl_app.specs.Answer.{IsAnswerAlone, usage_answer};
 ghost use Rattle.cl_app.specs.Called.{IsCalled};
 ghost use Rattle.cl_app.specs.Heard.{HearsAll};
-ghost use Rattle.cl_app.specs.Seen.{line_of};
-ghost use Rattle.cl_app.specs.Words.{Call, command_on, taken, texts};
+ghost use Rattle.cl_words.specs.Seen.{line_of};
+ghost use Rattle.cl_words.specs.Words.{Call, command_on, taken, texts};
 ghost use Rattle.cl_app.specs.Reply.{answer_of, Completes, CountsReadStop, CountsStop, CountsWriteStop, IsHeldAnswer};
 ghost use Rattle.cl_app.specs.Streams.{Stops};
 ghost use Rattle.cl_app.specs.Top.{IsAnswer, IsOwnStatus, AsksPart};
 
-use crate::argument::values;
 use crate::bad_file::long_file;
 use crate::call::call_reply;
 use crate::check::check_words;
 use crate::generated::gen_reply;
-use crate::line::{Line, read};
 use crate::pieces::{Reply, Stop, fixed_line};
 use crate::run_words::run_words;
 use crate::spelling::{no_value, value_reply, wire_reply};
-use crate::words::{Command, command_on};
 use cl_listeners::{Listener, Listeners, events_told_in_turn};
 use cl_ports::{Files, ReadRefusal, Sink};
 use cl_text::one_outcome;
 use cl_types::Fault;
 use cl_values::Val;
+use cl_words::{Command, Line, command_on, read, values};
 use std::alloc::{AllocError, Global};
 
 /// The reply to words that are not of the table.

@@ -9,7 +9,7 @@ ghost use Rattle.cl_app.specs.Reply.{Completes, CountsStop, CountsWriteStop, IsH
 ghost use Rattle.cl_app.specs.RunReply.{IsRunUnder};
 ghost use Rattle.cl_app.specs.Streams.{Stops, StopsHeld, StopsUnder};
 ghost use Rattle.cl_app.specs.Top.{AsksPart, IsAnswer, IsOwnStatus};
-ghost use Rattle.cl_app.specs.Words.{Run};
+ghost use Rattle.cl_words.specs.Words.{Run};
 
 use crate::bad_file::{bad_costs, long_file};
 use crate::pieces::{Reply, Stop};

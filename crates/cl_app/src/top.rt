@@ -3,7 +3,7 @@ ghost use Rattle.std.specs.Prelude.{◌≡◌, ◌≢◌, ◌⊎◌, None, OnOk}
 ghost use Rattle.std.specs.List.{flat_map};
 ghost use Rattle.cl_ports.specs.Growth.{Rose, Grows, GrowsPart};
 ghost use Rattle.cl_ports.specs.Sink.{CountsWriteFault};
-ghost use Rattle.cl_app.specs.Words.{taken, texts};
+ghost use Rattle.cl_words.specs.Words.{taken, texts};
 ghost use Rattle.cl_app.specs.Answer.{usage_answer};
 ghost use Rattle.cl_app.specs.Heard.{HearsAll, HearsPart};
 ghost use Rattle.cl_app.specs.Streams.{HearsWritten};

@@ -1,6 +1,6 @@
 use Rattle.std.proofs.Common.{map, ap, ◌∙◌}
-use Rattle.cl_app.specs.declared.sources.Source.{Source}
-use Rattle.cl_app.specs.Words.{texts}
+use Rattle.cl_words.specs.declared.sources.Source.{Source}
+use Rattle.cl_words.specs.Words.{texts}
 use Rattle.cl_app.proofs.Judged.{are_apart, names_apart}
 use Rattle.cl_app.proofs.check.check_paths.Goals as goal
 

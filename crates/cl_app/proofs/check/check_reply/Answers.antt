@@ -2,7 +2,7 @@ use Rattle.std.proofs.Common.{ℕ, List, Option, subst}
 use Rattle.cl_costs.specs.CostFile.{table_of}
 use Rattle.cl_ports.specs.Files.{Held}
 use Rattle.cl_app.specs.CheckReply.{AsksUnder}
-use Rattle.cl_app.specs.Words.{texts}
+use Rattle.cl_words.specs.Words.{texts}
 use Rattle.cl_app.proofs.ReadSo.{asks_costs, asks_costs_and, short_is}
 use Rattle.cl_app.proofs.check.check_reply.Goals as goal
 

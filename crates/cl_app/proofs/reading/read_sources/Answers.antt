@@ -3,11 +3,11 @@ use Rattle.std.proofs.lemmas.List.{take_all}
 use Rattle.std.specs.declared.alloc.Global.{Global}
 use Rattle.std.specs.declared.string.String.{String}
 use Rattle.cl_ports.specs.Files.{Held}
-use Rattle.cl_app.specs.declared.sources.Source.{Source}
+use Rattle.cl_words.specs.declared.sources.Source.{Source}
 use Rattle.cl_app.specs.Reading.{IsRead}
-use Rattle.cl_app.specs.Sources.{contract_at}
-use Rattle.cl_app.specs.Words.{texts}
-use Rattle.cl_app.proofs.Arguments.{no_word_left, word_in_front}
+use Rattle.cl_words.specs.Sources.{contract_at}
+use Rattle.cl_words.specs.Words.{texts}
+use Rattle.cl_words.proofs.Arguments.{no_word_left, word_in_front}
 use Rattle.cl_app.proofs.ReadSo.{asked_first, asked_next, asked_part, asked_so_far, contracts_next, read_all, read_first, read_long, read_next}
 use Rattle.cl_app.proofs.reading.read_sources.Goals as goal
 

@@ -1,7 +1,7 @@
 use Rattle.std.proofs.Common.{◌≡◌, drop, map, take}
 use Rattle.cl_app.specs.Reading.{AskedSoFar, ReadSoFar}
-use Rattle.cl_app.specs.Sources.{contract_at}
-use Rattle.cl_app.specs.Words.{texts}
+use Rattle.cl_words.specs.Sources.{contract_at}
+use Rattle.cl_words.specs.Words.{texts}
 use Rattle.cl_app.proofs.reading.read_sources.Given as goal
 
 abbrev pub invariant-loop-path : goal.invariant-loop-path

@@ -1,6 +1,6 @@
 use Rattle.cl_text.specs.Parsed.{outcome_of}
 use Rattle.cl_app.specs.Reply.{answer_of}
-use Rattle.cl_app.specs.Words.{texts}
+use Rattle.cl_words.specs.Words.{texts}
 use Rattle.cl_app.proofs.Once.{asks_file}
 use Rattle.cl_app.proofs.Alone.{called_alone, refused_alone}
 use Rattle.cl_app.proofs.reply.call_words.Goals as goal

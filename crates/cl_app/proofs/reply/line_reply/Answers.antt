@@ -1,14 +1,14 @@
 use Rattle.std.proofs.Common.{◌≡◌, ℕ, List, Option, IfErr, IfOk, OnOk, inl, refl, subst}
 use Rattle.std.specs.Prelude.{None, Some, option_map}
 use Rattle.cl_app.specs.Answer.{IsAnswerAlone, IsWireAnswer}
-use Rattle.cl_app.specs.Seen.{line_of}
+use Rattle.cl_words.specs.Seen.{line_of}
 use Rattle.cl_app.specs.Heard.{HearsAll}
-use Rattle.cl_app.specs.Words.{Command, Call, Run, Check, Value, Wire, Gen, texts, command_on}
+use Rattle.cl_words.specs.Words.{Command, Call, Run, Check, Value, Wire, Gen, texts, command_on}
 use Rattle.cl_app.specs.Reply.{answer_of, Completes}
 use Rattle.cl_app.specs.Spelling.{value_answer}
 use Rattle.cl_app.specs.Streams.{Stops}
 use Rattle.cl_app.specs.Top.{IsAnswer}
-use Rattle.cl_app.proofs.WordSources.{check_has_sources}
+use Rattle.cl_words.proofs.WordSources.{check_has_sources}
 use Rattle.cl_app.proofs.HeardSo.{nobody_told, ok_so}
 use Rattle.cl_app.proofs.Spellings.{wire_answers}
 use Rattle.cl_app.proofs.Alone.{check_alone}

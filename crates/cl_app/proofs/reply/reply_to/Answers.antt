@@ -6,7 +6,7 @@ use Rattle.cl_app.specs.Answer.{IsAnswerAlone}
 use Rattle.cl_app.specs.Reply.{Completes}
 use Rattle.cl_app.specs.Streams.{Stops}
 use Rattle.cl_app.specs.Top.{AsksPart, IsAnswer, IsOwnStatus}
-use Rattle.cl_app.specs.Words.{Command, command_on, taken, texts}
+use Rattle.cl_words.specs.Words.{Command, command_on, taken, texts}
 use Rattle.cl_app.specs.declared.pieces.Stop.TheVariants.{ReadFailed}
 use Rattle.cl_app.proofs.Replied.{err_so}
 use Rattle.cl_app.proofs.reply.reply_to.Goals as goal

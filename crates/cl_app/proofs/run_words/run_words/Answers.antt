@@ -7,7 +7,7 @@ use Rattle.cl_app.specs.Reply.{answer_of, Completes}
 use Rattle.cl_app.specs.RunReply.{IsRunUnder}
 use Rattle.cl_app.specs.Streams.{Stops, StopsUnder}
 use Rattle.cl_app.specs.Top.{IsAnswer}
-use Rattle.cl_app.specs.Words.{Run}
+use Rattle.cl_words.specs.Words.{Run}
 use Rattle.std.proofs.lemmas.Result.{IfErr-weaker, on_ok_weaker}
 use Rattle.cl_app.proofs.HeardSo.{run_hears, run_hears_long}
 use Rattle.cl_app.proofs.ReadSo.{short_is}

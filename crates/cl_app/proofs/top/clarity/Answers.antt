@@ -1,13 +1,28 @@
 -- Whatever a write does, what was written is a first part of the one answer, and the events of what was written were told.
-use Rattle.std.proofs.Common.{ℕ, List, Vec, Global, ◌∙◌, sym, subst}
+use Rattle.std.proofs.Common.{ℕ, List, Vec, Global, ◌∙◌, sym, subst, refl, inl, inr}
 use Rattle.cl_ports.specs.Growth.{Grows, GrowsPart}
 use Rattle.cl_app.specs.Reply.{bytes_of}
-use Rattle.cl_app.specs.Words.{taken, texts}
+use Rattle.cl_words.specs.Words.{taken, texts}
 use Rattle.cl_app.proofs.HeardSo.{all_is_part}
 use Rattle.cl_app.proofs.Once.{part_of_answer}
 use Rattle.cl_app.proofs.Replied.{answers_alone, answers_whole, ok_gives}
 use Rattle.cl_app.proofs.Stopped.{all_told, stops_heard, stops_part, stops_told}
 use Rattle.cl_app.proofs.top.clarity.Goals as goal
+
+pub returns-then-is_err-clause-no_usage : goal.returns-then-is_err-clause-no_usage
+returns-then-is_err-clause-no_usage g c = λ _. inr (inl refl)
+
+pub returns-then-is_err-clause-cut : goal.returns-then-is_err-clause-cut
+returns-then-is_err-clause-cut g c = λ _. inl refl
+
+pub returns-then-is_err-clause-done : goal.returns-then-is_err-clause-done
+returns-then-is_err-clause-done g c = λ _ n _. absurd (n refl)
+
+pub returns-then-is_err-clause-alone : goal.returns-then-is_err-clause-alone
+returns-then-is_err-clause-alone g c = λ _ n _. absurd (n refl)
+
+pub returns-then-is_err-clause-hears_all : goal.returns-then-is_err-clause-hears_all
+returns-then-is_err-clause-hears_all g c = λ _ n _. absurd (n refl)
 
 pub returns-then-is_err-clause-part : goal.returns-then-is_err-clause-part
 returns-then-is_err-clause-part g c =

@@ -1,7 +1,0 @@
-use Rattle.std.proofs.Common.{◌≡◌, drop}
-use Rattle.cl_app.specs.Sources.{names_differ}
-use Rattle.cl_app.specs.Words.{texts}
-use Rattle.cl_app.proofs.sources.names_differ.Given as goal
-
-abbrev pub invariant-loop-i : goal.invariant-loop-i
-invariant-loop-i l = names_differ (texts (drop l.i l.paths)) ≡ names_differ (texts l.paths)

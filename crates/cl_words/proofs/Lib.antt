@@ -1,0 +1,5 @@
+pub mod Components
+pub mod SameTexts
+pub mod Digits
+pub mod WordSources
+pub mod Arguments

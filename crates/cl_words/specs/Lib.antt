@@ -1,0 +1,5 @@
+pub mod Sources
+pub mod Numbers
+pub mod Words
+pub mod Seen
+pub mod Argument

@@ -1,0 +1,13 @@
+//! The words of the command line: which command they ask for, and the values, sources and numbers that they spell.
+#![tactic(auto)]
+
+mod argument;
+mod line;
+mod numbers;
+mod sources;
+mod words;
+
+pub use argument::values;
+pub use line::{Line, read};
+pub use sources::{Source, contract_at};
+pub use words::{CheckWords, Command, command_on};
