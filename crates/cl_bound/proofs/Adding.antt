@@ -12,8 +12,8 @@ use Rattle.cl_shapes.proofs.Sums.{plus_assoc, plus_zero, zero_plus}
 use Rattle.cl_rules.specs.Context.{CostTable}
 use Rattle.cl_rules.specs.ControlShapes.{binds}
 use Rattle.cl_code.specs.Typed.{Typed, type_of}
-use Rattle.cl_bound.specs.declared.sum.Sum.{Sum}
-use Rattle.cl_bound.specs.Sums.{told, Increases}
+use Rattle.cl_sums.specs.declared.sum.Sum.{Sum}
+use Rattle.cl_sums.specs.Sums.{told, Increases}
 
 -- one cost more, and another
 pub both_more : (s t u : Sum) (x y : Cost5) → Increases s t x → Increases t u y → Increases s u (plus x y)

@@ -10,8 +10,8 @@ use Rattle.cl_rules.specs.Bills.{Bill, Charge, cost_under}
 use Rattle.cl_rules.specs.Context.{CostTable, Signature}
 use Rattle.cl_rules.specs.Verdicts.{number_at, sizes_of}
 use Rattle.cl_rules.specs.CallShapes.{Usable, ANative, usable_function}
-use Rattle.cl_bound.specs.declared.sum.Sum.{Sum}
-use Rattle.cl_bound.specs.Sums.{told}
+use Rattle.cl_sums.specs.declared.sum.Sum.{Sum}
+use Rattle.cl_sums.specs.Sums.{told}
 use Rattle.cl_bound.specs.Own.{applied, applied_to, iterated}
 
 function_applied : (f : Option Signature) (ts : List PlainType) → applied f ≡ applied_to (usable_function f) ts

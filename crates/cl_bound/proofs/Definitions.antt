@@ -25,10 +25,10 @@ use Rattle.cl_contracts.specs.declared.checked.Checked.{Checked}
 use Rattle.cl_contracts.specs.Seen.{kind_at}
 use Rattle.cl_contracts.specs.Standing.{Stands, StandAll}
 use Rattle.cl_contracts.specs.Standings.{StandsAs, AllStand, definitions_in_order}
-use Rattle.cl_bound.specs.declared.sum.Sum.{Sum}
+use Rattle.cl_sums.specs.declared.sum.Sum.{Sum}
 use Rattle.cl_bound.specs.declared.prices.Application.{Application}
 use Rattle.cl_bound.specs.declared.prices.Prices.{Prices}
-use Rattle.cl_bound.specs.Sums.{told}
+use Rattle.cl_sums.specs.Sums.{told}
 use Rattle.cl_bound.specs.Seen.{ShowsPrices, ShowFunctions, application_of}
 use Rattle.cl_forms.proofs.SameNames.{same_turned}
 use Rattle.cl_contracts.proofs.Places.{under_name}

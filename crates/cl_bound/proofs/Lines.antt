@@ -16,7 +16,7 @@ use Rattle.cl_contracts.specs.declared.checked.Checked.{Checked}
 use Rattle.cl_contracts.specs.Seen.{forms_of}
 use Rattle.cl_tx.specs.Step.{bound_line}
 use Rattle.cl_bound.specs.declared.prices.Application.{Application}
-use Rattle.cl_bound.specs.Sums.{told}
+use Rattle.cl_sums.specs.Sums.{told}
 use Rattle.cl_bound.specs.Seen.{IsWithin, application_of}
 use Rattle.cl_bound.proofs.Adding.{rest_of}
 

@@ -16,11 +16,11 @@ use Rattle.cl_rules.specs.Context.{CostTable, Context, Signature, Known, target_
 use Rattle.cl_rules.specs.Shapes.{there_or_not}
 use Rattle.cl_contracts.proofs.Places.{under_name}
 use Rattle.cl_contracts.proofs.Principals.{same_principal_turned}
-use Rattle.cl_bound.specs.declared.sum.Sum.{Sum}
+use Rattle.cl_sums.specs.declared.sum.Sum.{Sum}
 use Rattle.cl_bound.specs.declared.prices.Application.{Application}
 use Rattle.cl_bound.specs.declared.prices.Prices.{Prices}
 use Rattle.cl_bound.specs.declared.known.ContractBounds.{ContractBounds}
-use Rattle.cl_bound.specs.Sums.{told}
+use Rattle.cl_sums.specs.Sums.{told}
 use Rattle.cl_bound.specs.Seen.{ShowsPrices, ShowFunctions, ShowsKnown, application_of, known_under}
 use Rattle.cl_bound.specs.Own.{applied, called_at}
 

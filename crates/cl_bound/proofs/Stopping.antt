@@ -19,7 +19,7 @@ use Rattle.cl_rules.specs.PlainProgram.{or_later, above_at, bound_stop}
 use Rattle.cl_contracts.specs.declared.checked.Checked.{Checked}
 use Rattle.cl_contracts.specs.Seen.{forms_of}
 use Rattle.cl_bound.specs.declared.prices.Application.{Application}
-use Rattle.cl_bound.specs.Sums.{told}
+use Rattle.cl_sums.specs.Sums.{told}
 use Rattle.cl_bound.specs.Seen.{application_of}
 use Rattle.cl_bound.proofs.Adding.{rest_of}
 

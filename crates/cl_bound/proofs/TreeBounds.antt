@@ -4,8 +4,8 @@ use Rattle.std.proofs.lemmas.List.{length-map, drop_all}
 use Rattle.cl_types.specs.Types.{PlainType}
 use Rattle.cl_shapes.specs.Costs.{plus, greater, zero_cost}
 use Rattle.cl_shapes.specs.declared.cost.Cost5.{Cost5}
-use Rattle.cl_bound.specs.declared.sum.Sum.{Sum}
-use Rattle.cl_bound.specs.Sums.{told, Increases}
+use Rattle.cl_sums.specs.declared.sum.Sum.{Sum}
+use Rattle.cl_sums.specs.Sums.{told, Increases}
 use Rattle.cl_sexpr.specs.declared.sexpr.Span.{Span}
 use Rattle.cl_rules.specs.Bills.{Bill, Charge, Both, cost_under}
 use Rattle.cl_rules.specs.Context.{Context, Names, CostTable}

@@ -1,4 +1,3 @@
-pub mod Sums
 pub mod Own
 pub mod Charged
 pub mod Seen

@@ -8,7 +8,7 @@ use Rattle.cl_rules.specs.FormRules.{Defined}
 use Rattle.cl_rules.specs.Acceptance.{most_cost, bound_of}
 use Rattle.cl_rules.specs.Bills.{Bill, cost_under}
 use Rattle.cl_rules.specs.Context.{CostTable, Signature, Known, Context, named_in, signature_in, same_principal, known_at}
-use Rattle.cl_bound.specs.Sums.{told}
+use Rattle.cl_sums.specs.Sums.{told}
 use Rattle.cl_bound.specs.declared.prices.Application.{Application}
 use Rattle.cl_bound.specs.declared.prices.Prices.{Prices}
 use Rattle.cl_bound.specs.declared.known.ContractBounds.{ContractBounds}

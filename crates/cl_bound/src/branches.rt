@@ -3,14 +3,14 @@ ghost use Rattle.std.specs.Prelude.{◌≡◌};
 ghost use Rattle.cl_costs.specs.Tables.{function_of};
 ghost use Rattle.cl_rules.specs.Bills.{cost_under};
 ghost use Rattle.cl_rules.specs.Verdicts.{Found};
-ghost use Rattle.cl_bound.specs.Sums.{told};
+ghost use Rattle.cl_sums.specs.Sums.{told};
 ghost use Rattle.cl_bound.specs.Own.{branch_by, branches_of};
 
 use crate::prices::Prices;
 use crate::sizes::{bad_size, good_size};
-use crate::sum::Sum;
 use cl_code::{Op, PartsNative};
 use cl_shapes::CostName;
+use cl_sums::Sum;
 use cl_types::SizedTy;
 
 /// A branch: it binds nothing, an optional's or ok part, or an err part.

@@ -13,15 +13,15 @@ ghost use Rattle.cl_rules.specs.Verdicts.{Found};
 ghost use Rattle.cl_rules.specs.FormRules.{Defined, defined_after, form_charges, nothing_defined};
 ghost use Rattle.cl_contracts.specs.Seen.{kind_at};
 ghost use Rattle.cl_contracts.specs.Standings.{StandsAs, AllStand, definitions_in_order};
-ghost use Rattle.cl_bound.specs.Sums.{told};
+ghost use Rattle.cl_sums.specs.Sums.{told};
 ghost use Rattle.cl_bound.specs.Seen.{ShowsPrices};
 
 use crate::forms::{application, charges};
 use crate::prices::{Application, Prices};
-use crate::sum::Sum;
 use cl_code::{Definition, Function};
 use cl_contracts::Checked;
 use cl_shapes::CostName;
+use cl_sums::Sum;
 use cl_types::{Name, NoMemory};
 use indexmap::IndexMap;
 

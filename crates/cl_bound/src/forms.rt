@@ -11,14 +11,14 @@ ghost use Rattle.cl_rules.specs.Verdicts.{Found};
 ghost use Rattle.cl_contracts.specs.Seen.{kind_at};
 ghost use Rattle.cl_contracts.specs.Standing.{Stands};
 ghost use Rattle.cl_contracts.specs.Standings.{StandsAs};
-ghost use Rattle.cl_bound.specs.Sums.{told, Increases};
+ghost use Rattle.cl_sums.specs.Sums.{told, Increases};
 ghost use Rattle.cl_bound.specs.Seen.{ShowsPrices};
 
 use crate::prices::Prices;
-use crate::sum::Sum;
 use crate::walk::{add_bound, tree_bound};
 use cl_code::{Code, Definition};
 use cl_shapes::CostName;
+use cl_sums::Sum;
 use cl_types::{Name, SizedTy, size};
 
 /// Adds a bind for each parameter.

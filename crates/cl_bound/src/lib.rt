@@ -11,7 +11,6 @@ mod own;
 mod prices;
 mod sizes;
 mod stop;
-mod sum;
 mod using;
 mod walk;
 

@@ -7,7 +7,7 @@ ghost use Rattle.cl_rules.specs.Context.{Context};
 ghost use Rattle.cl_rules.specs.ControlShapes.{binds};
 ghost use Rattle.cl_types.specs.Types.{size_of};
 ghost use Rattle.cl_code.specs.Typed.{type_of};
-ghost use Rattle.cl_bound.specs.Sums.{told, Increases};
+ghost use Rattle.cl_sums.specs.Sums.{told, Increases};
 ghost use Rattle.cl_bound.specs.Seen.{ShowsPrices};
 ghost use Rattle.cl_bound.specs.Own.{own, named, counted, given, iteration};
 ghost use Rattle.cl_code.specs.Nodes.{has_parts};
@@ -17,10 +17,10 @@ ghost use Rattle.cl_forms.specs.Heads.{row_of, takes};
 use crate::native_costs::{keyword_cost, name_cost, parts_cost};
 use crate::prices::Prices;
 use crate::sizes::{entry_sizes, first_sequence, least_length, number, sizes};
-use crate::sum::Sum;
 use crate::using::{Values, iterated};
 use cl_code::{Applied, Code, Iteration, NameNative, Op, native_cost};
 use cl_shapes::CostName;
+use cl_sums::Sum;
 use cl_types::{SizedTy, size};
 
 /// Adds a charge by the size of a type.

@@ -8,17 +8,17 @@ ghost use Rattle.cl_rules.specs.Context.{Context, Known, Signature, CostTable as
 ghost use Rattle.cl_rules.specs.FormRules.{nothing_defined};
 ghost use Rattle.cl_rules.specs.CallShapes.{target_or_not, contract_literal};
 ghost use Rattle.cl_rules.specs.Shapes.{there_or_not};
-ghost use Rattle.cl_bound.specs.Sums.{told, Increases};
+ghost use Rattle.cl_sums.specs.Sums.{told, Increases};
 ghost use Rattle.cl_bound.specs.Seen.{ShowsPrices, ShowDeployed, ShowFunctions};
 ghost use Rattle.cl_bound.specs.Own.{applied, called_at};
 
 use crate::known::KnownBounds;
-use crate::sum::Sum;
 use cl_c32::Principal;
 use cl_code::Target;
 use cl_contracts::contract_of_literal;
 use cl_costs::CostTable;
 use cl_shapes::{Cost5, CostFn, CostName, Shape};
+use cl_sums::Sum;
 use cl_types::{Access, Name};
 use indexmap::IndexMap;
 use std::alloc::Global;

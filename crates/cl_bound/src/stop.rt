@@ -10,16 +10,16 @@ ghost use Rattle.cl_rules.specs.PlainProgram.{above_at, bound_stop, or_later};
 ghost use Rattle.cl_rules.specs.Bills.{cost_under};
 ghost use Rattle.cl_rules.specs.Context.{signature_in};
 ghost use Rattle.cl_contracts.specs.Seen.{forms_of};
-ghost use Rattle.cl_bound.specs.Sums.{told};
+ghost use Rattle.cl_sums.specs.Sums.{told};
 ghost use Rattle.cl_bound.specs.Seen.{ShowsPrices};
 
 use crate::contract::definition_at;
 use crate::prices::Prices;
-use crate::sum::Sum;
 use cl_code::Definition;
 use cl_contracts::Checked;
 use cl_sexpr::Span;
 use cl_shapes::Dimension;
+use cl_sums::Sum;
 use cl_types::Name;
 
 /// The first dimension in which a sum is above the limit.

@@ -6,15 +6,15 @@ ghost use Rattle.cl_rules.specs.Bills.{cost_under};
 ghost use Rattle.cl_rules.specs.Context.{Context};
 ghost use Rattle.cl_rules.specs.Verdicts.{number_at, sizes_of};
 ghost use Rattle.cl_code.specs.Typed.{type_of};
-ghost use Rattle.cl_bound.specs.Sums.{told};
+ghost use Rattle.cl_sums.specs.Sums.{told};
 ghost use Rattle.cl_bound.specs.Seen.{ShowsPrices};
 ghost use Rattle.cl_bound.specs.Own.{applied_to, given, iterated};
 
 use crate::prices::Prices;
 use crate::sizes::sizes;
-use crate::sum::Sum;
 use cl_code::{Applied, Code, native_cost};
 use cl_shapes::CostName;
+use cl_sums::Sum;
 
 /// Values by their number and the sum of their sizes.
 #[derive(Clone, Copy)]

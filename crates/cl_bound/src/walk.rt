@@ -6,7 +6,7 @@ ghost use Rattle.cl_rules.specs.Context.{Context, Names};
 ghost use Rattle.cl_rules.specs.Verdicts.{Found, sum_of};
 ghost use Rattle.cl_rules.specs.Shapes.{Plan};
 ghost use Rattle.cl_code.specs.Typed.{typeds};
-ghost use Rattle.cl_bound.specs.Sums.{told, Increases};
+ghost use Rattle.cl_sums.specs.Sums.{told, Increases};
 ghost use Rattle.cl_bound.specs.Seen.{ShowsPrices};
 ghost use Rattle.cl_contracts.specs.Standing.{Stands, StandAll};
 ghost use Rattle.cl_bound.specs.Own.{branch_by, of_branches};
@@ -14,8 +14,8 @@ ghost use Rattle.cl_bound.specs.Own.{branch_by, of_branches};
 use crate::branches::{Branch, branches_of, counted_branch};
 use crate::own::add_own;
 use crate::prices::Prices;
-use crate::sum::Sum;
 use cl_code::Code;
+use cl_sums::Sum;
 
 /// The bound of the expression that a tree stands for.
 pub(crate) fn tree_bound(prices: &Prices, code: &Code) -> Sum

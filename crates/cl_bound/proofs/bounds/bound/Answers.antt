@@ -5,7 +5,7 @@ use Rattle.cl_rules.specs.Bills.{cost_under}
 use Rattle.cl_rules.specs.Acceptance.{Bounded}
 use Rattle.cl_contracts.specs.Seen.{forms_of}
 use Rattle.cl_tx.specs.Step.{bound_line}
-use Rattle.cl_bound.specs.Sums.{told}
+use Rattle.cl_sums.specs.Sums.{told}
 use Rattle.cl_bound.specs.Seen.{ShowFunctions}
 use Rattle.cl_bound.proofs.Bounding.{all_bounded, first_above_all}
 use Rattle.cl_bound.proofs.bounds.bound.Goals as goal

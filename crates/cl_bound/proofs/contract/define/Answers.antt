@@ -4,7 +4,7 @@ use Rattle.cl_costs.specs.Tables.{function_of}
 use Rattle.cl_rules.specs.Bills.{cost_under}
 use Rattle.cl_rules.specs.FormRules.{application}
 use Rattle.cl_contracts.specs.Standing.{Stands}
-use Rattle.cl_bound.specs.Sums.{told}
+use Rattle.cl_sums.specs.Sums.{told}
 use Rattle.cl_bound.proofs.Definitions.{on_ok, defined_shows}
 use Rattle.cl_bound.proofs.contract.define.Goals as goal
 

@@ -1,5 +1,5 @@
 use Rattle.std.proofs.Common.{◌≡◌, ℕ, ◌<◌, List, length, get_or, sym, ap, subst, ◌∙◌}
-use Rattle.cl_bound.specs.declared.sum.Sum.{Sum}
+use Rattle.cl_sums.specs.declared.sum.Sum.{Sum}
 use Rattle.cl_bound.specs.declared.prices.Prices.{Prices}
 use Rattle.cl_bound.proofs.Adding.{again}
 use Rattle.cl_bound.proofs.Definitions.{walked_more, walked_past, ShowsAfter, AsWalked}

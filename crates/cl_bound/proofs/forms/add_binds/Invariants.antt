@@ -4,7 +4,7 @@ use Rattle.cl_shapes.specs.Costs.{plus}
 use Rattle.cl_costs.specs.Tables.{function_of}
 use Rattle.cl_rules.specs.Bills.{cost_under}
 use Rattle.cl_rules.specs.ControlShapes.{binds}
-use Rattle.cl_bound.specs.Sums.{told}
+use Rattle.cl_sums.specs.Sums.{told}
 use Rattle.cl_bound.proofs.Adding.{Adds, types_at}
 use Rattle.cl_bound.proofs.forms.add_binds.Given as goal
 

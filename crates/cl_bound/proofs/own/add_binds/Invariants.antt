@@ -5,7 +5,7 @@ use Rattle.cl_costs.specs.Tables.{function_of}
 use Rattle.cl_rules.specs.Bills.{cost_under}
 use Rattle.cl_rules.specs.ControlShapes.{binds}
 use Rattle.cl_code.specs.Typed.{type_of}
-use Rattle.cl_bound.specs.Sums.{told}
+use Rattle.cl_sums.specs.Sums.{told}
 use Rattle.cl_bound.proofs.Adding.{Adds}
 use Rattle.cl_bound.proofs.own.add_binds.Given as goal
 

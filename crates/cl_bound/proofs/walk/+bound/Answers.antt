@@ -1,7 +1,7 @@
 use Rattle.std.proofs.Common.{◌<◌, List, sym, ap, subst, ◌∙◌, arith}
 use Rattle.cl_costs.specs.Tables.{function_of}
 use Rattle.cl_code.specs.Typed.{Typed, typeds, type_of, weight_of, weights_of}
-use Rattle.cl_bound.specs.Sums.{told, Increases}
+use Rattle.cl_sums.specs.Sums.{told, Increases}
 use Rattle.cl_contracts.specs.Standing.{StandAll}
 use Rattle.std.proofs.Common.{Option, map}
 use Rattle.cl_bound.specs.declared.branches.Branch.{Branch}

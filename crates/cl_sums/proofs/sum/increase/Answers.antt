@@ -1,6 +1,6 @@
 use Rattle.std.proofs.Common.{◌≡◌, ◌+◌, ap, ◌∙◌, arith}
-use Rattle.cl_bound.specs.Sums.{fitting}
-use Rattle.cl_bound.proofs.sum.increase.Goals as goal
+use Rattle.cl_sums.specs.Sums.{fitting}
+use Rattle.cl_sums.proofs.sum.increase.Goals as goal
 
 pub returns-then-by-eq0 : goal.returns-then-by-eq0
 returns-then-by-eq0 c m is =

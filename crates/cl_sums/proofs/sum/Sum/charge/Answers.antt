@@ -1,6 +1,6 @@
 use Rattle.std.proofs.Common.{ap}
-use Rattle.cl_bound.specs.declared.sum.Sum.{Sum}
-use Rattle.cl_bound.proofs.sum.Sum.charge.Goals as goal
+use Rattle.cl_sums.specs.declared.sum.Sum.{Sum}
+use Rattle.cl_sums.proofs.sum.Sum.charge.Goals as goal
 
 pub returns : goal.returns
 returns c a is = λ i. record {

@@ -2,7 +2,7 @@
 use Rattle.std.specs.Prelude.{◌≡◌, ℕ, ◌^◌, nat_lt, if◌then◌else◌, Option, Some, None}
 use Rattle.cl_shapes.specs.declared.cost.Cost5.{Cost5}
 use Rattle.cl_shapes.specs.Costs.{plus}
-use Rattle.cl_bound.specs.declared.sum.Sum.{Sum}
+use Rattle.cl_sums.specs.declared.sum.Sum.{Sum}
 
 -- the number, where it fits 128 bits
 abbrev pub fitting : ℕ → Option ℕ

@@ -1,19 +1,19 @@
-//! Sums of costs, told apart where they are above 128 bits.
+//! The sum, and how it is charged.
 ghost use Rattle.std.specs.Prelude.{◌≡◌, ℕ, ◌+◌, ◌-◌, ◌*◌, ◌^◌, max, None};
 ghost use Rattle.cl_shapes.specs.Costs.{plus, greater, times, counted, first_above, in_each};
 ghost use Rattle.cl_shapes.specs.declared.cost.Cost5.{Cost5 as Numbers};
-ghost use Rattle.cl_bound.specs.Sums.{fitting, told, Increases};
+ghost use Rattle.cl_sums.specs.Sums.{fitting, told, Increases};
 
 use cl_shapes::{Cost5, Dimension};
 
 /// A sum of costs: the number in each dimension, None where it is above 2^128-1.
 #[derive(Clone, Copy)]
-pub(crate) struct Sum {
-    pub(crate) runtime: Option<u128>,
-    pub(crate) read_count: Option<u128>,
-    pub(crate) read_length: Option<u128>,
-    pub(crate) write_count: Option<u128>,
-    pub(crate) write_length: Option<u128>,
+pub struct Sum {
+    pub runtime: Option<u128>,
+    pub read_count: Option<u128>,
+    pub read_length: Option<u128>,
+    pub write_count: Option<u128>,
+    pub write_length: Option<u128>,
 }
 
 /// Adds a number that fits, which in most dimensions is 0.
@@ -61,7 +61,7 @@ fn times(a: Option<u128>, k: u32) -> Option<u128>
 
 impl Sum {
     /// No cost in any dimension.
-    pub(crate) const ZERO: Sum = Sum {
+    pub const ZERO: Sum = Sum {
         runtime: Some(0),
         read_count: Some(0),
         read_length: Some(0),
@@ -70,7 +70,7 @@ impl Sum {
     };
 
     /// A cost that fits.
-    pub(crate) fn of(cost: Cost5) -> Sum
+    pub fn of(cost: Cost5) -> Sum
         ensures { result ≡ told cost }
     {
         Sum {
@@ -83,7 +83,7 @@ impl Sum {
     }
 
     /// The cost, or the first dimension in which it is above 2^128-1.
-    pub(crate) fn counted(&self) -> Result<Cost5, Dimension>
+    pub fn counted(&self) -> Result<Cost5, Dimension>
         ensures { (a : Numbers) → self.now ≡ told a → result ≡ counted a }
     {
         let runtime = match self.runtime {
@@ -116,7 +116,7 @@ impl Sum {
     }
 
     /// The cost, with 2^128-1 for a number that is above it.
-    pub(crate) fn saturated(&self) -> Cost5
+    pub fn saturated(&self) -> Cost5
         ensures { (a : Numbers) → self.now ≡ told a → first_above (in_each (2 ^ 128 - 1)) a ≡ None → result ≡ a }
     {
         Cost5 {
@@ -129,7 +129,7 @@ impl Sum {
     }
 
     /// Adds a cost in each dimension.
-    pub(crate) fn charge(&mut self, cost: &Cost5)
+    pub fn charge(&mut self, cost: &Cost5)
         ensures { Increases self.old self.new cost.now }
     {
         increase(&mut self.runtime, cost.runtime);
@@ -140,7 +140,7 @@ impl Sum {
     }
 
     /// Adds another sum in each dimension.
-    pub(crate) fn increase(&mut self, other: &Sum)
+    pub fn increase(&mut self, other: &Sum)
         ensures { (a b : Numbers) → self.old ≡ told a → other.now ≡ told b → self.new ≡ told (plus a b) }
     {
         increase_by(&mut self.runtime, other.runtime);
@@ -151,7 +151,7 @@ impl Sum {
     }
 
     /// The sum in each dimension.
-    pub(crate) fn add(&self, other: &Sum) -> Sum
+    pub fn add(&self, other: &Sum) -> Sum
         ensures { (a b : Numbers) → self.now ≡ told a → other.now ≡ told b → result ≡ told (plus a b) }
     {
         let mut sum = *self;
@@ -160,7 +160,7 @@ impl Sum {
     }
 
     /// The greater number in each dimension, which may come from different sums.
-    pub(crate) fn max(&self, other: &Sum) -> Sum
+    pub fn max(&self, other: &Sum) -> Sum
         ensures { (a b : Numbers) → self.now ≡ told a → other.now ≡ told b → result ≡ told (greater a b) }
     {
         Sum {
@@ -173,7 +173,7 @@ impl Sum {
     }
 
     /// `k` times the number in each dimension; 0 where `k` is 0, whatever the number.
-    pub(crate) fn times(&self, k: u32) -> Sum
+    pub fn times(&self, k: u32) -> Sum
         ensures { (a : Numbers) → self.now ≡ told a → result ≡ told (times a k) }
     {
         Sum {
