@@ -1,8 +1,7 @@
 -- Rows of items, and bindings.
 use Rattle.std.specs.Prelude.{◌≡◌, ℕ, List, [], ◌∷◌, ◌++◌, Option, Some, None, option_map, option_and_then, refl}
-use Rattle.std.proofs.Common.{sym, ap, append_assoc}
-use Rattle.cl_sexpr.specs.declared.sexpr.Span.{Span}
-use Rattle.cl_sexpr.specs.Tree.{Tree, LeafAt, ListAt, TupleAt, Named, Empty, Then, forest}
+use Rattle.std.proofs.Common.{◌∙◌, sym, ap, append_assoc}
+use Rattle.cl_sexpr.specs.Tree.{Tree, LeafAt, ListAt, TupleAt, Named, Empty, Then, Forest, forest, items_in}
 use Rattle.cl_forms.specs.Shapes.{trees_of, binding_of, and_binding}
 use Rattle.cl_forms.specs.Items.{two_of, items_of, parts_behind}
 use Rattle.cl_forms.specs.ItemView.{binding_in, behind}
@@ -34,6 +33,25 @@ pub bound_next : (xs : List (List ℕ × Tree)) (p : List ℕ × Tree) (o : Opti
 bound_next xs p None = refl
 bound_next xs p (Some more) = ap (λ (ys : List (List ℕ × Tree)). Some ys) (sym (append_assoc xs (p ∷ []) more))
 
-pub parts_forest : (ts : List Tree) (at : Span) → behind ts ≡ parts_behind (ListAt (forest ts) at)
-parts_forest [] at = refl
-parts_forest (t ∷ ts) at = sym (trees_forest ts)
+-- the items that a list gives away, as the rows that they are
+pub items_given : {V : Type 0} (items : V → List Tree) (o : Option V) (e : Tree) → option_map (λ v. forest (items v)) o ≡ items_in e → option_map items o ≡ items_of e
+items_given items None (LeafAt l at) h = refl
+items_given items None (TupleAt ps at) h = refl
+items_given items None (ListAt es at) h = absurd cc
+items_given items (Some v) (LeafAt l at) h = absurd cc
+items_given items (Some v) (TupleAt ps at) h = absurd cc
+items_given items (Some v) (ListAt es at) h =
+    let same : forest (items v) ≡ es = cc in
+    ap (λ (ts : List Tree). Some ts) (sym (trees_forest (items v))) ∙ ap (λ (f : Forest). Some (trees_of f)) same
+
+-- what stands behind the first of the items of a list, and that there is none where there is no list
+pub behind_items : (e : Tree) (ts : List Tree) → Some ts ≡ items_of e → behind ts ≡ parts_behind e
+behind_items (LeafAt l at) ts h = absurd cc
+behind_items (TupleAt ps at) ts h = absurd cc
+behind_items (ListAt Empty at) ts h = let same : ts ≡ [] = cc in ap behind same
+behind_items (ListAt (Then t es) at) ts h = let same : ts ≡ t ∷ trees_of es = cc in ap behind same
+
+pub behind_none : (e : Tree) → None ≡ items_of e → [] ≡ parts_behind e
+behind_none (LeafAt l at) h = refl
+behind_none (TupleAt ps at) h = refl
+behind_none (ListAt es at) h = absurd cc

@@ -41,24 +41,20 @@ pub(crate) fn atom(item: &Sexpr) -> Option<Name>
 }
 
 /// The items of a list.
-#[tactic(auto, using(crate::proofs::Bindings::trees_forest))]
 fn items_of(item: Sexpr) -> Option<Vec<Sexpr>>
     ensures { option_map (λ v. v.items) result ≡ items_of item }
 {
-    match item.node {
-        Node::List(items) => Some(items),
-        _ => None,
-    }
+    item.into_items()
 }
 
 /// The items of a list; of what is no list, none.
-#[tactic(auto, using(crate::proofs::Bindings::parts_forest))]
+#[tactic(auto, using(crate::proofs::Bindings::behind_items, crate::proofs::Bindings::behind_none))]
 fn parts(alloc: Global, item: Sexpr) -> Vec<Sexpr>
     ensures { behind result.items ≡ parts_behind item }
 {
-    match item.node {
-        Node::List(items) => items,
-        _ => Vec::new(alloc),
+    match items_of(item) {
+        Some(items) => items,
+        None => Vec::new(alloc),
     }
 }
 

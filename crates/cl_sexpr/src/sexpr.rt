@@ -1,5 +1,6 @@
 //! Items: what a text is made of, each with the place where it stands.
-ghost use Rattle.std.specs.Prelude.{◌≡◌, IfOk};
+ghost use Rattle.std.specs.Prelude.{◌≡◌, IfOk, option_map};
+ghost use Rattle.cl_sexpr.specs.Tree.{forest, items_in};
 
 use cl_c32::{ContractName, Principal};
 use cl_types::Name;
@@ -40,11 +41,18 @@ pub enum Node {
 }
 
 /// An item and the bytes of the text that it is spelled by.
-#[derive(Drop)]
 #[cycle(sexpr)]
 pub struct Sexpr {
     pub node: Node,
     pub span: Span,
+}
+
+impl Drop for Sexpr {
+    #[cycle(sexpr)]
+    fn drop(self) {
+        let Sexpr { node, span: _ } = self;
+        drop(node);
+    }
 }
 
 impl Model for Sexpr {
@@ -86,6 +94,17 @@ impl Sexpr {
             Node::Tuple(pairs) => Node::Tuple(copy_pairs(alloc, pairs)?),
         };
         Ok(Sexpr { node, span })
+    }
+
+    /// The items of a list, where it is one.
+    pub fn into_items(self) -> Option<Vec<Sexpr>>
+        ensures { option_map (λ v. forest v.items) result ≡ items_in self }
+    {
+        let Sexpr { node, span: _ } = self;
+        match node {
+            Node::List(items) => Some(items),
+            _ => None,
+        }
     }
 }
 
