@@ -1,8 +1,8 @@
 -- What the code's items stand for.
 use Rattle.std.specs.Prelude.{ℕ, List, [], ◌∷◌, Option, Some, None, option_map}
 use Rattle.cl_sexpr.specs.Tree.{Tree}
-use Rattle.cl_forms.specs.declared.item.Draft.{Draft as DraftRead}
-use Rattle.cl_forms.specs.declared.item.Draft.TheVariants.{Constant, Variable, MapOf, Fungible, NonFungible, Function}
+use Rattle.cl_forms.specs.declared.kind.Draft.{Draft as DraftRead}
+use Rattle.cl_forms.specs.declared.kind.Draft.TheVariants.{Constant, Variable, MapOf, Fungible, NonFungible, Function}
 use Rattle.cl_forms.specs.declared.item.Item.{Item as ItemRead}
 use Rattle.cl_forms.specs.declared.item.Item.TheVariants.{Expression as AnExpression, Misshapen as Shapeless, Definition as ADefinition}
 use Rattle.cl_forms.specs.Items.{Draft, ConstantDraft, VariableDraft, MapDraft, FungibleDraft, NonFungibleDraft, FunctionDraft, Item, Expression, Misshapen, Definition, atom_of}

@@ -13,8 +13,8 @@ ghost use Rattle.cl_forms.specs.Items.{Definition, form_by};
 
 use crate::entry::{Entry, look_at_all};
 use crate::form::{Form, FormKind};
-use crate::item::{Draft, Item};
-use crate::kind::kind_of;
+use crate::item::Item;
+use crate::kind::Draft;
 use crate::reserved::is_reserved;
 use cl_sexpr::{Break, Refusal, Rule, Sexpr, Span};
 use cl_types::{Fault, Name};
@@ -223,7 +223,7 @@ fn definition(
         left_out,
         span,
     )?;
-    match kind_of(alloc, draft)? {
+    match draft.kind_of(alloc)? {
         Some(kind) => {
             let form = Form {
                 name: Some(name),

@@ -5,21 +5,11 @@ ghost use Rattle.cl_forms.specs.Shapes.{binding_of, bindings_of};
 ghost use Rattle.cl_forms.specs.ItemView.{plain_draft, plain_item, behind, binding_in, first_atom};
 ghost use Rattle.cl_forms.specs.declared.word.Word.TheVariants.{Constant, Variable, MapOf, Fungible, NonFungible, Function};
 
+use crate::kind::Draft;
 use crate::word::{Word, word_at};
 use cl_sexpr::{Node, Sexpr};
 use cl_types::{Access, Name};
 use std::alloc::{AllocError, Global};
-
-/// A definition, its types as the text writes them.
-#[derive(Drop)]
-pub(crate) enum Draft {
-    Constant(Sexpr),
-    Variable(Sexpr, Sexpr),
-    MapOf(Sexpr, Sexpr),
-    Fungible(Option<Sexpr>),
-    NonFungible(Sexpr),
-    Function(Access, Vec<(Name, Sexpr)>, Sexpr),
-}
 
 /// What an item of a text is.
 #[derive(Drop)]

@@ -1,4 +1,4 @@
-//! Definitions with their types read.
+//! Definitions, and what they are once their types are read.
 ghost use Rattle.std.specs.Prelude.{◌≡◌, IfOk, option_map};
 ghost use Rattle.cl_forms.specs.Forms.{VariableForm, NonFungibleForm, FunctionForm};
 ghost use Rattle.cl_forms.specs.FormView.{plain_kind};
@@ -7,11 +7,58 @@ ghost use Rattle.cl_forms.specs.Items.{kind_of, map_form, typed};
 ghost use Rattle.cl_forms.specs.WrittenTypes.{written_type};
 
 use crate::form::FormKind;
-use crate::item::Draft;
 use crate::types::{typed, written_type};
 use cl_sexpr::Sexpr;
 use cl_types::{Access, Name, NoMemory, SizedTy};
 use std::alloc::Global;
+
+/// A definition, its types as the text writes them.
+pub(crate) enum Draft {
+    Constant(Sexpr),
+    Variable(Sexpr, Sexpr),
+    MapOf(Sexpr, Sexpr),
+    Fungible(Option<Sexpr>),
+    NonFungible(Sexpr),
+    Function(Access, Vec<(Name, Sexpr)>, Sexpr),
+}
+
+impl Drop for Draft {
+    fn drop(self) {
+        match self {
+            Draft::Constant(value) => drop(value),
+            Draft::Variable(ty, value) => {
+                drop(ty);
+                drop(value);
+            }
+            Draft::MapOf(key, value) => {
+                drop(key);
+                drop(value);
+            }
+            Draft::Fungible(supply) => drop(supply),
+            Draft::NonFungible(id) => drop(id),
+            Draft::Function(_, params, body) => {
+                drop(params);
+                drop(body);
+            }
+        }
+    }
+}
+
+impl Draft {
+    /// What a definition is, if each of its types is one.
+    pub(crate) fn kind_of(self, alloc: Global) -> Result<Option<FormKind>, NoMemory>
+        ensures { IfOk result (λ o. option_map plain_kind o ≡ kind_of (plain_draft self)) }
+    {
+        match self {
+            Draft::Constant(e) => Ok(Some(FormKind::Constant(e))),
+            Draft::Variable(t, e) => variable(alloc, t, e),
+            Draft::MapOf(k, v) => map_of(alloc, &k, &v),
+            Draft::Fungible(supply) => Ok(Some(FormKind::Fungible(supply))),
+            Draft::NonFungible(t) => non_fungible(alloc, &t),
+            Draft::Function(access, params, body) => function(alloc, access, &params, body),
+        }
+    }
+}
 
 fn variable(alloc: Global, ty: Sexpr, value: Sexpr) -> Result<Option<FormKind>, NoMemory>
     ensures { IfOk result (λ o. option_map plain_kind o ≡ option_map (λ t. VariableForm t value) (written_type ty)) }
@@ -75,19 +122,5 @@ fn function(
             body,
         })),
         None => Ok(None),
-    }
-}
-
-/// What a definition is, if each of its types is one.
-pub(crate) fn kind_of(alloc: Global, draft: Draft) -> Result<Option<FormKind>, NoMemory>
-    ensures { IfOk result (λ o. option_map plain_kind o ≡ kind_of (plain_draft draft)) }
-{
-    match draft {
-        Draft::Constant(e) => Ok(Some(FormKind::Constant(e))),
-        Draft::Variable(t, e) => variable(alloc, t, e),
-        Draft::MapOf(k, v) => map_of(alloc, &k, &v),
-        Draft::Fungible(supply) => Ok(Some(FormKind::Fungible(supply))),
-        Draft::NonFungible(t) => non_fungible(alloc, &t),
-        Draft::Function(access, params, body) => function(alloc, access, &params, body),
     }
 }
