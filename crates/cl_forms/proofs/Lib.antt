@@ -4,6 +4,7 @@ pub mod TypeSteps
 pub mod Limits
 pub mod Typed
 pub mod LeftOut
+pub mod Moved
 pub mod Firsts
 pub mod Results
 pub mod Placing

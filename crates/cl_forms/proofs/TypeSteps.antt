@@ -345,3 +345,31 @@ all_parts ps i r xs whole past inv =
 
 pub room_again : (room : ℕ) → (room ≡ 0 → ⊥) → room - 1 + 1 ≡ room
 room_again room some = omega arith
+
+-- ---- types in brackets, their parts read with a level less of room
+
+pub list_made : (ts : List Tree) (a b : Tree) (n : Option ℕ) (t : Option PlainType) (r : ℕ) → Some (a, b) ≡ two_of ts → n ≡ stated_length a → t ≡ within r (type_of b) → list_type n t ≡ within (r + 1) (type_by (Some ListWord) (forest ts))
+list_made ts a b n t r two most part =
+    (λ i. list_type (most i) (part i)) ∙ within_list r (stated_length a) (type_of b)
+    ∙ ap (λ o. within (r + 1) (option_and_then (λ p. list_type (stated_length p.0) (type_of p.1)) o)) two
+    ∙ ap (within (r + 1)) (sym (list_word ts))
+
+pub optional_made : (ts : List Tree) (a : Tree) (t : Option PlainType) (r : ℕ) → Some a ≡ one_of ts → t ≡ within r (type_of a) → option_map OptionalType t ≡ within (r + 1) (type_by (Some Optional) (forest ts))
+optional_made ts a t r one part =
+    ap (option_map OptionalType) part ∙ within_optional r (type_of a)
+    ∙ ap (λ o. within (r + 1) (option_and_then (λ e. option_map OptionalType (type_of e)) o)) one
+    ∙ ap (within (r + 1)) (sym (optional_word ts))
+
+pub response_made : (ts : List Tree) (a b : Tree) (t e : Option PlainType) (r : ℕ) → Some (a, b) ≡ two_of ts → t ≡ within r (type_of a) → e ≡ within r (type_of b) → response_type t e ≡ within (r + 1) (type_by (Some Response) (forest ts))
+response_made ts a b t e r two good bad =
+    (λ i. response_type (good i) (bad i)) ∙ within_response r (type_of a) (type_of b)
+    ∙ ap (λ o. within (r + 1) (option_and_then (λ p. response_type (type_of p.0) (type_of p.1)) o)) two
+    ∙ ap (within (r + 1)) (sym (response_word ts))
+
+pub tuple_made : (ts : List Tree) (word : Option TypeWord) (fs : Option Fields) (r : ℕ) → word ≡ Some Tuple → fs ≡ fields_within r (fields_of (forest ts)) → option_map TupleType fs ≡ within (r + 1) (type_by word (forest ts))
+tuple_made ts word fs r is parts =
+    ap (option_map TupleType) parts ∙ within_tuple r (fields_of (forest ts))
+    ∙ ap (within (r + 1)) (sym (tuple_word (forest ts)) ∙ ap (λ w. type_by w (forest ts)) (sym is))
+
+pub pairs_made : (ps : List (List ℕ × Tree)) (at : Span) (fs : Option Fields) (r : ℕ) → fs ≡ fields_within r (fields_of_pairs (pairs ps)) → option_map TupleType fs ≡ within (r + 1) (type_of (TupleAt (pairs ps) at))
+pairs_made ps at fs r parts = ap (option_map TupleType) parts ∙ within_tuple r (fields_of_pairs (pairs ps))

@@ -204,7 +204,7 @@ fn bindings(alloc: Global, items: Vec<Sexpr>) -> Result<Option<Vec<(Name, Sexpr)
 {
     let mut list = Vec::new(alloc);
     let mut rest = items.into_iter();
-    let _first = rest.next();
+    drop(rest.next());
     for item in rest {
         match binding(item) {
             Some(pair) => list.push(pair)?,

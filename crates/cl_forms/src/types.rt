@@ -180,7 +180,6 @@ fn sequence_type(word: TypeWord, parts: &[Sexpr]) -> Option<Ty>
 
 /// The type that an item writes, if it is no deeper than there is room.
 #[cycle(type_of)]
-#[tactic(auto, using(crate::proofs::TypeSteps::within_zero))]
 fn type_of(alloc: Global, item: &Sexpr, room: u32) -> Result<Option<Ty>, AllocError>
     ensures { IfOk result (λ o. o ≡ within room (type_of item.now)) }
 {
@@ -192,7 +191,7 @@ fn type_of(alloc: Global, item: &Sexpr, room: u32) -> Result<Option<Ty>, AllocEr
 }
 
 #[cycle(type_of)]
-#[tactic(auto, using(crate::proofs::TypeSteps::type_of_list, crate::proofs::TypeSteps::within_simple, crate::proofs::TypeSteps::within_tuple))]
+#[tactic(auto, using(crate::proofs::TypeSteps::within_simple))]
 fn type_below(alloc: Global, item: &Sexpr, room: u32) -> Result<Option<Ty>, AllocError>
     ensures { IfOk result (λ o. o ≡ within (room + 1) (type_of item.now)) }
 {
@@ -215,7 +214,7 @@ fn type_in(alloc: Global, items: &[Sexpr], room: u32) -> Result<Option<Ty>, Allo
 }
 
 #[cycle(type_of)]
-#[tactic(auto, using(crate::proofs::TypeSteps::within_tuple, crate::proofs::TypeSteps::tuple_word, crate::proofs::TypeSteps::sequence_word))]
+#[tactic(auto, using(crate::proofs::TypeSteps::sequence_word))]
 fn type_by(
     alloc: Global,
     word: Option<TypeWord>,
@@ -235,7 +234,6 @@ fn type_by(
 }
 
 #[cycle(type_of)]
-#[tactic(auto, using(crate::proofs::TypeSteps::within_list, crate::proofs::TypeSteps::list_word))]
 fn list_of(alloc: Global, parts: &[Sexpr], room: u32) -> Result<Option<Ty>, AllocError>
     ensures { IfOk result (λ o. o ≡ within (room + 1) (type_by (Some ListWord) (forest parts.now))) }
 {
@@ -249,7 +247,6 @@ fn list_of(alloc: Global, parts: &[Sexpr], room: u32) -> Result<Option<Ty>, Allo
 }
 
 #[cycle(type_of)]
-#[tactic(auto, using(crate::proofs::TypeSteps::within_optional, crate::proofs::TypeSteps::optional_word))]
 fn optional_of(alloc: Global, parts: &[Sexpr], room: u32) -> Result<Option<Ty>, AllocError>
     ensures { IfOk result (λ o. o ≡ within (room + 1) (type_by (Some Optional) (forest parts.now))) }
 {
@@ -263,7 +260,6 @@ fn optional_of(alloc: Global, parts: &[Sexpr], room: u32) -> Result<Option<Ty>, 
 }
 
 #[cycle(type_of)]
-#[tactic(auto, using(crate::proofs::TypeSteps::within_response, crate::proofs::TypeSteps::response_word))]
 fn response_of(alloc: Global, parts: &[Sexpr], room: u32) -> Result<Option<Ty>, AllocError>
     ensures { IfOk result (λ o. o ≡ within (room + 1) (type_by (Some Response) (forest parts.now))) }
 {
@@ -311,7 +307,6 @@ fn field_in(
 }
 
 #[cycle(type_of)]
-#[tactic(auto, using(cl_sexpr::specs::ViewFalls::part_falls))]
 fn fields_of(
     alloc: Global,
     parts: &[Sexpr],
@@ -330,7 +325,6 @@ fn fields_of(
 }
 
 #[cycle(type_of)]
-#[tactic(auto, using(cl_sexpr::specs::ViewFalls::pair_falls))]
 fn fields_of_pairs(
     alloc: Global,
     parts: &[(Name, Sexpr)],
