@@ -12,3 +12,4 @@ pub mod Strings
 pub mod Rising
 pub mod Back
 pub mod EachParses
+pub mod Written

@@ -1,6 +1,9 @@
 //! What value an item stands for.
 ghost use Rattle.std.specs.Prelude.{◌≡◌, true, List, IfOk, Ok, Err};
 ghost use Rattle.std.specs.Option.{ok_or};
+ghost use Rattle.std.specs.Ordering.{nat_cmp};
+ghost use Rattle.std.specs.Cmp.Lexicographic.{slice_cmp};
+ghost use Rattle.std.specs.BTreeMap.{insert_entry};
 ghost use Rattle.cl_types.specs.Fault.{IfRefused};
 ghost use Rattle.cl_sexpr.specs.Tree.{Named, forest, pairs};
 ghost use Rattle.cl_values.specs.Tree.{SomeV, ResponseV, ListV, TupleV, items_of, entries_of};
@@ -144,6 +147,15 @@ fn tuple_value(alloc: Global, sorted: BTreeMap<Name, Value>) -> Result<Value, Al
     })
 }
 
+// An entry goes into the map, and the value that it replaces is let go of.
+fn put(sorted: &mut BTreeMap<Name, Value>, key: Name, value: Value) -> Result<(), AllocError>
+    ensures { IfOk result (λ _. sorted.new.entries
+        ≡ insert_entry (slice_cmp nat_cmp) sorted.old.entries key value) }
+{
+    sorted.insert(key, value)?;
+    Ok(())
+}
+
 #[cycle(literal)]
 fn pairs_literal(alloc: Global, span: Span, items: &[Sexpr]) -> Result<Value, Fault<Span>>
     ensures found { IfOk result
@@ -170,7 +182,7 @@ fn pair_entries(alloc: Global, items: &[Sexpr]) -> Result<BTreeMap<Name, Value>,
     let mut sorted = BTreeMap::new(alloc);
     for item in items {
         let (key, value) = pair_entry(alloc, item)?;
-        sorted.insert(key, value)?;
+        put(&mut sorted, key, value)?;
     }
     Ok(sorted)
 }
@@ -226,7 +238,7 @@ fn entries(alloc: Global, parts: &[(Name, Sexpr)]) -> Result<BTreeMap<Name, Valu
     let mut sorted = BTreeMap::new(alloc);
     for part in parts {
         let value = literal(alloc, &part.1)?;
-        sorted.insert(part.0, value)?;
+        put(&mut sorted, part.0, value)?;
     }
     Ok(sorted)
 }

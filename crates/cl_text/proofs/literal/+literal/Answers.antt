@@ -1,8 +1,13 @@
-use Rattle.std.proofs.Common.{List, arith, sym, ◌∙◌, ap}
+use Rattle.std.proofs.Common.{◌≡◌, List, Result, Ok, Err, arith, subst, sym, ◌∙◌, ap}
+use Rattle.std.specs.Prelude.{IfOk}
+use Rattle.cl_types.specs.Fault.{IfRefused}
+use Rattle.cl_sexpr.specs.declared.sexpr.Span.{Span}
 use Rattle.cl_sexpr.specs.Tree.{Tree as Item, forest}
-use Rattle.cl_text.specs.Literal.{literal, sole}
-use Rattle.cl_text.proofs.Parts.{more_than_one}
+use Rattle.cl_values.specs.Tree.{Tree}
+use Rattle.cl_text.specs.Literal.{literal, list_literal, sole, entry_in}
+use Rattle.cl_text.proofs.Parts.{more_than_one, one_part, values_go_on, all_values, pairs_go_on, all_pairs, entries_go_on, all_entries}
 use Rattle.cl_text.proofs.Rows.{item_smaller, pair_smaller}
+use Rattle.cl_text.proofs.Written.{none_left}
 use Rattle.cl_text.proofs.literal.+literal.Goals as goal
 
 pub literals-literal-requires : goal.literals-literal-requires
@@ -21,3 +26,45 @@ pub sole-returns-then-not-is_empty-clause-broken : goal.sole-returns-then-not-is
 sole-returns-then-not-is_empty-clause-broken t c =
     ap (λ (ts : List Item). sole c.args.span (forest ts)) c.in-Some.ensures.cases.0
     ∙ more_than_one c.args.span c.in-Some.others.now (literal c.in-Some.item.now) (sym c.is_empty.ensures ∙ c.if-not-is_empty.true)
+
+pub list_literal-returns-in_default-clause-broken : goal.list_literal-returns-in_default-clause-broken
+list_literal-returns-in_default-clause-broken t c = ap (λ (ts : List Item). list_literal c.args.span (forest ts)) (none_left c.args.items.now c.in_default.ensures.cases)
+
+pub sole-returns-in_default-clause-broken : goal.sole-returns-in_default-clause-broken
+sole-returns-in_default-clause-broken t c = ap (λ (ts : List Item). sole c.args.span (forest ts)) (none_left c.args.parts.now c.in_default.ensures.cases)
+
+pub entry_in-returns-in_default-clause-broken : goal.entry_in-returns-in_default-clause-broken
+entry_in-returns-in_default-clause-broken t c = ap (λ (ts : List Item). entry_in c.args.span (forest ts)) (none_left c.args.items.now c.in_default.ensures.cases)
+
+pub sole-returns-clause-found : goal.sole-returns-clause-found
+sole-returns-clause-found t c =
+    subst (λ (r : Result Tree Span). IfOk c.literal.result (λ v. r ≡ Ok v))
+    (one_part c.args.span c.args.parts.now c.in-Some.others.now c.in-Some.item.now c.in-Some.ensures.cases.0 c.if-not-is_empty.ensures)
+    c.literal.ensures.found
+
+pub sole-returns-clause-broken : goal.sole-returns-clause-broken
+sole-returns-clause-broken t c =
+    subst (λ (r : Result Tree Span). IfRefused c.literal.result (λ part. r ≡ Err part))
+    (one_part c.args.span c.args.parts.now c.in-Some.others.now c.in-Some.item.now c.in-Some.ensures.cases.0 c.if-not-is_empty.ensures)
+    c.literal.ensures.broken
+
+pub literals-loop-item-preserved : goal.literals-loop-item-preserved
+literals-loop-item-preserved t c =
+    values_go_on c.args.items.now c.loop-item.item-index c.loop-item.values.items c.loop-item.invariant c.item-item.result c.in_ok-literal.field-0 c.push.new.self.items c.loop-item-test.true c.item-item.is c.in_ok-literal.ensures.found c.in_ok-push.ensures.items
+
+pub literals-returns-clause-found : goal.literals-returns-clause-found
+literals-returns-clause-found t c = all_values c.args.items.now c.loop-item.item-index c.loop-item.values.items c.loop-item.invariant c.loop-item-test.false
+
+pub pair_entries-loop-item-preserved : goal.pair_entries-loop-item-preserved
+pair_entries-loop-item-preserved t c =
+    pairs_go_on c.args.items.now c.loop-item.item-index c.loop-item.sorted.entries _ c.loop-item.invariant c.item-item.result c.in_ok-key.key c.in_ok-key.value c.put.new.sorted.entries c.loop-item-test.true c.item-item.is c.in_ok-key.ensures.found c.in_ok-put.ensures
+
+pub pair_entries-returns-clause-found : goal.pair_entries-returns-clause-found
+pair_entries-returns-clause-found t c = all_pairs c.args.items.now c.loop-item.item-index c.loop-item.sorted.entries _ c.loop-item.invariant c.loop-item-test.false
+
+pub entries-loop-part-preserved : goal.entries-loop-part-preserved
+entries-loop-part-preserved t c =
+    entries_go_on c.args.parts.now c.loop-part.part-index c.loop-part.sorted.entries _ c.loop-part.invariant c.part-item.result c.in_ok-value.value c.put.new.sorted.entries c.loop-part-test.true c.part-item.is c.in_ok-value.ensures.found c.in_ok-put.ensures
+
+pub entries-returns-clause-found : goal.entries-returns-clause-found
+entries-returns-clause-found t c = all_entries c.args.parts.now c.loop-part.part-index c.loop-part.sorted.entries _ c.loop-part.invariant c.loop-part-test.false

@@ -1,4 +1,4 @@
-use Rattle.std.proofs.Common.{◌≡◌, ◌+◌, ◌++◌, ℕ, List, Result, Ok, Err, drop, arith, ap, sym, ◌∙◌, append_assoc, append-nil}
+use Rattle.std.proofs.Common.{◌≡◌, ◌+◌, ◌++◌, ℕ, List, drop, arith, ap, sym, subst, ◌∙◌, append-nil}
 use Rattle.std.specs.Prelude.{IfOk, codes, decimal}
 use Rattle.std.proofs.lemmas.List.{drop_all}
 use Rattle.cl_types.specs.Types.{PlainType, Fields, fields}
@@ -6,20 +6,8 @@ use Rattle.cl_types.specs.TypeRows.{fields_at}
 use Rattle.cl_types.specs.TypeFalls.{field_falls}
 use Rattle.cl_text.specs.Printed.{entry_text}
 use Rattle.cl_text.specs.PrintedTypes.{printed_type, fields_text, more_fields_text}
+use Rattle.cl_text.proofs.Written.{if_behind, further, none_left}
 use Rattle.cl_text.proofs.type_printer.+write.Goals as goal
-
--- one text behind another
-behind : (a b d x y : List ℕ) → b ≡ a ++ x → d ≡ b ++ y → d ≡ a ++ (x ++ y)
-behind a b d x y p q = q ∙ ap (λ (z : List ℕ). z ++ y) p ∙ append_assoc a x y
-
-if_behind : {E : Type 0} (r : Result (Unit {0}) E) (a b d x y : List ℕ) → b ≡ a ++ x → IfOk r (λ _. d ≡ b ++ y) → IfOk r (λ _. d ≡ a ++ (x ++ y))
-if_behind (Ok u) a b d x y p q = behind a b d x y p q
-if_behind (Err e) a b d x y p q = tt
-
--- a field behind a comma
-further : (a b d x y rest : List ℕ) → b ≡ a ++ x → d ≡ b ++ y → a ++ (x ++ (y ++ rest)) ≡ d ++ rest
-further a b d x y rest p q =
-    sym (append_assoc a x (y ++ rest)) ∙ sym (append_assoc (a ++ x) y rest) ∙ ap (λ (z : List ℕ). (z ++ y) ++ rest) (sym p) ∙ ap (λ (z : List ℕ). z ++ rest) (sym q)
 
 pub write_more-write_field-requires : goal.write_more-write_field-requires
 write_more-write_field-requires t c =
@@ -58,3 +46,13 @@ write_more-returns t c =
     sym (c.loop-field.invariant
     ∙ ap (λ (x : List (List ℕ × PlainType)). c.loop-field.out.items ++ more_fields_text (fields x)) (drop_all c.loop-field.field-index c.args.row.now c.loop-field-test.false)
     ∙ append-nil c.loop-field.out.items)
+
+pub write_fields-returns-in-None : goal.write_fields-returns-in-None
+write_fields-returns-in-None t c =
+    sym (ap (λ (ps : List (List ℕ × PlainType)). c.args.out.now.items ++ fields_text (fields ps)) (none_left c.args.row.now c.in-None.ensures.cases) ∙ append-nil c.args.out.now.items)
+
+pub write_fields-returns-in_ok-write_field-in-Some : goal.write_fields-returns-in_ok-write_field-in-Some
+write_fields-returns-in_ok-write_field-in-Some t c =
+    subst (λ (ps : List (List ℕ × PlainType)). IfOk c.write_more.result (λ _. c.write_more.new.out.items ≡ c.args.out.now.items ++ fields_text (fields ps))) (sym c.in-Some.ensures.cases.0)
+    (if_behind c.write_more.result c.args.out.now.items c.write_field.new.out.items c.write_more.new.out.items (entry_text c.in-Some.first.now.0 (printed_type c.in-Some.first.now.1)) (more_fields_text (fields c.in-Some.others.now))
+    c.in_ok-write_field-in-Some.ensures c.write_more.ensures)
