@@ -1,7 +1,8 @@
 -- A token of a text has some bytes, no more than are left, and is never told to be a key.
-use Rattle.std.proofs.Common.{◌≡◌, ℕ, zero, suc, ◌+◌, ◌<◌, ◌≤◌, ◌==◌, ◌&&◌, not, List, [], ◌∷◌, length, take, drop, cond, Bool, true, false, Option, Some, None, Result, Ok, Err, refl, arith, ap, subst}
+use Rattle.std.proofs.Common.{◌≡◌, ℕ, zero, suc, ◌+◌, ◌-◌, ◌<◌, ◌≤◌, ◌==◌, ◌&&◌, not, List, [], ◌∷◌, length, take, drop, cond, Bool, true, false, Option, Some, None, Result, Ok, Err, refl, arith, ap, subst}
 use Rattle.std.specs.Prelude.{position, unwrap_or}
 use Rattle.std.specs.Option.{option_map}
+use Rattle.std.proofs.lemmas.List.{take_all}
 use Rattle.std.proofs.lemmas.List.Quantifiers.{position-Some}
 use Rattle.cl_sexpr.specs.declared.sexpr.Span.{Span}
 use Rattle.cl_sexpr.specs.declared.rule.Rule.{Rule}
@@ -196,3 +197,8 @@ by_mark None at c cs raw = longer_within at c cs
 pub token_within : (at c : ℕ) (cs : List ℕ) → Within (suc (length cs)) (token_at at (c ∷ cs))
 unfolding token_at
 token_within at c cs = by_mark (mark_at at c) at c cs (marks_raw at c)
+
+-- bytes from the second on, as they are sliced
+pub from_second : (xs : List ℕ) → take (length xs - 1) (drop 1 xs) ≡ drop 1 xs
+from_second [] = refl
+from_second (x ∷ xs) = take_all (length (x ∷ xs) - 1) xs (omega arith)
