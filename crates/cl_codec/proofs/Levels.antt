@@ -27,7 +27,7 @@ value_at (suc n) total b bytes rest e h =
 not_below : (n m : ℕ) → m ≤ n → nat_lt n m ≡ false
 not_below n m h = grind (arith, nat_tests)
 
-if_false : {A : Type 0} (b : Bool) (x y : A) → b ≡ false → (if b then x else y) ≡ y
+pub if_false : {A : Type 0} (b : Bool) (x y : A) → b ≡ false → (if b then x else y) ≡ y
 if_false b x y e = rw e refl
 
 nothing_left : (rest : List ℕ) → true ≡ (length rest == 0) → rest ≡ []
