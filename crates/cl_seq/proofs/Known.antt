@@ -1,4 +1,4 @@
--- Two sequences of one kind are refused one behind the other only where they are beyond the limits.
+-- Two sequences of one kind are refused one behind the other only where they are beyond the limits, and so is a list with one more entry.
 use Rattle.std.proofs.Common.{◌≡◌, ◌≢◌, ◌++◌, Bool, true, false, [], ◌∷◌, Err, if◌then◌else◌}
 use Rattle.cl_types.specs.declared.fault.Fault.TheVariants.{Refused}
 use Rattle.cl_values.specs.declared.no_value.NoValue.{NoValue}
@@ -7,7 +7,7 @@ use Rattle.cl_arith.specs.declared.ArithRefusal.{ArithRefusal}
 use Rattle.cl_values.specs.Tree.{Tree, items_of, ListV, BuffV, AsciiV, Utf8V}
 use Rattle.cl_values.specs.Computed.{Computed, Gives, Fails, Panics, Undefined, kept, is_within}
 use Rattle.cl_values.specs.Applied.{Applied}
-use Rattle.cl_values.specs.Sequences.{concat, values_of}
+use Rattle.cl_values.specs.Sequences.{append, concat, values_of}
 
 -- refused only as undefined
 abbrev IsPlain : Computed → Type 0
@@ -37,3 +37,18 @@ concat_refused (BuffV xs) (BuffV ys) = gives_plain (BuffV (xs ++ ys))
 concat_refused (AsciiV xs) (AsciiV ys) = gives_plain (AsciiV (xs ++ ys))
 concat_refused (Utf8V xs) (Utf8V ys) = gives_plain (Utf8V (xs ++ ys))
 concat_refused v w = undefined_plain
+
+pub append_refused : (v w : Tree) → IsPlain (append (v ∷ w ∷ []))
+append_refused (ListV vs) w = gives_plain (ListV (items_of (values_of vs ++ w ∷ [])))
+append_refused v w = undefined_plain
+
+within_gives : (b : Bool) (t v : Tree) → (if b then Gives t else Undefined) ≡ Gives v → Gives t ≡ Gives v
+within_gives true t v h = h
+within_gives false t v h = absurd cc
+
+-- what is kept of a value is the value
+pub gave : (c : Computed) (v : Tree) → kept c ≡ Gives v → c ≡ Gives v
+gave (Gives t) v h = within_gives (is_within t) t v h
+gave (Fails why) v h = h
+gave Panics v h = h
+gave Undefined v h = h

@@ -49,8 +49,8 @@ write_list-returns t c =
 pub write_values-loop-value-preserved : goal.write_values-loop-value-preserved
 write_values-loop-value-preserved t c = record {
   written = c.loop-value.invariant.written
-  ∙ values_written c.args.values.now c.loop-value.value-index c.value-item.result c.loop-value.out.items c.loop-value-test.true c.value-item.is
-  ∙ ap (λ (out : List ℕ). out ++ items_wire (items_of (drop (c.loop-value.value-index + 1) c.args.values.now))) (sym c.in_ok-write_value.ensures);
+      ∙ values_written c.args.values.now c.loop-value.value-index c.value-item.result c.loop-value.out.items c.loop-value-test.true c.value-item.is
+      ∙ ap (λ (out : List ℕ). out ++ items_wire (items_of (drop (c.loop-value.value-index + 1) c.args.values.now))) (sym c.in_ok-write_value.ensures);
   within = omega (arith, values_sized c.args.values.now c.loop-value.value-index c.value-item.result c.loop-value-test.true c.value-item.is, c.loop-value.invariant.within);
 }
 
@@ -64,8 +64,8 @@ write_tuple-returns t c =
 pub write_entries-loop-entry-preserved : goal.write_entries-loop-entry-preserved
 write_entries-loop-entry-preserved t c = record {
   written = c.loop-entry.invariant.written
-  ∙ entries_written c.args.entries.now c.loop-entry.entry-index c.entry-item.result c.loop-entry.out.items c.loop-entry-test.true c.entry-item.is
-  ∙ ap (λ (out : List ℕ). out ++ entries_wire (entries_of (drop (c.loop-entry.entry-index + 1) c.args.entries.now))) (sym c.in_ok-write_entry.ensures);
+      ∙ entries_written c.args.entries.now c.loop-entry.entry-index c.entry-item.result c.loop-entry.out.items c.loop-entry-test.true c.entry-item.is
+      ∙ ap (λ (out : List ℕ). out ++ entries_wire (entries_of (drop (c.loop-entry.entry-index + 1) c.args.entries.now))) (sym c.in_ok-write_entry.ensures);
   within = omega (arith, entries_sized c.args.entries.now c.loop-entry.entry-index c.entry-item.result c.loop-entry-test.true c.entry-item.is, c.loop-entry.invariant.within);
 }
 

@@ -1,9 +1,12 @@
-use Rattle.std.proofs.Common.{rules, ◌≡◌, ◌∷◌, [], ◌++◌, length, ap, subst, ◌∙◌, arith}
+use Rattle.std.proofs.Common.{rules, ◌≡◌, true, ◌∷◌, [], ◌++◌, length, ap, subst, ◌∙◌, arith}
 use Rattle.std.specs.Vec.Iter.{into_iter_items}
 use Rattle.cl_types.specs.Name.{IsName}
-use Rattle.cl_values.specs.Valid.{IsVal}
-use Rattle.cl_seq.proofs.Entries.{turned}
-use Rattle.cl_seq.proofs.Rows.{row_fine, row_size, row_depth, tuple_too_large}
+use Rattle.cl_values.specs.Tree.{TupleV, entries_of}
+use Rattle.cl_values.specs.Valid.{IsVal, rises}
+use Rattle.cl_values.specs.Computed.{Gives}
+use Rattle.cl_values.proofs.Applies.{applied_so}
+use Rattle.cl_seq.proofs.Entries.{turned, ended}
+use Rattle.cl_seq.proofs.Rows.{all_fine, row_fine, row_size, row_depth, tuple_too_large}
 use Rattle.cl_seq.proofs.tuples.tuple_of_rows.Goals as goal
 
 pub returns-then-size-gt-MOST_SIZE : goal.returns-then-size-gt-MOST_SIZE
@@ -26,3 +29,15 @@ loop-key-preserved c =
       measured = omega (arith, deep, c.max-depth.ensures, c.depth.ensures.counted, c.loop-key.invariant.measured);
       shallow = omega (arith, c.max-depth.ensures, c.depth.ensures.within, c.loop-key.invariant.shallow);
     }
+
+pub made-requires-clause-fine : goal.made-requires-clause-fine
+made-requires-clause-fine c =
+    let empty : length (into_iter_items c.loop-key.key-iterator) ≡ 0 = omega (arith, c.loop-key.key-iterator.rest.ok.0, c.in-None.ensures.steps.0) in
+    let whole : c.args.rows.items ≡ c.loop-key.entries.items = ended c.loop-key.entries.items (into_iter_items c.loop-key.key-iterator) c.args.rows.items c.loop-key.invariant.whole empty in
+    all_fine (entries_of c.loop-key.entries.items) c.loop-key.invariant.fine (subst (λ l. rises (entries_of l) ≡ true) whole c.requires)
+
+pub returns : goal.returns
+returns c =
+    let empty : length (into_iter_items c.loop-key.key-iterator) ≡ 0 = omega (arith, c.loop-key.key-iterator.rest.ok.0, c.in-None.ensures.steps.0) in
+    let whole : c.args.rows.items ≡ c.loop-key.entries.items = ended c.loop-key.entries.items (into_iter_items c.loop-key.key-iterator) c.args.rows.items c.loop-key.invariant.whole empty in
+    applied_so _ _ c.made.result (ap (λ l. Gives (TupleV (entries_of l))) whole) c.made.ensures
