@@ -1,5 +1,6 @@
 pub mod Entries
 pub mod Characters
+pub mod Bytes
 pub mod Singles
 pub mod FirstPlaces
 pub mod Alike
