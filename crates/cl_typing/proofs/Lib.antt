@@ -1,5 +1,6 @@
 pub mod BranchRows
 pub mod Conclusions
+pub mod InOrder
 pub mod IterationRows
 pub mod JoinedTypes
 pub mod LastTypes

@@ -1,9 +1,10 @@
 -- Rows of tuples.
-use Rattle.std.proofs.Common.{◌≡◌, ℕ, ◌+◌, ◌<◌, ◌≤◌, max, Bool, true, false, List, [], ◌∷◌, ◌++◌, map, length, drop, get_or, Some, Result, refl, sym, ap, subst, ◌∙◌, arith, append_assoc}
+use Rattle.std.proofs.Common.{◌≡◌, ℕ, ◌+◌, ◌<◌, ◌≤◌, max, Bool, true, false, List, [], ◌∷◌, ◌++◌, map, length, drop, get_or, Some, Result, refl, sym, ap, subst, ◌∙◌, arith, append_assoc, append-nil}
 use Rattle.std.specs.Prelude.{◌||◌, not, nat_eq, if◌then◌else◌}
 use Rattle.std.specs.List.{list_any}
 use Rattle.std.specs.Cmp.Lexicographic.{pointwise}
 use Rattle.std.proofs.lemmas.Bool.{and_parts, and_from}
+use Rattle.std.proofs.lemmas.List.{drop_all}
 use Rattle.cl_types.specs.Types.{PlainType, TupleType, Fields, NoField, Field, fields, depth_of, depths_of}
 use Rattle.cl_types.specs.Sized.{everywhere, everywhere_in, keys_rise, has_key, differ, is_among, rises, placed, in_order, is_below, IsSized}
 use Rattle.cl_types.proofs.Rising.{rises_differ, rising_again}
@@ -102,7 +103,30 @@ module _ {A : Type 0} (type : A → PlainType) (keys : List (List ℕ)) (types :
 
 -- ---- two tuples put together
 
+one_kept : (b : Bool) (f : List ℕ × PlainType) (fs : Row) → (if b then fs else f ∷ fs) ≡ (if b then [] else f ∷ []) ++ fs
+one_kept true f fs = refl
+one_kept false f fs = refl
+
 module _ (gs : Row) where
+  -- one more field of the first, unless the second has its key
+  pub unlike_next : (xs row more whole : Row) (i : ℕ) (f : List ℕ × PlainType) → i < length xs → get_or xs i f ≡ f → more ≡ row ++ unlike gs (f ∷ []) → row ++ unlike gs (drop i xs) ≡ whole → more ++ unlike gs (drop (i + 1) xs) ≡ whole
+  unlike_next xs row more whole i f lt at grown so_far =
+      ap (λ (r : Row). r ++ unlike gs (drop (i + 1) xs)) grown
+      ∙ append_assoc row (unlike gs (f ∷ [])) (unlike gs (drop (i + 1) xs))
+      ∙ ap (λ (r : Row). row ++ r) (sym (ap (unlike gs) (rest_of xs i f lt at) ∙ one_kept (is_among f.0 (fields gs)) f (unlike gs (drop (i + 1) xs))))
+      ∙ so_far
+
+  -- the first are at their end
+  pub unlike_end : (xs row whole : Row) (i : ℕ) → length xs ≤ i → row ++ unlike gs (drop i xs) ≡ whole → row ++ gs ≡ whole ++ gs
+  unlike_end xs row whole i far so_far = ap (λ (r : Row). r ++ gs) (sym (append-nil row) ∙ ap (λ (ys : Row). row ++ unlike gs ys) (sym (drop_all i xs far)) ∙ so_far)
+
+  pub like_next : (row more whole : Row) (i : ℕ) (f : List ℕ × PlainType) → i < length gs → get_or gs i f ≡ f → more ≡ row ++ f ∷ [] → row ++ drop i gs ≡ whole → more ++ drop (i + 1) gs ≡ whole
+  like_next row more whole i f lt at grown so_far =
+      ap (λ (r : Row). r ++ drop (i + 1) gs) grown ∙ append_assoc row (f ∷ []) (drop (i + 1) gs) ∙ ap (λ (r : Row). row ++ r) (sym (rest_of gs i f lt at)) ∙ so_far
+
+  pub like_end : (row whole : Row) (i : ℕ) → length gs ≤ i → row ++ drop i gs ≡ whole → row ≡ whole
+  like_end row whole i far so_far = sym (append-nil row) ∙ ap (λ (ys : Row). row ++ ys) (sym (drop_all i gs far)) ∙ so_far
+
   among_both : (k : List ℕ) (xs ys : Row) → is_among k (fields (xs ++ ys)) ≡ (is_among k (fields xs) || is_among k (fields ys))
   among_both k [] ys = refl
   among_both k (x ∷ xs) ys = ap (λ (b : Bool). pointwise nat_eq k x.0 || b) (among_both k xs ys) ∙ grouped (pointwise nat_eq k x.0) (is_among k (fields xs)) (is_among k (fields ys)) where

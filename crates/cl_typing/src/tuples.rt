@@ -90,6 +90,21 @@ fn push_copy(alloc: Global, row: &mut Vec<(Name, Ty)>, field: &(Name, Ty)) -> Re
     Ok(())
 }
 
+/// One more field, unless the others have its key.
+fn push_unlike(
+    alloc: Global,
+    row: &mut Vec<(Name, Ty)>,
+    field: &(Name, Ty),
+    others: &[(Name, Ty)],
+) -> Result<(), AllocError>
+    ensures { IfOk result (λ _. row.new.items ≡ row.old.items ++ unlike others.now (field.now ∷ [])) }
+{
+    if is_among(&field.0, others) {
+        return Ok(());
+    }
+    push_copy(alloc, row, field)
+}
+
 /// The fields of the first whose keys the second hasn't, and those of the second.
 fn merged(
     alloc: Global,
@@ -100,9 +115,7 @@ fn merged(
 {
     let mut row = Vec::new(alloc);
     for field in first {
-        if !is_among(&field.0, second) {
-            push_copy(alloc, &mut row, field)?;
-        }
+        push_unlike(alloc, &mut row, field, second)?;
     }
     for field in second {
         push_copy(alloc, &mut row, field)?;
