@@ -21,6 +21,7 @@ use Rattle.cl_judging.specs.Seen.{taken_in, top_level_in, shadowed_in}
 use Rattle.cl_typing.specs.Verdicts.{Facts, texts_of}
 use Rattle.cl_judging.specs.Walking.{Checks, ChecksAll, Walked}
 use Rattle.cl_judging.specs.LetWalk.{exprs_of, plan_of}
+use Rattle.cl_judging.proofs.Lets.{not_taken}
 use Rattle.cl_judging.proofs.Plans.{rest_of, walked_part, part_fails, walked_gives, given_fails, depth_falls, part_less}
 
 append_none : {A : Type 0} (xs : List A) → xs ++ [] ≡ xs
@@ -108,6 +109,15 @@ free_next c S T t items i item b e lt at is grown h =
     ap (λ (U : Names). shadowed_in c U (filter_map bound_name (drop (i + 1) items))) grown
     ∙ shadowed_same c (filter_map bound_name (drop (i + 1) items)) (bind b.word.name t S) (bind b.word.name NoType S) (keys_bind S S b.word.name t NoType refl)
     ∙ (both_false (taken_in c S b.word.name) (shadowed_in c (bind b.word.name NoType S) (filter_map bound_name (drop (i + 1) items))) (sym (ap (λ (ts : List Tree). shadowed_in c S (filter_map bound_name ts)) (binding_rest items i item b e lt at is)) ∙ h)).1
+
+pub free_here : (c : CodeContext) (S : Names) (items : List Tree) (i : ℕ) (item : Tree) (b : Binding) (e : Tree) → i < length items → get_or items i item ≡ item → item ≡ binding b e → shadowed_in c S (filter_map bound_name (drop i items)) ≡ false → named_in b.word.name S ≡ None
+free_here c S items i item b e lt at is h =
+    not_taken c S b.word.name
+    (both_false (taken_in c S b.word.name) (shadowed_in c (bind b.word.name NoType S) (filter_map bound_name (drop (i + 1) items))) (sym (ap (λ (ts : List Tree). shadowed_in c S (filter_map bound_name ts)) (binding_rest items i item b e lt at is)) ∙ h)).0
+
+-- before the first binding
+pub nothing_bound : (B : Names) → (take (length B) B ≡ B) × (length B ≤ length B)
+nothing_bound B = let same : length B ≤ length B = omega arith in (take_all (length B) B same, same)
 
 -- ---- bindings walked one by one
 

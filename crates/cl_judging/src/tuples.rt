@@ -1,5 +1,5 @@
 //! Tuples.
-ghost use Rattle.std.specs.Prelude.{◌≡◌, ◌<◌, false, filter_map, is_some, length, map, not, true, IfOk};
+ghost use Rattle.std.specs.Prelude.{◌≡◌, ◌<◌, [], false, filter_map, is_some, length, map, not, true, IfOk};
 ghost use Rattle.cl_code.specs.Nodes.{are_once};
 ghost use Rattle.cl_forms.specs.Shapes.{binding_of, bindings_of};
 ghost use Rattle.cl_judging.specs.LetWalk.{exprs_of};
@@ -72,10 +72,12 @@ pub(crate) fn bound_exprs<'a>(
     Ok(exprs)
 }
 
-fn repeats(alloc: Global, keys: &[Name]) -> Result<bool, AllocError>
+/// Whether a key stands twice. Those before it are noted in a set that is borrowed, so none of the
+/// ways out lets go of it.
+fn repeats_in(keys: &[Name], seen: &mut IndexSet<Name>) -> Result<bool, AllocError>
+    requires { seen.old.keys ≡ [] }
     ensures { IfOk result (λ b. b ≡ stands_twice keys.now) }
 {
-    let mut seen = IndexSet::new(alloc);
     for key in keys {
         if seen.contains(key) {
             return Ok(true);
@@ -83,6 +85,13 @@ fn repeats(alloc: Global, keys: &[Name]) -> Result<bool, AllocError>
         seen.insert(*key)?;
     }
     Ok(false)
+}
+
+fn repeats(alloc: Global, keys: &[Name]) -> Result<bool, AllocError>
+    ensures { IfOk result (λ b. b ≡ stands_twice keys.now) }
+{
+    let mut seen = IndexSet::new(alloc);
+    repeats_in(keys, &mut seen)
 }
 
 /// Whether a key stands twice.

@@ -8,9 +8,12 @@ use Rattle.cl_forms.specs.declared.head.Head.{Head}
 use Rattle.cl_judging.specs.Walking.{Checks, Judges}
 use Rattle.cl_judging.proofs.Atoms.{leaf_found, node_found}
 use Rattle.cl_judging.proofs.Lists.{native_fails, native_fits, native_found, native_list, native_head, odd_list, list_text, text_by, few_parts}
-use Rattle.cl_judging.proofs.Plans.{parts_stop, parts_turn, parts_end, texts_turn, part_less}
+use Rattle.std.proofs.lemmas.List.{take_all}
+use Rattle.cl_judging.specs.Walking.{Walked}
+use Rattle.cl_judging.specs.LetWalk.{plan_of}
+use Rattle.cl_judging.proofs.Plans.{walked_none, parts_stop, parts_turn, parts_end, texts_turn, part_less}
 use Rattle.cl_typing.specs.Verdicts.{texts_of}
-use Rattle.cl_judging.proofs.LetWalks.{more_stop, more_turn, more_text, more_end, let_end, let_turn, let_stop, let_text, binding_less, free_next, sound_next}
+use Rattle.cl_judging.proofs.LetWalks.{more_stop, more_turn, more_text, more_end, let_end, let_turn, let_stop, let_text, binding_less, free_next, free_here, nothing_bound, sound_next, no_odd}
 use Rattle.cl_code.specs.Typed.{type_of}
 use Rattle.cl_rules.specs.Context.{Names, bind}
 use Rattle.std.specs.Prelude.{codes}
@@ -44,7 +47,7 @@ use Rattle.cl_sexpr.specs.Fits.{Fits}
 use Rattle.cl_sexpr.specs.Tree.{TupleAt, Bytes, Ascii, Unicode, Pairs, pairs, pairs_size, forest_depth}
 use Rattle.cl_rules.specs.Faults.{sound_shape}
 use Rattle.cl_rules.specs.NativeTypes.{made}
-use Rattle.cl_rules.specs.Shapes.{parts}
+use Rattle.cl_rules.specs.Shapes.{Plan, parts}
 use Rattle.cl_rules.specs.DataShapes.{keys_of, stands_twice, tuple_row}
 use Rattle.cl_code.specs.Expression.{keyed}
 use Rattle.cl_typing.specs.Verdicts.{ConcludesRow}
@@ -110,6 +113,9 @@ check_parts-loop-item-preserved t c = record {
 pub check_parts-returns-clause-found : goal.check_parts-returns-clause-found
 check_parts-returns-clause-found t c = parts_end c.args.ctx.now c.args.scope.now.entries c.args.items.now c.loop-item.item-index c.loop-item.founds c.loop-item-test.false c.loop-item.invariant.found
 
+pub check_parts-returns-clause-text : goal.check_parts-returns-clause-text
+check_parts-returns-clause-text t c = texts_end c.args.items.now c.loop-item.item-index (texts_of c.loop-item.founds.items) c.loop-item-test.false c.loop-item.invariant.text
+
 pub check_more-check_expr-requires : goal.check_more-check_expr-requires
 check_more-check_expr-requires t c =
     let less : tree_size c.item-item.result < forest_size (forest c.args.items.now) = part_less c.args.items.now c.loop-item.item-index c.item-item.result c.loop-item-test.true (sym c.item-item.is) in
@@ -128,10 +134,34 @@ check_more-loop-item-preserved t c = record {
 pub check_more-returns-clause-found : goal.check_more-returns-clause-found
 check_more-returns-clause-found t c = more_end c.args.ctx.now c.args.scope.now.entries c.args.items.now c.loop-item.item-index c.args.founds.now.items c.loop-item.founds.items c.loop-item-test.false c.loop-item.invariant.found
 
+pub check_more-returns-clause-text : goal.check_more-returns-clause-text
+check_more-returns-clause-text t c = c.loop-item.invariant.text ∙ ap (λ (ts : List Tree). texts_of c.args.founds.now.items ++ ts) (take_all c.loop-item.item-index c.args.items.now c.loop-item-test.false)
+
+pub check_bindings-loop-item-init : goal.check_bindings-loop-item-init
+check_bindings-loop-item-init t c =
+    let plan : List Tree → Plan = λ body. plan_of body c.args.scope.now.entries c.args.items.now in
+    let bound = nothing_bound c.args.scope.now.entries in
+    record {
+      found = λ body deep enough. subst (λ (cs : List Checked). Walked c.args.ctx.now (plan body) (plan body) deep cs) (sym c.new-founds.ensures.items) (walked_none c.args.ctx.now (plan body) deep);
+      text = ap texts_of c.new-founds.ensures.items;
+      sound = c.requires.sound;
+      free = c.requires.free;
+      kept = bound.0;
+      longer = bound.1;
+    }
+
+pub check_bindings-unreachable-requires : goal.check_bindings-unreachable-requires
+check_bindings-unreachable-requires t c = no_odd c.args.items.now c.loop-item.item-index c.item-item.result c.loop-item-test.true (sym c.item-item.is) c.in_default.ensures.none c.loop-item.invariant.sound
+
 pub check_bindings-check_expr-requires : goal.check_bindings-check_expr-requires
 check_bindings-check_expr-requires t c =
     let less : tree_size c.in-Some.e.now < forest_size (forest c.args.items.now) = binding_less c.args.items.now c.loop-item.item-index c.item-item.result c.in-Some.binding c.in-Some.e.now c.loop-item-test.true (sym c.item-item.is) c.in-Some.ensures.some in
     (omega (arith, less, c.decreases), (omega (arith, less, c.requires.small), binding_fits c.args.items.now c.loop-item.item-index c.item-item.result c.in-Some.binding c.in-Some.e.now c.loop-item-test.true (sym c.item-item.is) c.in-Some.ensures.some c.requires.fits))
+
+pub check_bindings-add_binding-requires : goal.check_bindings-add_binding-requires
+check_bindings-add_binding-requires t c =
+    subst (λ (N : Names). named_in c.in-Some.binding.word.name N ≡ None) (sym c.in-Ok.ensures.kept)
+    (free_here c.args.ctx.now c.loop-item.scope.entries c.args.items.now c.loop-item.item-index c.item-item.result c.in-Some.binding c.in-Some.e.now c.loop-item-test.true (sym c.item-item.is) c.in-Some.ensures.some c.loop-item.invariant.free)
 
 pub check_bindings-returns-in-Err-clause-found : goal.check_bindings-returns-in-Err-clause-found
 check_bindings-returns-in-Err-clause-found t c = let_stop c.args.ctx.now c.args.scope.now.entries c.loop-item.scope.entries c.args.items.now c.loop-item.item-index c.item-item.result c.in-Some.binding c.in-Some.e.now c.loop-item.founds.items c.in-Err.fault c.loop-item-test.true (sym c.item-item.is) c.in-Some.ensures.some c.in-Err.ensures.found c.loop-item.invariant.found
@@ -152,6 +182,9 @@ check_bindings-loop-item-preserved t c =
 
 pub check_bindings-returns-clause-found : goal.check_bindings-returns-clause-found
 check_bindings-returns-clause-found t c = let_end c.args.ctx.now c.args.scope.now.entries c.loop-item.scope.entries c.args.items.now c.loop-item.item-index c.loop-item.founds.items c.loop-item-test.false c.loop-item.invariant.found
+
+pub check_bindings-returns-clause-text : goal.check_bindings-returns-clause-text
+check_bindings-returns-clause-text t c = c.loop-item.invariant.text ∙ ap exprs_of (take_all c.loop-item.item-index c.args.items.now c.loop-item-test.false)
 
 pub check_let-returns-clause-found : goal.check_let-returns-clause-found
 check_let-returns-clause-found t c = let_whole c.args.ctx.now c.args.scope.now.entries c.args.args.now c.in-Some-items_at.items.now c.in-Some.body.now c.in-Some.first.now c.in-Some-items_at.at c.args.span c.check_let_with.result c.in-Some.ensures.some c.in-Some-items_at.ensures.some c.check_let_with.ensures.found

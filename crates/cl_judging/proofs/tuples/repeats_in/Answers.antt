@@ -2,7 +2,7 @@ use Rattle.std.proofs.Common.{◌+◌, Bool, true, if◌then◌else◌, List, []
 use Rattle.std.proofs.lemmas.List.{drop_all, drop_more}
 use Rattle.cl_types.specs.declared.name.Name.{Name}
 use Rattle.cl_forms.proofs.Twice.{repeats, twice_is}
-use Rattle.cl_judging.proofs.tuples.repeats.Goals as goal
+use Rattle.cl_judging.proofs.tuples.repeats_in.Goals as goal
 
 pub returns-then-contains : goal.returns-then-contains
 returns-then-contains c =
