@@ -1,9 +1,12 @@
 //! The transaction file.
-ghost use Rattle.std.specs.Prelude.{◌≡◌, IfOk, Ok, Err};
+ghost use Rattle.std.specs.Prelude.{◌≡◌, ◌<◌, ◌≤◌, ◌^◌, [], codes, length, IfOk, Ok, Err};
+ghost use Rattle.serde_json.specs.Data.{Items};
 ghost use Rattle.serde_json.specs.View.{view, items_view};
 ghost use Rattle.cl_types.specs.Fault.{IfRefused};
+ghost use Rattle.cl_file.specs.Entries.{NeverFall};
 ghost use Rattle.cl_file.specs.Objects.{Values, Texts, needed};
-ghost use Rattle.cl_file.specs.Files.{items, is_object, is_version_1, members_of, file_by, file_in, file_of, FileReads};
+ghost use Rattle.cl_file.specs.Paths.{each_from};
+ghost use Rattle.cl_file.specs.Files.{holder_at, items, total, is_object, is_version_1, members_of, file_by, file_in, file_of, FileReads};
 
 use crate::addresses::Addresses;
 use crate::entries::entries;
@@ -11,9 +14,11 @@ use crate::holders::{fits, holders};
 use crate::names::{Object, names_of};
 use crate::object::only;
 use crate::path::{Read, bad_member, field};
-use crate::{TxFile, TxRefusal};
+use crate::{Entry, TxFile, TxRefusal};
+use cl_c32::Principal;
 use cl_json::parse;
 use cl_types::Fault;
+use indexmap::IndexMap;
 use serde_json::Value;
 use std::alloc::Global;
 
@@ -53,6 +58,31 @@ fn is_object(value: &Value) -> bool
     value.as_object().is_some()
 }
 
+// The entries behind these holders of the genesis, who are tested first. The holders are borrowed,
+// so no fault here lets go of them.
+fn entries_behind(
+    alloc: Global,
+    known: &mut Addresses,
+    held: &IndexMap<Principal, u128>,
+    list: &[Value],
+) -> Read<Vec<Entry>>
+    ensures found { (v : Texts) (genesis : Items) → each_from (holder_at v.of) (codes "/genesis") [] 0 genesis ≡ Ok held.now.entries → IfOk result
+        (λ es. file_by v.of genesis (items_view list.now) ≡ Ok (record { genesis = held.now.entries; entries = es.items })) }
+    ensures broken { (v : Texts) (genesis : Items) → each_from (holder_at v.of) (codes "/genesis") [] 0 genesis ≡ Ok held.now.entries → IfRefused result
+        (λ r. file_by v.of genesis (items_view list.now) ≡ Err r) }
+    ensures fits { IfOk result (λ _. total held.now.entries < 2 ^ 128) }
+    ensures few { IfOk result (λ es. length es.items ≤ 100000) }
+    ensures rising { IfOk result (λ es. NeverFall 0 es.items) }
+{
+    if !fits(held) {
+        return Err(Fault::Refused(TxRefusal::GenesisTooBig));
+    }
+    if list.len() > MOST_ENTRIES {
+        return Err(Fault::Refused(TxRefusal::TooMany));
+    }
+    entries(alloc, known, list, "/entries")
+}
+
 fn file_by(alloc: Global, known: &mut Addresses, genesis: &[Value], list: &[Value]) -> Read<TxFile>
     ensures found { (v : Texts) → IfOk result
         (λ f. file_by v.of (items_view genesis.now) (items_view list.now) ≡ Ok f) }
@@ -60,13 +90,7 @@ fn file_by(alloc: Global, known: &mut Addresses, genesis: &[Value], list: &[Valu
         (λ r. file_by v.of (items_view genesis.now) (items_view list.now) ≡ Err r) }
 {
     let held = holders(alloc, known, genesis, "/genesis")?;
-    if !fits(&held) {
-        return Err(Fault::Refused(TxRefusal::GenesisTooBig));
-    }
-    if list.len() > MOST_ENTRIES {
-        return Err(Fault::Refused(TxRefusal::TooMany));
-    }
-    let read = entries(alloc, known, list, "/entries")?;
+    let read = entries_behind(alloc, known, &held, list)?;
     Ok(TxFile::new(held, read))
 }
 

@@ -120,6 +120,30 @@ fn grow(holders: &mut Holders, principal: Principal, amount: u128) -> Result<(),
     Ok(())
 }
 
+// Reads the holders of an array at the path, where none is held yet. The map is borrowed, so what
+// stops the reading lets go of a path alone.
+fn fill(
+    alloc: Global,
+    known: &mut Addresses,
+    held: &mut Holders,
+    list: &[Value],
+    path: &str,
+) -> Read<()>
+    requires { held.old.entries ≡ [] }
+    ensures found { (v : Texts) → OnOk result
+        (each_from (holder_at v.of) path.now [] 0 (items_view list.now) ≡ Ok held.new.entries) }
+    ensures broken { (v : Texts) → IfRefused result
+        (λ r. each_from (holder_at v.of) path.now [] 0 (items_view list.now) ≡ Err r) }
+    ensures once { OnOk result (AreOnce [] held.new.entries) }
+{
+    for i in 0..list.len() {
+        let at = place(alloc, path, i)?;
+        let (principal, amount) = holder(alloc, known, held, &list[i], at.as_str())?;
+        grow(held, principal, amount)?;
+    }
+    Ok(())
+}
+
 /// The holders of an array at the path.
 pub(crate) fn holders(
     alloc: Global,
@@ -133,13 +157,9 @@ pub(crate) fn holders(
         (λ r. each_from (holder_at v.of) path.now [] 0 (items_view list.now) ≡ Err r) }
     ensures once { IfOk result (λ h. AreOnce [] h.entries) }
 {
-    let mut read = IndexMap::new(alloc);
-    for i in 0..list.len() {
-        let at = place(alloc, path, i)?;
-        let (principal, amount) = holder(alloc, known, &read, &list[i], at.as_str())?;
-        grow(&mut read, principal, amount)?;
-    }
-    Ok(read)
+    let mut held = IndexMap::new(alloc);
+    fill(alloc, known, &mut held, list, path)?;
+    Ok(held)
 }
 
 // What holders have together; None where that is above 2^128-1.
