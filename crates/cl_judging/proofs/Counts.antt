@@ -72,3 +72,7 @@ short_rules ContractCall G B es k = count_first _ _ (λ i. not (k i) || is_unlik
 
 pub head_short : (c : CodeContext) (h : Head) (B : Names) (args : List Tree) (at : Span) (b : Bool) (f : Fault Break) → b ≡ takes (row_of h).arity (length args) → b ≡ false → f ≡ Refused (record { rule = ArgumentCount; span = at }) → ChecksHead c h B args at (Err f)
 head_short c h B args at b f is short fails = shape_fails c (λ G. head_shape h (row_of h) G B args) at (forest_depth (forest args) + 1) ArgumentCount f (λ G shows. short_rules h G B args (sym is ∙ short)) fails
+
+-- a native that takes so many arguments, by another name for it
+pub enough_as : (g h : Head) (es : List Tree) (b : Bool) → g ≡ h → b ≡ takes (row_of h).arity (length es) → b ≡ true → takes (row_of g).arity (length es) ≡ true
+enough_as g h es b is test enough = ap (λ (k : Head). takes (row_of k).arity (length es)) is ∙ (sym test ∙ enough)

@@ -1,5 +1,5 @@
 use Rattle.std.proofs.Common.{sym}
-use Rattle.cl_judging.proofs.LetWalks.{bindings_turn, bindings_end, sound_next, push_count}
+use Rattle.cl_judging.proofs.LetWalks.{bindings_turn, bindings_end, no_odd, sound_next, push_count}
 use Rattle.cl_judging.proofs.scope.bindings_in.Goals as goal
 
 pub loop-item-preserved : goal.loop-item-preserved
@@ -11,3 +11,6 @@ loop-item-preserved c = record {
 
 pub returns-clause-text : goal.returns-clause-text
 returns-clause-text c = bindings_end c.args.items.now c.loop-item.item-index c.loop-item.bindings.items c.loop-item-test.false c.loop-item.invariant.text
+
+pub unreachable-requires : goal.unreachable-requires
+unreachable-requires c = no_odd c.args.items.now c.loop-item.item-index c.item-item.result c.loop-item-test.true (sym c.item-item.is) c.in_default.ensures.none c.loop-item.invariant.sound

@@ -1,86 +1,58 @@
-use Rattle.std.proofs.Common.{true, false, length, take, ◌∷◌, ◌++◌, ◌≡◌, ◌<◌, List, Ok, Err, refl, sym, ap, subst, ◌∙◌, arith}
+use Rattle.std.proofs.Common.{true, false, length, take, ◌∷◌, ◌++◌, ◌≡◌, ◌<◌, List, Ok, Err, refl, sym, ap, subst, ◌∙◌, arith, [], ℕ, ◌+◌, map, eq-eqb, None, filter_map}
 use Rattle.cl_shapes.specs.declared.name.CostName.TheVariants.{Literal}
-use Rattle.cl_types.specs.Types.{IntType, UintType, PrincipalType}
-use Rattle.cl_sexpr.specs.declared.sexpr.Node.TheVariants as nodes
-use Rattle.cl_sexpr.specs.Tree.{Tree, ListAt, Signed, Unsigned, Standing, Local, forest, forest_size, tree_size}
+use Rattle.cl_types.specs.Types.{IntType, UintType, PrincipalType, BuffType, AsciiType, Utf8Type}
+use Rattle.cl_sexpr.specs.Tree.{Tree, ListAt, Signed, Unsigned, Standing, Local, forest, forest_size, tree_size, TupleAt, Bytes, Ascii, Unicode, Pairs, pairs, pairs_size, forest_depth}
 use Rattle.cl_typing.specs.declared.concluding.Checked.{Checked}
 use Rattle.cl_forms.specs.declared.head.Head.{Head}
-use Rattle.cl_judging.specs.Walking.{Checks, Judges}
-use Rattle.cl_judging.proofs.Atoms.{leaf_found, node_found}
-use Rattle.cl_judging.proofs.Lists.{native_fails, native_fits, native_found, native_list, native_head, odd_list, list_text, text_by, few_parts}
+use Rattle.cl_judging.specs.Walking.{Checks, Judges, Walked, ChecksHead, ChecksAll, RuledAs, head_at}
+use Rattle.cl_judging.proofs.Atoms.{leaf_found, node_found, leaf_ruled}
+use Rattle.cl_judging.proofs.Lists.{native_fails, native_fits, native_found, native_list, native_head, odd_list, list_text, text_by, few_parts, parts_count}
 use Rattle.std.proofs.lemmas.List.{take_all}
-use Rattle.cl_judging.specs.Walking.{Walked}
-use Rattle.cl_judging.specs.LetWalk.{plan_of}
-use Rattle.cl_judging.proofs.Plans.{walked_none, parts_stop, parts_turn, parts_end, texts_turn, part_less}
-use Rattle.cl_typing.specs.Verdicts.{texts_of}
+use Rattle.cl_judging.specs.LetWalk.{plan_of, ChecksBindings, JudgesLet, exprs_of}
+use Rattle.cl_judging.proofs.Plans.{walked_none, parts_stop, parts_turn, parts_end, texts_turn, part_less, texts_end}
+use Rattle.cl_typing.specs.Verdicts.{texts_of, ConcludesRow}
 use Rattle.cl_judging.proofs.LetWalks.{more_stop, more_turn, more_text, more_end, let_end, let_turn, let_stop, let_text, binding_less, free_next, free_here, nothing_bound, sound_next, no_odd}
 use Rattle.cl_code.specs.Typed.{type_of}
-use Rattle.cl_rules.specs.Context.{Names, bind}
-use Rattle.std.specs.Prelude.{codes}
-use Rattle.cl_code.specs.Expression.{headed}
-use Rattle.cl_judging.specs.LetWalk.{ChecksBindings, JudgesLet}
-use Rattle.cl_judging.proofs.Lets.{take_front, bind_longer}
-use Rattle.cl_judging.specs.Calls.{JudgesCall}
+use Rattle.cl_rules.specs.Context.{Names, bind, named_in}
+use Rattle.std.specs.Prelude.{codes, is_some, ◌==◌}
+use Rattle.cl_code.specs.Expression.{headed, word, keyed, bound_items}
+use Rattle.cl_judging.proofs.Lets.{take_front, bind_longer, not_taken}
+use Rattle.cl_judging.specs.Calls.{JudgesCall, JudgesCallee}
 use Rattle.cl_judging.proofs.FunctionCalls.{call_named, call_short, call_fails, call_found, call_list, unknown_list, word_text}
-use Rattle.cl_judging.proofs.LetShapes.{let_taken, let_odd, let_part_fails, let_body_fails, let_found, let_whole, let_head, let_enough, let_few, let_fits, let_text as whole_text}
-use Rattle.std.specs.Prelude.{is_some}
-use Rattle.cl_forms.specs.Shapes.{bindings_of}
-use Rattle.cl_judging.specs.LetWalk.{exprs_of}
-use Rattle.cl_judging.specs.Walking.{ChecksHead}
+use Rattle.cl_judging.proofs.LetShapes.{let_taken, let_odd, let_part_fails, let_body_fails, let_found, let_whole, let_head, let_enough, let_few, let_fits, let_text as whole_text, exprs_count}
+use Rattle.cl_forms.specs.Shapes.{bindings_of, binding_of}
 use Rattle.cl_judging.specs.Named.{JudgesNamed, seen_given}
-use Rattle.cl_judging.specs.Calls.{JudgesCallee}
 use Rattle.cl_judging.proofs.TargetLaws.{target_odd, target_none, function_odd, function_none, callee_short, callee_fails, callee_found}
-use Rattle.cl_judging.proofs.Counts.{head_short}
-use Rattle.cl_judging.proofs.OwnNames.{named_own, let_own, contract_own}
+use Rattle.cl_judging.proofs.Counts.{head_short, enough_as}
+use Rattle.cl_judging.proofs.OwnNames.{named_own, let_own, contract_own, tuple_own, optional_own, response_own, tuple_of_own, max_own}
 use Rattle.cl_judging.proofs.NamedShapes.{named_odd, named_unknown, named_fails, named_fits, named_found}
-use Rattle.std.proofs.Common.{[], ℕ}
-use Rattle.std.specs.Prelude.{◌==◌}
-use Rattle.cl_sexpr.specs.Fits.{AllFit}
-use Rattle.cl_code.specs.Expression.{word}
-use Rattle.cl_judging.proofs.Fitting.{part_fits, binding_fits}
-use Rattle.std.proofs.Common.{◌+◌, map, eq-eqb}
+use Rattle.cl_sexpr.specs.Fits.{AllFit, Fits}
+use Rattle.cl_judging.proofs.Fitting.{part_fits, binding_fits, pairs_fit, pairs_some, bound_fits, bound_room}
 use Rattle.std.specs.Borrow.{Bor}
-use Rattle.cl_types.specs.Types.{BuffType, AsciiType, Utf8Type}
 use Rattle.cl_sexpr.specs.declared.sexpr.Node.{Node}
 use Rattle.cl_sexpr.specs.View.{tree_of}
-use Rattle.cl_sexpr.specs.Fits.{Fits}
-use Rattle.cl_sexpr.specs.Tree.{TupleAt, Bytes, Ascii, Unicode, Pairs, pairs, pairs_size, forest_depth}
 use Rattle.cl_rules.specs.Faults.{sound_shape}
 use Rattle.cl_rules.specs.NativeTypes.{made}
 use Rattle.cl_rules.specs.Shapes.{Plan, parts}
 use Rattle.cl_rules.specs.DataShapes.{keys_of, stands_twice, tuple_row}
-use Rattle.cl_code.specs.Expression.{keyed}
-use Rattle.cl_typing.specs.Verdicts.{ConcludesRow}
-use Rattle.cl_judging.specs.Walking.{ChecksAll, RuledAs}
-use Rattle.cl_judging.proofs.Atoms.{leaf_ruled}
-use Rattle.cl_judging.proofs.Lists.{parts_count}
-use Rattle.cl_judging.proofs.Plans.{texts_end}
-use Rattle.cl_judging.proofs.Fitting.{pairs_fit, pairs_some}
-use Rattle.cl_judging.proofs.OwnNames.{tuple_own}
 use Rattle.cl_judging.proofs.References.{ref_length, ref_less, ref_at}
-use Rattle.cl_judging.proofs.TupleShapes.{parts_in, pairs_room, keyed_back, keys_count, parts_as_many, tuple_fails, tuple_found, tuple_whole, tuple_twice}
+use Rattle.cl_judging.proofs.TupleShapes.{parts_in, pairs_room, keyed_back, keys_count, parts_as_many, tuple_fails, tuple_found, tuple_whole, tuple_twice, pairs_odd, pairs_twice, pairs_fails, pairs_found}
 use Rattle.cl_judging.proofs.BoundPairs.{unbound, first_free, second_free}
 use Rattle.cl_judging.proofs.MatchNodes.{three_few, three_fit, optional_text, response_text, four_or_five, four_size, four_fit, five_size, five_fit}
 use Rattle.cl_judging.specs.Branching.{AddsTwo}
-use Rattle.cl_judging.proofs.OwnNames.{optional_own, response_own}
 use Rattle.cl_judging.proofs.MatchCases.{two_more, first_breaks, second_breaks, all_three, all_texts, optional_stops, optional_fails, optional_ends, response_fails, response_ends}
-use Rattle.cl_judging.proofs.Lets.{not_taken}
-use Rattle.cl_rules.specs.Context.{named_in}
-use Rattle.std.proofs.Common.{None}
 use Rattle.cl_sexpr.specs.declared.rule.Rule.TheVariants.{BadBinding}
 use Rattle.cl_judging.proofs.MatchShapes.{optional_taken, optional_input_fails, response_taken, response_input_fails, response_odd, match_whole, optional_no_name, response_no_name}
-use Rattle.std.proofs.Common.{filter_map}
 use Rattle.std.proofs.lemmas.Bool.{leb-true}
-use Rattle.cl_forms.specs.Shapes.{binding_of}
-use Rattle.cl_code.specs.Expression.{bound_items}
-use Rattle.cl_judging.proofs.Fitting.{bound_fits, bound_room}
-use Rattle.cl_judging.proofs.LetShapes.{exprs_count}
-use Rattle.cl_judging.proofs.OwnNames.{tuple_of_own}
-use Rattle.cl_judging.proofs.TupleShapes.{pairs_odd, pairs_twice, pairs_fails, pairs_found}
 use Rattle.cl_judging.proofs.MaxLens.{max_odd, max_fails, max_found, max_text}
-use Rattle.cl_judging.proofs.OwnNames.{max_own}
 use Rattle.cl_judging.specs.Uses.{Iterates, iteration_verdict}
 use Rattle.cl_judging.proofs.UseShapes.{not_applied, use_short, use_fails, use_found, use_fits, use_own}
+use Rattle.cl_forms.specs.HeadNames.{name_of}
+use Rattle.cl_code.specs.OpNames.{iteration_head, name_head}
+use Rattle.cl_rules.specs.ControlShapes.{bound_name}
+use Rattle.cl_judging.specs.Seen.{shadowed_in}
+use Rattle.cl_forms.specs.declared.head.Head.TheVariants as heads
+use Rattle.cl_sexpr.specs.declared.sexpr.Node.TheVariants as nodes
 use Rattle.cl_judging.proofs.walk.+check.Goals as goal
 
 abbrev refs : List (Bor Tree) → List Tree
@@ -700,3 +672,121 @@ check_iteration-finish-requires t c =
 
 pub check_iteration-returns-clause-found : goal.check_iteration-returns-clause-found
 check_iteration-returns-clause-found t c = use_found c.args.ctx.now c.args.iteration c.args.scope.now.entries c.args.args.now c.args.span c.requires.enough c.in-Some.first.now c.in-Some.rest.now c.in-Some.ensures.some c.in-Some-use_at.used.usable c.in-Some-use_at.ensures.some c.takes_values.result c.takes_values.ensures c.if-not-takes_values.false c.in-Ok.parts c.on_iteration-concluded.result c.finish.result c.in-Ok.ensures.found (subst (λ (cs : List Checked). Iterates (iteration_verdict c.args.iteration) c.in-Some-use_at.used.usable cs c.on_iteration-concluded.result) c.deref.ensures.value c.on_iteration-concluded.ensures) c.finish.ensures.found
+
+-- ---- what calls ask for, and the texts of what they give
+
+pub check_native-check_parts-requires : goal.check_native-check_parts-requires
+check_native-check_parts-requires t c = (omega (arith, c.decreases), (c.requires.small, c.requires.fits))
+
+pub check_call-check_parts-requires : goal.check_call-check_parts-requires
+check_call-check_parts-requires t c = (omega (arith, c.decreases), (c.requires.small, c.requires.fits))
+
+pub check_named-check_parts-requires : goal.check_named-check_parts-requires
+check_named-check_parts-requires t c =
+    let size : forest_size (forest c.args.args.now) ≡ forest_size (forest (c.in-Some.first.now ∷ c.in-Some.rest.now)) = ap (λ (ts : List Tree). forest_size (forest ts)) c.in-Some.ensures.some in
+    (omega (arith, size, c.decreases), (omega (arith, size, c.requires.small), (subst (λ (ts : List Tree). AllFit (forest ts)) c.in-Some.ensures.some c.requires.fits).1))
+
+pub check_iteration-check_parts-requires : goal.check_iteration-check_parts-requires
+check_iteration-check_parts-requires t c =
+    let size : forest_size (forest c.args.args.now) ≡ forest_size (forest (c.in-Some.first.now ∷ c.in-Some.rest.now)) = ap (λ (ts : List Tree). forest_size (forest ts)) c.in-Some.ensures.some in
+    (omega (arith, size, c.decreases), (omega (arith, size, c.requires.small), (subst (λ (ts : List Tree). AllFit (forest ts)) c.in-Some.ensures.some c.requires.fits).1))
+
+pub check_max_len-check_expr-requires : goal.check_max_len-check_expr-requires
+check_max_len-check_expr-requires t c =
+    let size : forest_size (forest c.args.args.now) ≡ forest_size (forest (c.in-Some.item.now ∷ c.in-Some.second.now ∷ [])) = ap (λ (ts : List Tree). forest_size (forest ts)) c.in-Some.ensures.some in
+    (omega (arith, size, c.decreases), (omega (arith, size, c.requires.small), (subst (λ (ts : List Tree). AllFit (forest ts)) c.in-Some.ensures.some c.requires.fits).0))
+
+pub check_contract_call-check_parts-requires : goal.check_contract_call-check_parts-requires
+check_contract_call-check_parts-requires t c =
+    let size : forest_size (forest c.args.args.now) ≡ forest_size (forest (c.in-Some.first.now ∷ c.in-Some.second.now ∷ c.in-Some.rest.now)) = ap (λ (ts : List Tree). forest_size (forest ts)) c.in-Some.ensures.some in
+    (omega (arith, size, c.decreases), (omega (arith, size, c.requires.small), (subst (λ (ts : List Tree). AllFit (forest ts)) c.in-Some.ensures.some c.requires.fits).1.1))
+
+pub check_let_with-check_bindings-requires : goal.check_let_with-check_bindings-requires
+check_let_with-check_bindings-requires t c =
+    let free = subst (λ (N : Names). shadowed_in c.args.ctx.now N (filter_map bound_name c.args.items.now) ≡ false) (sym c.in_ok-is_shadowed.ensures.kept) (sym c.in_ok-is_shadowed.ensures.found ∙ c.if-branch.false) in
+    (omega (arith, c.decreases), (omega (arith, c.requires.small), (c.requires.fits, (sym c.are_bindings.ensures ∙ c.if-not-are_bindings.false, free))))
+
+pub check_let_with-check_more-requires : goal.check_let_with-check_more-requires
+check_let_with-check_more-requires t c = (omega (arith, c.decreases), (omega (arith, c.requires.small), c.requires.others))
+
+pub check_head-check_native-requires : goal.check_head-check_native-requires
+check_head-check_native-requires t c = (omega (arith, c.decreases), (c.requires.small, (c.requires.fits, enough_as (head_at c.in-Evaluated.native) c.args.head c.args.args.now c.has_enough.result c.in-Evaluated.ensures c.has_enough.ensures c.if-not-has_enough.false)))
+
+pub check_head-returns-in-Evaluated-clause-text : goal.check_head-returns-in-Evaluated-clause-text
+check_head-returns-in-Evaluated-clause-text t c = text_by c.check_native.result _ _ c.check_native.ensures.text (ap (λ (h : Head). headed (name_of h) c.args.at c.args.args.now c.args.span) c.in-Evaluated.ensures)
+
+pub check_head-check_named-requires : goal.check_head-check_named-requires
+check_head-check_named-requires t c = (omega (arith, c.decreases), (c.requires.small, (c.requires.fits, enough_as (name_head c.in-Named.native) c.args.head c.args.args.now c.has_enough.result c.in-Named.ensures c.has_enough.ensures c.if-not-has_enough.false)))
+
+pub check_head-returns-in-Named-clause-text : goal.check_head-returns-in-Named-clause-text
+check_head-returns-in-Named-clause-text t c = text_by c.check_named.result _ _ c.check_named.ensures.text (ap (λ (h : Head). headed (name_of h) c.args.at c.args.args.now c.args.span) c.in-Named.ensures)
+
+pub check_head-check_let-requires : goal.check_head-check_let-requires
+check_head-check_let-requires t c = (omega (arith, c.decreases), (c.requires.small, (c.requires.fits, enough_as heads.Let c.args.head c.args.args.now c.has_enough.result c.in-Let.ensures c.has_enough.ensures c.if-not-has_enough.false)))
+
+pub check_head-returns-in-Let-clause-text : goal.check_head-returns-in-Let-clause-text
+check_head-returns-in-Let-clause-text t c = text_by c.check_let.result _ _ c.check_let.ensures.text (ap (λ (h : Head). headed (name_of h) c.args.at c.args.args.now c.args.span) c.in-Let.ensures)
+
+pub check_head-check_match-requires : goal.check_head-check_match-requires
+check_head-check_match-requires t c = (omega (arith, c.decreases), (c.requires.small, (c.requires.fits, enough_as heads.Match c.args.head c.args.args.now c.has_enough.result c.in-Match.ensures c.has_enough.ensures c.if-not-has_enough.false)))
+
+pub check_head-returns-in-Match-clause-text : goal.check_head-returns-in-Match-clause-text
+check_head-returns-in-Match-clause-text t c = text_by c.check_match.result _ _ c.check_match.ensures.text (ap (λ (h : Head). headed (name_of h) c.args.at c.args.args.now c.args.span) c.in-Match.ensures)
+
+pub check_head-check_pairs-requires : goal.check_head-check_pairs-requires
+check_head-check_pairs-requires t c = (omega (arith, c.decreases), (c.requires.small, (c.requires.fits, enough_as heads.TupleOf c.args.head c.args.args.now c.has_enough.result c.in-TupleOf.ensures c.has_enough.ensures c.if-not-has_enough.false)))
+
+pub check_head-returns-in-TupleOf-clause-text : goal.check_head-returns-in-TupleOf-clause-text
+check_head-returns-in-TupleOf-clause-text t c = text_by c.check_pairs.result _ _ c.check_pairs.ensures.text (ap (λ (h : Head). headed (name_of h) c.args.at c.args.args.now c.args.span) c.in-TupleOf.ensures)
+
+pub check_head-check_max_len-requires : goal.check_head-check_max_len-requires
+check_head-check_max_len-requires t c = (omega (arith, c.decreases), (c.requires.small, (c.requires.fits, enough_as heads.AsMaxLen c.args.head c.args.args.now c.has_enough.result c.in-AsMaxLen.ensures c.has_enough.ensures c.if-not-has_enough.false)))
+
+pub check_head-returns-in-AsMaxLen-clause-text : goal.check_head-returns-in-AsMaxLen-clause-text
+check_head-returns-in-AsMaxLen-clause-text t c = text_by c.check_max_len.result _ _ c.check_max_len.ensures.text (ap (λ (h : Head). headed (name_of h) c.args.at c.args.args.now c.args.span) c.in-AsMaxLen.ensures)
+
+pub check_head-check_contract_call-requires : goal.check_head-check_contract_call-requires
+check_head-check_contract_call-requires t c = (omega (arith, c.decreases), (c.requires.small, (c.requires.fits, enough_as heads.ContractCall c.args.head c.args.args.now c.has_enough.result c.in-ContractCall.ensures c.has_enough.ensures c.if-not-has_enough.false)))
+
+pub check_head-returns-in-ContractCall-clause-text : goal.check_head-returns-in-ContractCall-clause-text
+check_head-returns-in-ContractCall-clause-text t c = text_by c.check_contract_call.result _ _ c.check_contract_call.ensures.text (ap (λ (h : Head). headed (name_of h) c.args.at c.args.args.now c.args.span) c.in-ContractCall.ensures)
+
+pub check_head-check_iteration-requires : goal.check_head-check_iteration-requires
+check_head-check_iteration-requires t c = (omega (arith, c.decreases), (c.requires.small, (c.requires.fits, enough_as (iteration_head c.in-Iterate.iteration) c.args.head c.args.args.now c.has_enough.result c.in-Iterate.ensures c.has_enough.ensures c.if-not-has_enough.false)))
+
+pub check_head-returns-in-Iterate-clause-text : goal.check_head-returns-in-Iterate-clause-text
+check_head-returns-in-Iterate-clause-text t c = text_by c.check_iteration.result _ _ c.check_iteration.ensures.text (ap (λ (h : Head). headed (name_of h) c.args.at c.args.args.now c.args.span) c.in-Iterate.ensures)
+
+pub check_list-check_head-requires : goal.check_list-check_head-requires
+check_list-check_head-requires t c =
+    let size : forest_size (forest c.args.items.now) ≡ 1 + forest_size (forest c.in-Some.args.now) + 1 = ap (λ (ts : List Tree). forest_size (forest ts)) c.in-Some.ensures.some in
+    (omega (arith, size, c.decreases), (omega (arith, size, c.requires.small), (subst (λ (ts : List Tree). AllFit (forest ts)) c.in-Some.ensures.some c.requires.fits).1))
+
+pub check_expr-check_list-requires : goal.check_expr-check_list-requires
+check_expr-check_list-requires t c =
+    let tree : ListAt (forest c.deref-in-List.result.now) c.e.inside.span ≡ c.args.e.now = ap (λ (ts : List Tree). ListAt (forest ts) c.e.inside.span) c.deref-in-List.ensures.value ∙ (ap (λ (n : Node). tree_of n c.e.inside.span) (sym c.in-List.is) ∙ c.e.view_is) in
+    let size : forest_size (forest c.deref-in-List.result.now) + 1 ≡ tree_size c.args.e.now = ap tree_size tree in
+    (omega (arith, size, c.decreases), (omega (arith, size, c.requires.small), subst Fits (sym tree) c.requires.fits))
+
+pub check_native-returns-clause-text : goal.check_native-returns-clause-text
+check_native-returns-clause-text t c = text_by c.finish.result _ _ c.finish.ensures.text (c.op_of.ensures.text (texts_of c.in-Ok.parts.items) c.args.span ∙ ap (λ (ts : List Tree). headed (name_of (head_at c.args.native)) c.args.head ts c.args.span) c.in-Ok.ensures.text)
+
+pub check_call-returns-clause-text : goal.check_call-returns-clause-text
+check_call-returns-clause-text t c = text_by c.finish.result _ _ c.finish.ensures.text (ap (λ (ts : List Tree). headed c.args.head.name c.args.head.span ts c.args.span) c.in-Ok.ensures.text)
+
+pub check_let-returns-clause-text : goal.check_let-returns-clause-text
+check_let-returns-clause-text t c = text_by c.check_let_with.result _ _ c.check_let_with.ensures.text (ap (λ (ts : List Tree). headed (codes "let") c.args.head ts c.args.span) (sym (c.in-Some.ensures.some ∙ ap (λ (e : Tree). e ∷ c.in-Some.body.now) c.in-Some-items_at.ensures.some)))
+
+pub check_named-returns-clause-text : goal.check_named-returns-clause-text
+check_named-returns-clause-text t c =
+    let rest : word c.in-Some-name_in.name ∷ texts_of c.in-Ok.parts.items ≡ c.args.args.now = ap (λ (ts : List Tree). word c.in-Some-name_in.name ∷ ts) c.in-Ok.ensures.text ∙ sym (c.in-Some.ensures.some ∙ ap (λ (e : Tree). e ∷ c.in-Some.rest.now) c.in-Some-name_in.ensures.some) in
+    text_by c.finish.result _ _ c.finish.ensures.text (ap (λ (ts : List Tree). headed (name_of (name_head c.args.native)) c.args.head ts c.args.span) rest)
+
+pub check_expr-returns-in-Atom-clause-text : goal.check_expr-returns-in-Atom-clause-text
+check_expr-returns-in-Atom-clause-text t c = text_by c.check_name.result _ c.args.e.now c.check_name.ensures.text (ap (λ (n : Node). tree_of n c.e.inside.span) (sym c.in-Atom.is) ∙ c.e.view_is)
+
+pub check_expr-returns-in-Uint-clause-text : goal.check_expr-returns-in-Uint-clause-text
+check_expr-returns-in-Uint-clause-text t c = text_by c.uint.result _ c.args.e.now c.uint.ensures.text (ap (λ (n : Node). tree_of n c.e.inside.span) (sym c.in-Uint.is) ∙ c.e.view_is)
+
+pub check_expr-returns-in-List-clause-text : goal.check_expr-returns-in-List-clause-text
+check_expr-returns-in-List-clause-text t c = text_by c.check_list.result _ c.args.e.now c.check_list.ensures.text (ap (λ (ts : List Tree). ListAt (forest ts) c.e.inside.span) c.deref-in-List.ensures.value ∙ (ap (λ (n : Node). tree_of n c.e.inside.span) (sym c.in-List.is) ∙ c.e.view_is))
