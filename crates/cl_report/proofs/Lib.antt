@@ -1,4 +1,5 @@
 pub mod Examples
 pub mod Functions
+pub mod InTurn
 pub mod LineOrder
 pub mod StateText
