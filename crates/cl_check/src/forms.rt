@@ -68,8 +68,8 @@ fn variable(
         Err(fault) => return Err(fault),
     };
     let kept = ty.copy(alloc)?;
-    let ty = ty.copy(alloc)?;
     add_variable(ctx, *name, kept)?;
+    let ty = ty.copy(alloc)?;
     Ok(Definition::Variable(Variable {
         name: *name,
         ty,
@@ -91,9 +91,9 @@ fn map_of(
 {
     let kept_key = key.copy(alloc)?;
     let kept_value = value.copy(alloc)?;
+    add_map(ctx, *name, kept_key, kept_value)?;
     let key = key.copy(alloc)?;
     let value = value.copy(alloc)?;
-    add_map(ctx, *name, kept_key, kept_value)?;
     Ok(Definition::MapOf(MapOf {
         name: *name,
         key,
@@ -132,6 +132,7 @@ fn supplied(
         Ok(found) => found,
         Err(fault) => return Err(fault),
     };
+    drop(uint);
     add_fungible(ctx, *name)?;
     Ok(Definition::Fungible(Fungible {
         name: *name,
@@ -151,8 +152,8 @@ fn nonfungible(
     ensures { FindsForm ctx.old (record { name = Some name.now; kind = NonFungibleForm id.now; span = span }) result ctx.new }
 {
     let kept = id.copy(alloc)?;
-    let id = id.copy(alloc)?;
     add_nonfungible(ctx, *name, kept)?;
+    let id = id.copy(alloc)?;
     Ok(Definition::NonFungible(NonFungible {
         name: *name,
         id,
@@ -210,8 +211,8 @@ fn function(
         Err(fault) => return Err(fault),
     };
     let kept = signature(alloc, access, params, &body)?;
-    let params = copied(alloc, params)?;
     add_function(ctx, *name, kept)?;
+    let params = copied(alloc, params)?;
     Ok(defined(*name, access, params, body, span))
 }
 

@@ -12,7 +12,7 @@ pub returns-in_err-kept : goal.returns-in_err-kept
 returns-in_err-kept c = no_memory c.args.ctx.now c.args.ctx.now (record { name = Some c.args.name.now; kind = FunctionForm c.args.access c.args.params.now c.args.e.now; span = c.args.span }) c.from_residual.result c.from_residual.ensures.1
 
 pub returns-in_err-params : goal.returns-in_err-params
-returns-in_err-params c = no_memory c.args.ctx.now c.args.ctx.now (record { name = Some c.args.name.now; kind = FunctionForm c.args.access c.args.params.now c.args.e.now; span = c.args.span }) c.from_residual-in_err-params.result c.from_residual-in_err-params.ensures.1
+returns-in_err-params c = no_memory c.args.ctx.now c.add_function.new.ctx (record { name = Some c.args.name.now; kind = FunctionForm c.args.access c.args.params.now c.args.e.now; span = c.args.span }) c.from_residual-in_err-params.result c.from_residual-in_err-params.ensures.1
 
 pub returns-in_err-add_function : goal.returns-in_err-add_function
 returns-in_err-add_function c = no_memory c.args.ctx.now c.add_function.new.ctx (record { name = Some c.args.name.now; kind = FunctionForm c.args.access c.args.params.now c.args.e.now; span = c.args.span }) c.from_residual-in_err-add_function.result c.from_residual-in_err-add_function.ensures.1

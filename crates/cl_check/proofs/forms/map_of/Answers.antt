@@ -10,10 +10,10 @@ pub returns-in_err-kept_value : goal.returns-in_err-kept_value
 returns-in_err-kept_value c = no_memory c.args.ctx.now c.args.ctx.now (record { name = Some c.args.name.now; kind = MapForm c.args.key.now c.args.value.now; span = c.args.span }) c.from_residual-in_err-kept_value.result c.from_residual-in_err-kept_value.ensures.1
 
 pub returns-in_err-key : goal.returns-in_err-key
-returns-in_err-key c = no_memory c.args.ctx.now c.args.ctx.now (record { name = Some c.args.name.now; kind = MapForm c.args.key.now c.args.value.now; span = c.args.span }) c.from_residual-in_err-key.result c.from_residual-in_err-key.ensures.1
+returns-in_err-key c = no_memory c.args.ctx.now c.add_map.new.ctx (record { name = Some c.args.name.now; kind = MapForm c.args.key.now c.args.value.now; span = c.args.span }) c.from_residual-in_err-key.result c.from_residual-in_err-key.ensures.1
 
 pub returns-in_err-value : goal.returns-in_err-value
-returns-in_err-value c = no_memory c.args.ctx.now c.args.ctx.now (record { name = Some c.args.name.now; kind = MapForm c.args.key.now c.args.value.now; span = c.args.span }) c.from_residual-in_err-value.result c.from_residual-in_err-value.ensures.1
+returns-in_err-value c = no_memory c.args.ctx.now c.add_map.new.ctx (record { name = Some c.args.name.now; kind = MapForm c.args.key.now c.args.value.now; span = c.args.span }) c.from_residual-in_err-value.result c.from_residual-in_err-value.ensures.1
 
 pub returns-in_err-add_map : goal.returns-in_err-add_map
 returns-in_err-add_map c = no_memory c.args.ctx.now c.add_map.new.ctx (record { name = Some c.args.name.now; kind = MapForm c.args.key.now c.args.value.now; span = c.args.span }) c.from_residual-in_err-add_map.result c.from_residual-in_err-add_map.ensures.1

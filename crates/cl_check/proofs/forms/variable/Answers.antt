@@ -10,7 +10,7 @@ pub returns-in_err-kept : goal.returns-in_err-kept
 returns-in_err-kept c = no_memory c.args.ctx.now c.args.ctx.now (record { name = Some c.args.name.now; kind = VariableForm c.args.ty.now c.args.e.now; span = c.args.span }) c.from_residual.result c.from_residual.ensures.1
 
 pub returns-in_err-ty : goal.returns-in_err-ty
-returns-in_err-ty c = no_memory c.args.ctx.now c.args.ctx.now (record { name = Some c.args.name.now; kind = VariableForm c.args.ty.now c.args.e.now; span = c.args.span }) c.from_residual-in_err-ty.result c.from_residual-in_err-ty.ensures.1
+returns-in_err-ty c = no_memory c.args.ctx.now c.add_variable.new.ctx (record { name = Some c.args.name.now; kind = VariableForm c.args.ty.now c.args.e.now; span = c.args.span }) c.from_residual-in_err-ty.result c.from_residual-in_err-ty.ensures.1
 
 pub returns-in_err-add_variable : goal.returns-in_err-add_variable
 returns-in_err-add_variable c = no_memory c.args.ctx.now c.add_variable.new.ctx (record { name = Some c.args.name.now; kind = VariableForm c.args.ty.now c.args.e.now; span = c.args.span }) c.from_residual-in_err-add_variable.result c.from_residual-in_err-add_variable.ensures.1
