@@ -50,6 +50,26 @@ fn write_deployment(out: &mut Vec<u8>, bound: &Cost5) -> Result<(), NoMemory>
     Ok(())
 }
 
+// The line of a function whose return type has this text.
+fn write_line(
+    out: &mut Vec<u8>,
+    name: &Name,
+    bound: &Cost5,
+    type_text: &[u8],
+) -> Result<(), NoMemory>
+    ensures { IfOk result (λ _. out.new.items
+        ≡ out.old.items ++ (codes "  bound " ++ (name.now ++ (codes " " ++ (cost_text bound.now ++ (codes " " ++ (type_text.now ++ codes "\n"))))))) }
+{
+    out.extend_from_slice(b"  bound ")?;
+    out.extend_from_slice(name.bytes())?;
+    out.extend_from_slice(b" ")?;
+    write_numbers(out, bound)?;
+    out.extend_from_slice(b" ")?;
+    out.extend_from_slice(type_text)?;
+    out.extend_from_slice(b"\n")?;
+    Ok(())
+}
+
 #[tactic(auto, unfolding(crate::specs::Costs::bound_line))]
 fn write_bound(
     out: &mut Vec<u8>,
@@ -62,14 +82,7 @@ fn write_bound(
         ≡ out.old.items ++ bound_line name.now bound.now returns.now) }
 {
     let type_text = print_type(alloc, returns)?;
-    out.extend_from_slice(b"  bound ")?;
-    out.extend_from_slice(name.bytes())?;
-    out.extend_from_slice(b" ")?;
-    write_numbers(out, bound)?;
-    out.extend_from_slice(b" ")?;
-    out.extend_from_slice(&type_text)?;
-    out.extend_from_slice(b"\n")?;
-    Ok(())
+    write_line(out, name, bound, &type_text)
 }
 
 fn write_functions(

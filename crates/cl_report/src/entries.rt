@@ -22,8 +22,8 @@ use std::alloc::Global;
 fn write_value(out: &mut Vec<u8>, alloc: Global, word: &str, value: &Val) -> Result<(), NoMemory>
     ensures { IfOk result (λ _. out.new.items ≡ out.old.items ++ (word.now ++ printed value.now)) }
 {
-    let text = print_value(alloc, value)?;
     out.extend_from_slice(word.as_bytes())?;
+    let text = print_value(alloc, value)?;
     out.extend_from_slice(&text)?;
     Ok(())
 }

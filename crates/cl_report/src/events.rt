@@ -31,8 +31,8 @@ pub(crate) fn write_name(out: &mut Vec<u8>, name: &Name) -> Result<(), NoMemory>
 pub(crate) fn write_value(out: &mut Vec<u8>, alloc: Global, value: &Val) -> Result<(), NoMemory>
     ensures { IfOk result (λ _. out.new.items ≡ out.old.items ++ value_text value.now) }
 {
-    let text = print_value(alloc, value)?;
     out.extend_from_slice(b" ")?;
+    let text = print_value(alloc, value)?;
     out.extend_from_slice(&text)?;
     Ok(())
 }

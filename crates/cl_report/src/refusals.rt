@@ -53,9 +53,10 @@ pub(crate) fn write_refusal(
     ensures { IfOk result (λ _. out.new.items ≡ out.old.items ++ refusal_text refusal.now) }
 {
     let refusal = refusal.refusal();
-    let span = span_text(alloc, refusal.span)?;
     out.extend_from_slice(refusal.rule.text().as_bytes())?;
+    let span = span_text(alloc, refusal.span)?;
     out.extend_from_slice(span.as_bytes())?;
+    drop(span);
     write_names(out, &refusal.names)?;
     write_dimension(out, refusal.rule)?;
     Ok(())
