@@ -1,8 +1,8 @@
 //! The listeners of a case: three recorders.
 use crate::fault::BadCase;
 use crate::member::{bytes, numbers};
+use cl_lines::event_line;
 use cl_listeners::{Listener, Listeners, Numbered, Recorder};
-use cl_report::event_line;
 use serde_json::Value;
 use std::alloc::Global;
 

@@ -25,7 +25,7 @@ use Rattle.cl_tx.specs.declared.outcome.Bounds.{Bounds}
 use Rattle.cl_tx.specs.Nodes.{Told}
 use Rattle.cl_tx.specs.Seen.{SourceBreak}
 use Rattle.cl_tx.specs.Step.{told_of, return_of}
-use Rattle.cl_report.specs.Checks.{accepted_lines, refused_line}
+use Rattle.cl_lines.specs.Checks.{accepted_lines, refused_line}
 use Rattle.cl_words.specs.declared.sources.Source.{Source}
 use Rattle.cl_app.specs.Checked.{IsReport, accepted_answer, all_checked, refused_answer}
 use Rattle.cl_app.specs.Checking.{Contracts, IsAccepted, IsBounded, IsChecked, IsKept, IsRefused, AcceptedSoFar, AreApart, AreNew, AreOthers}

@@ -26,7 +26,7 @@ use Rattle.cl_tx.specs.Laws.{OneRun}
 use Rattle.cl_tx.specs.Nodes.{NodeSeen}
 use Rattle.cl_tx.specs.Step.{told_of}
 use Rattle.cl_report.specs.Lines.{report_from}
-use Rattle.cl_report.specs.StateLines.{IsStateText}
+use Rattle.cl_lines.specs.StateLines.{IsStateText}
 use Rattle.cl_app.specs.declared.pieces.Reply.{Reply}
 use Rattle.cl_words.specs.declared.sources.Source.{Source}
 use Rattle.cl_words.specs.Words.{Command, Call, Run, Check, Value, Wire, Gen}

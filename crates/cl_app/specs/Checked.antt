@@ -11,7 +11,7 @@ use Rattle.cl_rules.specs.Acceptance.{Accepted, FirstBreakOf, known_of}
 use Rattle.cl_tx.specs.Nodes.{Told}
 use Rattle.cl_tx.specs.Seen.{SourceBreak}
 use Rattle.cl_tx.specs.Step.{told_of}
-use Rattle.cl_report.specs.Checks.{accepted_lines, refused_line}
+use Rattle.cl_lines.specs.Checks.{accepted_lines, refused_line}
 use Rattle.cl_words.specs.declared.sources.Source.{Source}
 use Rattle.cl_app.specs.Spelling.{Answer}
 use Rattle.cl_words.specs.Sources.{contract_at}

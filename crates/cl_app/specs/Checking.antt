@@ -11,7 +11,7 @@ use Rattle.cl_contracts.specs.Standings.{AreStanding, StandsAfter}
 use Rattle.cl_tx.specs.declared.outcome.Bounds.{Bounds}
 use Rattle.cl_tx.specs.Seen.{SourceBreak}
 use Rattle.cl_tx.specs.Step.{told_of}
-use Rattle.cl_report.specs.Checks.{accepted_lines, refused_line}
+use Rattle.cl_lines.specs.Checks.{accepted_lines, refused_line}
 use Rattle.cl_words.specs.declared.sources.Source.{Source}
 use Rattle.cl_app.specs.declared.judge.Judged.{Judged}
 use Rattle.cl_app.specs.declared.judge.Judged.TheVariants as judged

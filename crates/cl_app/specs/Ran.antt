@@ -14,7 +14,7 @@ use Rattle.cl_tx.specs.Nodes.{NodeSeen}
 use Rattle.cl_tx.specs.Step.{Runs}
 use Rattle.cl_node_sound.specs.Told.{none_told, AreChargedWithin, AreNotStopped}
 use Rattle.cl_report.specs.Lines.{report_from}
-use Rattle.cl_report.specs.StateLines.{IsStateText}
+use Rattle.cl_lines.specs.StateLines.{IsStateText}
 use Rattle.cl_app.specs.FileAnswers.{bad_costs_answer, bad_transactions_answer, is_long, IsFileAnswer}
 use Rattle.cl_app.specs.Spelling.{Answer}
 

@@ -10,7 +10,7 @@ use Rattle.cl_values.specs.declared.fault.DecodeRefusal.TheVariants.{Ended, BadP
 use Rattle.cl_text.specs.Printed.{printed}
 use Rattle.cl_text.specs.Parsed.{Reading, Stands, Broken, NotALiteral, TooDeep, TooLarge}
 use Rattle.cl_sexpr.specs.Rules.{rule_text}
-use Rattle.cl_report.specs.Refusals.{span_text}
+use Rattle.cl_lines.specs.Refusals.{span_text}
 
 -- the bytes that are written, and the status
 pub record Answer : Type 0 where

@@ -12,9 +12,10 @@ ghost use Rattle.cl_report.specs.Lines.{lines_of};
 
 use crate::pieces::Stop;
 use cl_engine::{Node, nodes_are_known_in_one_way};
+use cl_lines::AddressCache;
 use cl_listeners::{Listener, Listeners, dispatch, events_told_in_turn};
 use cl_ports::Sink;
-use cl_report::{AddressCache, lines, lines_with};
+use cl_report::{lines, lines_with};
 use cl_tx::{Entry, Outcome, TxFile, TxResult, heights_are_those_of_the_file};
 use cl_types::NoMemory;
 use std::alloc::Global;

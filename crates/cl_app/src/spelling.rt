@@ -1,7 +1,7 @@
 //! The replies to `value` and `wire`.
 ghost use Rattle.std.specs.Prelude.{◌≡◌, ◌≢◌, ◌++◌, IfOk, string_bytes};
 ghost use Rattle.cl_values.specs.Reading.{decoded};
-ghost use Rattle.cl_report.specs.Refusals.{span_text};
+ghost use Rattle.cl_lines.specs.Refusals.{span_text};
 ghost use Rattle.cl_app.specs.Reply.{answer_of};
 ghost use Rattle.cl_app.specs.Spelling.{refused_answer, line_answer, digits_in, fault_text, bytes_answer, value_answer, outcome_text, no_value_answer, wire_answer};
 ghost use Rattle.cl_app.specs.Answer.{IsWireAnswer};
@@ -97,7 +97,7 @@ pub(crate) fn value_reply(alloc: Global, word: &[u8]) -> Result<Reply, NoMemory>
 }
 
 /// A name with the places of the bytes that it speaks of.
-#[tactic(auto, unfolding(cl_report::specs::Refusals::span_text))]
+#[tactic(auto, unfolding(cl_lines::specs::Refusals::span_text))]
 fn span_text(alloc: Global, name: &str, span: Span) -> Result<String, AllocError>
     ensures { IfOk result (λ text. string_bytes text ≡ name.now ++ span_text span) }
 {

@@ -12,9 +12,9 @@ ghost use Rattle.cl_app.specs.Top.{Answers, AnswersAlone, AnswersPart, AsksPart}
 use crate::pieces::Stop;
 use crate::reply::reply_to;
 use cl_file::files_have_one_reading;
+use cl_lines::a_state_has_one_text;
 use cl_listeners::{Listener, Listeners, events_told_in_turn};
 use cl_ports::{Failed, Files, Sink};
-use cl_report::a_state_has_one_text;
 use cl_rules::{texts_have_one_answer, texts_have_one_order};
 use cl_text::one_outcome;
 use cl_tx::steps_have_one_result;

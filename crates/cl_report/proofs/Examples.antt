@@ -28,9 +28,9 @@ use Rattle.cl_tx.specs.declared.outcome.Outcome.TheVariants.{Moved, Done, Good, 
 use Rattle.cl_tx.specs.declared.outcome.Stop.TheVariants.{Overflow, Underflow, DivideByZero, NegativeArgument, Panic, SupplyOverflow, EarlyTop, CostLimit, PostCondition}
 use Rattle.cl_tx.specs.declared.outcome.EntryRefusal.TheVariants.{NoContract, NoFunction, NotPublic, ArgumentCount, Argument, NameTaken, ContractRefused}
 use Rattle.cl_tx.specs.declared.outcome.TxResult.{TxResult}
-use Rattle.cl_report.specs.Costs.{cost_text, bound_line}
-use Rattle.cl_report.specs.Refusals.{span_text, refusal_text, stop_text, entry_refusal_text}
-use Rattle.cl_report.specs.Events.{amount_text, word_of, details, event_line}
+use Rattle.cl_lines.specs.Costs.{cost_text, bound_line}
+use Rattle.cl_lines.specs.Refusals.{span_text, refusal_text, stop_text, entry_refusal_text}
+use Rattle.cl_lines.specs.Events.{amount_text, word_of, details, event_line}
 use Rattle.cl_report.specs.Lines.{outcome_text, entry_text, entry_line, lines_of}
 
 outcomes : map outcome_text (

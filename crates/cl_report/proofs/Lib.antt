@@ -1,5 +1,1 @@
 pub mod Examples
-pub mod Functions
-pub mod InTurn
-pub mod LineOrder
-pub mod StateText

@@ -1,8 +1,1 @@
-pub mod Costs
-pub mod Refusals
-pub mod Events
 pub mod Lines
-pub mod StateLines
-pub mod LineSets
-pub mod RowLines
-pub mod Checks

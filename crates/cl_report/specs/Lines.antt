@@ -10,9 +10,9 @@ use Rattle.cl_tx.specs.declared.outcome.Outcome.TheVariants.{Moved, Done, Good, 
 use Rattle.cl_tx.specs.declared.outcome.TxResult.{TxResult}
 use Rattle.cl_tx.specs.Nodes.{contract_of}
 use Rattle.cl_tx.specs.Step.{if_committed}
-use Rattle.cl_report.specs.Costs.{cost_line, bounds_lines}
-use Rattle.cl_report.specs.Refusals.{stop_text, entry_refusal_text}
-use Rattle.cl_report.specs.Events.{event_line}
+use Rattle.cl_lines.specs.Costs.{cost_line, bounds_lines}
+use Rattle.cl_lines.specs.Refusals.{stop_text, entry_refusal_text}
+use Rattle.cl_lines.specs.Events.{event_line}
 
 -- what became of an entry; of a block there is nothing to say
 unfoldable pub outcome_text : Outcome → List ℕ

@@ -2,15 +2,14 @@
 ghost use Rattle.std.specs.Prelude.{◌≡◌, ◌++◌, IfOk, codes, decimal};
 ghost use Rattle.std.specs.List.{flat_map};
 ghost use Rattle.cl_text.specs.Printed.{printed};
-ghost use Rattle.cl_report.specs.Events.{event_line};
+ghost use Rattle.cl_lines.specs.Events.{event_line};
 ghost use Rattle.cl_report.specs.Lines.{outcome_text, entry_text, entry_line, event_lines, lines_of};
 
-use crate::addresses::AddressCache;
-use crate::costs::{write_bounds, write_cost};
-use crate::events::write_event;
-use crate::refusals::{stop_text, write_entry_refusal};
 use cl_c32::Principal;
 use cl_events::Event;
+use cl_lines::{
+    AddressCache, stop_text, write_bounds, write_cost, write_entry_refusal, write_event,
+};
 use cl_text::print_value;
 use cl_tx::{Entry, Outcome, TxResult};
 use cl_types::NoMemory;

@@ -6,7 +6,7 @@ ghost use Rattle.cl_state.specs.Deeds.{is_there};
 use crate::layers::layers_stay_small;
 use cl_c32::{Address, ContractName, Principal};
 use cl_events::EventKind;
-use cl_report::state_lines;
+use cl_lines::state_lines;
 use cl_state::{TokenAct, World, acts_have_answers};
 use cl_tokens::TokenRefusal;
 use cl_types::Fault;

@@ -2,9 +2,9 @@
 ghost use Rattle.std.specs.Prelude.{None};
 
 use cl_events::Event;
+use cl_lines::{AddressCache, event_line_with};
 use cl_listeners::{Deaf, Listener};
 use cl_ports::Sink;
-use cl_report::{AddressCache, event_line_with};
 use std::alloc::Global;
 
 /// Writes the line of each event to a sink. It counts each line that isn't written, also for want

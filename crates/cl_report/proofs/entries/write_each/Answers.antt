@@ -1,5 +1,5 @@
-use Rattle.cl_report.specs.Events.{event_line}
-use Rattle.cl_report.proofs.InTurn.{one_written, each_written}
+use Rattle.cl_lines.specs.Events.{event_line}
+use Rattle.cl_lines.proofs.InTurn.{one_written, each_written}
 use Rattle.cl_report.proofs.entries.write_each.Goals as goal
 
 pub loop-event-preserved : goal.loop-event-preserved

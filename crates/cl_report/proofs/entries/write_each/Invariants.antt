@@ -1,6 +1,6 @@
 use Rattle.std.proofs.Common.{◌≡◌, ◌++◌, drop}
 use Rattle.std.specs.List.{flat_map}
-use Rattle.cl_report.specs.Events.{event_line}
+use Rattle.cl_lines.specs.Events.{event_line}
 use Rattle.cl_report.proofs.entries.write_each.Given as goal
 
 abbrev pub invariant-loop-event : goal.invariant-loop-event

@@ -1,0 +1,4 @@
+pub mod Functions
+pub mod InTurn
+pub mod LineOrder
+pub mod StateText

@@ -1,0 +1,7 @@
+pub mod Costs
+pub mod Refusals
+pub mod Events
+pub mod StateLines
+pub mod LineSets
+pub mod RowLines
+pub mod Checks
