@@ -15,7 +15,7 @@ use Rattle.cl_file.specs.declared.entry.Common.{Common}
 use Rattle.cl_tx.specs.declared.outcome.EntryRefusal.TheVariants.{NoContract, NoFunction}
 use Rattle.cl_tx.specs.Nodes.{NodeSeen, Stepped, frame_of, purse_of, refused, call_ended}
 use Rattle.cl_tx.specs.Step.{first_misfit, run_call, if_fitting, if_as_many, if_open, if_function, if_deployed, call_step}
-use Rattle.cl_engine.specs.Calling.{Comes, MayBeCalled}
+use Rattle.cl_endings.specs.Calling.{Comes, MayBeCalled}
 
 -- ---- applications
 

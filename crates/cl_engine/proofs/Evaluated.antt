@@ -21,7 +21,7 @@ use Rattle.cl_tx.specs.declared.outcome.Outcome.TheVariants as outcomes
 use Rattle.cl_post.specs.Post.{holds}
 use Rattle.cl_file.specs.declared.entry.Common.{Common}
 use Rattle.cl_tx.specs.Nodes.{NodeSeen, Told, deployment_ended, settled_by, with_contract, aborted}
-use Rattle.cl_engine.specs.Calling.{stop_by, cost_by}
+use Rattle.cl_endings.specs.Calling.{stop_by, cost_by}
 use Rattle.cl_engine.specs.Deploying.{Constants, EndsAs, Runs}
 use Rattle.cl_engine.specs.declared.deployment.Ran.{Ran}
 use Rattle.cl_engine.specs.declared.deployment.Ran.TheVariants.{Done, Stopped}

@@ -1,5 +1,4 @@
 pub mod CallSteps
-pub mod Ends
 pub mod Evaluated
 pub mod Knowing
 pub mod Deployments

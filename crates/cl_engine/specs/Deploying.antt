@@ -37,7 +37,7 @@ use Rattle.cl_tx.specs.Step.{Steps, told_of}
 use Rattle.cl_engine.specs.Seen.{Seen, costs_of, node_with}
 use Rattle.cl_engine.specs.Known.{AreKnown}
 use Rattle.cl_engine.specs.Sound.{Contracts, contracts_seen, IsSoundWith}
-use Rattle.cl_engine.specs.Calling.{cost_by, stop_by}
+use Rattle.cl_endings.specs.Calling.{cost_by, stop_by}
 use Rattle.cl_engine.specs.declared.told.Told.{Told as ToldOfCode}
 use Rattle.cl_engine.specs.declared.deployment.Ran.{Ran}
 use Rattle.cl_engine.specs.declared.deployment.Ran.TheVariants.{Done, Stopped}

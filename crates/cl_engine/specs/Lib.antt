@@ -5,5 +5,4 @@ pub mod Steps
 pub mod Laws
 pub mod Sound
 pub mod Within
-pub mod Calling
 pub mod Deploying

@@ -15,13 +15,13 @@ ghost use Rattle.cl_engine.specs.Deploying.{IsBounded, IsChecked, IsNew, MakesSo
 
 use crate::deployment::{Ran, run};
 use crate::frame::{frame_of, principal_of};
-use crate::result::refused;
 use crate::told::{Told, told_of};
 use cl_bound::{KnownBounds, Priced, bound};
 use cl_c32::ContractName;
 use cl_check::check;
 use cl_contracts::{Checked, Contract, Deployed, what_callers_know};
 use cl_costs::CostTable;
+use cl_endings::refused;
 use cl_events::Event;
 use cl_node_sound::{constants_have_their_types, new_contracts_have_no_tokens};
 use cl_sexpr::Refusal;

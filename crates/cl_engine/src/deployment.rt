@@ -11,10 +11,9 @@ ghost use Rattle.cl_post.specs.Post.{holds};
 ghost use Rattle.cl_tx.specs.Nodes.{purse_of};
 ghost use Rattle.cl_engine.specs.Deploying.{EndsAs, Runs};
 
-use crate::layer::{failing, keep};
-use crate::result::{cost_of, meter_of, stop_of};
 use cl_contracts::{Checked, Deployed};
 use cl_costs::CostTable;
+use cl_endings::{cost_of, failing, keep, meter_of, stop_of};
 use cl_events::Event;
 use cl_frames::{Abort, Frame};
 use cl_runs::run_top;

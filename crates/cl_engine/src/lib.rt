@@ -4,14 +4,11 @@
 mod call;
 mod deploy;
 mod deployment;
-mod ending;
 mod frame;
 mod laws;
-mod layer;
 mod lookup;
 mod node;
 mod parts;
-mod result;
 mod told;
 
 pub use laws::nodes_are_known_in_one_way;

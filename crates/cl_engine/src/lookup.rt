@@ -8,7 +8,7 @@ ghost use Rattle.cl_contracts.specs.Seen.{IsIndexed, forms_of, function_seen};
 ghost use Rattle.cl_file.specs.declared.entry.Common.{Common};
 ghost use Rattle.cl_tx.specs.Nodes.{NodeSeen, refused};
 ghost use Rattle.cl_tx.specs.Step.{first_misfit, if_open};
-ghost use Rattle.cl_engine.specs.Calling.{MayBeCalled};
+ghost use Rattle.cl_endings.specs.Calling.{MayBeCalled};
 
 use cl_code::Function;
 use cl_contracts::Contract;

@@ -10,7 +10,7 @@ use Rattle.cl_frames.specs.Homes.{frame_seen}
 use Rattle.cl_frames.specs.Sound.{IsFittingCall, IsKeptWorld}
 use Rattle.cl_state.specs.Stack.{Stack}
 use Rattle.cl_tx.specs.Nodes.{purse_of}
-use Rattle.cl_engine.proofs.Ends.{may_answer, run_answers, ok_also}
+use Rattle.cl_endings.proofs.Ends.{may_answer, run_answers, ok_also}
 use Rattle.cl_engine.proofs.call.apply.Goals as goal
 
 pub run-answer-requires-clause-few : goal.run-answer-requires-clause-few

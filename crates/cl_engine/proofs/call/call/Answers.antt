@@ -7,7 +7,7 @@ use Rattle.cl_tx.specs.declared.outcome.TxResult.{TxResult}
 use Rattle.cl_tx.specs.Nodes.{NodeSeen}
 use Rattle.cl_node_sound.proofs.Calling.{fitting_are}
 use Rattle.cl_engine.specs.Seen.{node_with, seen}
-use Rattle.cl_engine.proofs.Ends.{ok_also}
+use Rattle.cl_endings.proofs.Ends.{ok_also}
 use Rattle.cl_engine.proofs.CallSteps.{no_contract, no_function, in_function, ended_so, comes_so}
 use Rattle.cl_engine.proofs.call.call.Goals as goal
 

@@ -9,7 +9,7 @@ use Rattle.cl_frames.specs.Sound.{IsAcceptedAfter}
 use Rattle.cl_state.specs.Stack.{Stack}
 use Rattle.cl_post.specs.Post.{holds}
 use Rattle.cl_tx.specs.Nodes.{purse_of}
-use Rattle.cl_engine.proofs.Ends.{ok_also}
+use Rattle.cl_endings.proofs.Ends.{ok_also}
 use Rattle.cl_engine.proofs.Evaluated.{runs, shown}
 use Rattle.cl_engine.proofs.deployment.run.Goals as goal
 

@@ -1,7 +1,7 @@
 //! Results of entries.
 ghost use Rattle.std.specs.Prelude.{◌≡◌, [], Option, None};
 ghost use Rattle.cl_tx.specs.Nodes.{nothing_told, purse_of, result_of};
-ghost use Rattle.cl_engine.specs.Calling.{stop_by, cost_by};
+ghost use Rattle.cl_endings.specs.Calling.{stop_by, cost_by};
 
 use cl_events::Event;
 use cl_frames::Abort;
@@ -10,7 +10,7 @@ use cl_tx::{Common, EntryRefusal, Outcome, Row, Stop, TxResult};
 use std::alloc::Global;
 
 /// Nothing is spent of the limit of an entry.
-pub(crate) fn meter_of(common: &Common) -> Meter
+pub fn meter_of(common: &Common) -> Meter
     ensures { result ≡ purse_of common.now }
 {
     Meter::new(common.limit)
@@ -35,21 +35,21 @@ pub(crate) fn result_with(
 }
 
 /// The result of an entry that isn't run.
-pub(crate) fn refused(alloc: Global, refusal: EntryRefusal) -> TxResult
+pub fn refused(alloc: Global, refusal: EntryRefusal) -> TxResult
     ensures { result ≡ result_of nothing_told (Outcome.Refused refusal) None [] }
 {
     result_with(alloc, Outcome::Refused(refusal), None, Vec::new(alloc))
 }
 
 /// The result of a block.
-pub(crate) fn moved(alloc: Global) -> TxResult
+pub fn moved(alloc: Global) -> TxResult
     ensures { result ≡ result_of nothing_told Outcome.Moved None [] }
 {
     result_with(alloc, Outcome::Moved, None, Vec::new(alloc))
 }
 
 /// The abort that the result of an entry has.
-pub(crate) fn stop_of(abort: Abort) -> Stop
+pub fn stop_of(abort: Abort) -> Stop
     ensures { result ≡ stop_by abort }
 {
     match abort {
@@ -65,7 +65,7 @@ pub(crate) fn stop_of(abort: Abort) -> Stop
 }
 
 /// What an abort costs where so much is spent.
-pub(crate) fn cost_of(abort: Abort, spent: Cost5) -> Cost5
+pub fn cost_of(abort: Abort, spent: Cost5) -> Cost5
     ensures { result ≡ cost_by abort spent }
 {
     match abort {

@@ -1,5 +1,5 @@
-use Rattle.cl_engine.proofs.Ends.{abort_steps}
-use Rattle.cl_engine.proofs.ending.finish.Goals as goal
+use Rattle.cl_endings.proofs.Ends.{abort_steps}
+use Rattle.cl_endings.proofs.ending.finish.Goals as goal
 
 pub returns-in-Refused-clause-ended : goal.returns-in-Refused-clause-ended
 returns-in-Refused-clause-ended c = λ l q node answers cost before.

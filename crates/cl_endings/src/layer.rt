@@ -21,7 +21,7 @@ fn copied(alloc: Global, events: &[Event]) -> Result<Vec<Event>, NoMemory>
 }
 
 /// The place of the first post-condition of an entry that fails, by what moved on its layer.
-pub(crate) fn failing(world: &World, common: &Common) -> Option<u32>
+pub fn failing(world: &World, common: &Common) -> Option<u32>
     ensures { result ≡ holds world.now.stack.top.moves common.now.mode common.now.conditions }
 {
     holds(world.moves(), common.mode, common.conditions.as_slice())
@@ -42,7 +42,7 @@ fn committed(alloc: Global, world: &mut World) -> Result<Vec<Event>, NoMemory>
 
 /// Makes the one layer the base, and gives its events; where there is no memory for that, takes it
 /// off.
-pub(crate) fn keep(alloc: Global, world: &mut World) -> Result<Vec<Event>, NoMemory>
+pub fn keep(alloc: Global, world: &mut World) -> Result<Vec<Event>, NoMemory>
     requires { length world.old.stack.below ≡ 1 }
     ensures events { IfOk result (λ events. events.items ≡ world.old.stack.top.events) }
     ensures rests { OnOk result (world.new.stack.top ≡ at_rest world.old.stack.top) }

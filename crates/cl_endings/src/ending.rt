@@ -6,7 +6,7 @@ ghost use Rattle.cl_events.specs.State.{at_rest};
 ghost use Rattle.cl_meaning.specs.Limits.{Limited};
 ghost use Rattle.cl_frames.specs.Aborts.{Answers};
 ghost use Rattle.cl_tx.specs.Nodes.{NodeSeen, nothing_told, result_of, settled, answered, call_ended};
-ghost use Rattle.cl_engine.specs.Calling.{MayAnswer, IsResponse, stop_by, cost_by};
+ghost use Rattle.cl_endings.specs.Calling.{MayAnswer, IsResponse, stop_by, cost_by};
 
 use crate::layer;
 use crate::result::{cost_of, result_with, stop_of};
@@ -139,7 +139,7 @@ fn abort_with(alloc: Global, world: &mut World, abort: Abort, spent: Cost5) -> T
 
 /// Ends a call of a function of this access, which answers this on a layer of its own and has spent
 /// so much.
-pub(crate) fn finish(
+pub fn finish(
     alloc: Global,
     world: &mut World,
     common: &Common,

@@ -21,7 +21,7 @@ use Rattle.cl_tx.specs.declared.outcome.Outcome.TheVariants.{Aborted}
 use Rattle.cl_tx.specs.declared.outcome.TxResult.{TxResult}
 use Rattle.cl_file.specs.declared.entry.Common.{Common}
 use Rattle.cl_tx.specs.Nodes.{NodeSeen, Stepped, nothing_told, result_of, aborted, answered, call_ended}
-use Rattle.cl_engine.specs.Calling.{AbortsCall, Comes, IsResponse, MayAnswer, stop_by, cost_by}
+use Rattle.cl_endings.specs.Calling.{AbortsCall, Comes, IsResponse, MayAnswer, stop_by, cost_by}
 
 -- ---- what comes to something
 
