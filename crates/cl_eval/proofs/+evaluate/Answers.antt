@@ -1,5 +1,5 @@
 -- The cycle of evaluation: each step is one law of the limit.
-use Rattle.std.proofs.Common.{◌≡◌, ◌≢◌, ◌<◌, ◌≤◌, ◌-◌, ◌+◌, ◌∷◌, ◌++◌, [], List, true, false, length, refl, sym, ap, ◌∙◌, arith}
+use Rattle.std.proofs.Common.{◌≡◌, ◌≢◌, ℕ, zero, suc, ◌<◌, ◌≤◌, ◌-◌, ◌+◌, ◌∷◌, ◌++◌, [], List, true, false, length, refl, sym, ap, ◌∙◌, arith}
 use Rattle.std.proofs.lemmas.Int.{ints, to_z-of_z}
 use Rattle.std.proofs.lemmas.Result.{err_from_is_err_and}
 use mir.Syntax.{w128}
@@ -50,15 +50,25 @@ use Rattle.cl_frames.proofs.Rows
 use Rattle.cl_eval.proofs.+evaluate.Goals as goal
 use Rattle.cl_forms.specs.declared.head.TokenNative.TheVariants as natives
 
+positive : (n : ℕ) → n ≢ 0 → 0 < n
+positive zero h = absurd (h refl)
+positive (suc n) h = omega arith
+
+no_less : (n : ℕ) → n ≤ n
+no_less n = omega arith
+
+still_less : (k m n : ℕ) → k ≤ m → m ≤ n → k ≤ n
+still_less k m n h i = omega (arith, h, i)
+
 pub walk::evaluate-returns-then-depth-eq0-clause-meant : goal.walk::evaluate-returns-then-depth-eq0-clause-meant
 walk::evaluate-returns-then-depth-eq0-clause-meant g t c fits = means_none _ _ _ _ _ _ _ c.if-depth-eq0.true
 
 pub walk::evaluate-returns-in_err-value-clause-meant : goal.walk::evaluate-returns-in_err-value-clause-meant
-walk::evaluate-returns-in_err-value-clause-meant g t c fits = hands_on _ _ c.in_err-value.field-0.0 _ _ _ (err_from_is_err_and c.from_residual.result c.from_residual.ensures.1) (stops_eq _ _ _ _ _ _ (means_down _ _ _ _ _ _ _ (omega arith)) (node_stops _ _ _ _ _ _ _ _ _ (c.in_err-value.ensures.meant fits)))
+walk::evaluate-returns-in_err-value-clause-meant g t c fits = hands_on _ _ c.in_err-value.field-0.0 _ _ _ (err_from_is_err_and c.from_residual.result c.from_residual.ensures.1) (stops_eq _ _ _ _ _ _ (means_down _ _ _ _ _ _ _ (positive _ c.if-depth-eq0.false)) (node_stops _ _ _ _ _ _ _ _ _ (c.in_err-value.ensures.meant fits)))
 
 pub walk::evaluate-returns-clause-meant : goal.walk::evaluate-returns-clause-meant
 walk::evaluate-returns-clause-meant g t c fits =
-    means_down _ _ _ _ _ _ _ (omega arith) ∙ watched-ending _ _ _ _ _ ∙ node_gives _ _ _ _ _ _ _ _ _ (c.in_ok-value.ensures.meant fits) (Nodes.place_of _ _ _ _ _ c.code.view_is) refl c.in_ok-saw.ensures
+    means_down _ _ _ _ _ _ _ (positive _ c.if-depth-eq0.false) ∙ watched-ending _ _ _ _ _ ∙ node_gives _ _ _ _ _ _ _ _ _ (c.in_ok-value.ensures.meant fits) (Nodes.place_of _ _ _ _ _ c.code.view_is) refl c.in_ok-saw.ensures
 
 pub walk::evaluate_node-returns-in-Int-clause-meant : goal.walk::evaluate_node-returns-in-Int-clause-meant
 walk::evaluate_node-returns-in-Int-clause-meant g t c fits =
@@ -173,25 +183,25 @@ on_names::evaluate_on_name-returns-in_ok-values-in-All-clause-meant g t c fits =
 
 pub walk::evaluate_parts-returns-in_err-value-clause-meant : goal.walk::evaluate_parts-returns-in_err-value-clause-meant
 walk::evaluate_parts-returns-in_err-value-clause-meant g t c fits =
-    let here : c.loop-code.code-index < length c.args.codes.now = omega arith in
+    let here : c.loop-code.code-index < length c.args.codes.now = c.loop-code-test.true in
     hands_on_all _ _ c.in_err-value.field-0.0 _ _ _ (err_from_is_err_and c.from_residual-in_err-value.result c.from_residual-in_err-value.ensures.1)
     (stops_eq _ _ _ _ _ _ (c.loop-code.invariant.so_far fits) (parts_turn_stop _ _ _ _ _ _ _ _ _ _ _ _ _ _ here c.code-item.is (c.in_err-value.ensures.meant fits)))
 
 pub walk::evaluate_parts-loop-code-preserved : goal.walk::evaluate_parts-loop-code-preserved
 walk::evaluate_parts-loop-code-preserved g t c = record {
   so_far = λ fits.
-      let here : c.loop-code.code-index < length c.args.codes.now = omega arith in
+      let here : c.loop-code.code-index < length c.args.codes.now = c.loop-code-test.true in
       c.loop-code.invariant.so_far fits
       ∙ parts_turn _ _ _ _ _ _ _ _ _ _ _ _ _ _ _ here c.code-item.is c.push_reserved.ensures.items (c.in_ok-value.ensures.meant fits);
   below = c.in_ok-value.ensures.below ∙ c.loop-code.invariant.below;
-  grew = omega (arith, c.in_ok-value.ensures.grew, c.loop-code.invariant.grew);
+  grew = still_less _ _ _ c.loop-code.invariant.grew c.in_ok-value.ensures.grew;
   room = omega (arith, c.loop-code.invariant.room, c.push_reserved.ensures.capacity);
   count = omega (arith, c.loop-code.invariant.count, c.push_reserved.ensures.len);
 }
 
 pub walk::evaluate_parts-returns-clause-meant : goal.walk::evaluate_parts-returns-clause-meant
 walk::evaluate_parts-returns-clause-meant g t c fits =
-    let past : length c.args.codes.now ≤ c.loop-code.code-index = omega arith in
+    let past : length c.args.codes.now ≤ c.loop-code.code-index = c.loop-code-test.false in
     c.loop-code.invariant.so_far fits ∙ parts_end _ _ _ _ _ _ _ _ _ past
 
 pub walk::evaluate_native-returns-in_err-values-clause-meant : goal.walk::evaluate_native-returns-in_err-values-clause-meant
@@ -320,29 +330,29 @@ control::evaluate_and-returns-clause-meant g t c fits =
 
 pub control::and_parts-returns-in_err-holds-clause-meant : goal.control::and_parts-returns-in_err-holds-clause-meant
 control::and_parts-returns-in_err-holds-clause-meant g t c fits =
-    let here : c.loop-code.code-index < length c.args.codes.now = omega arith in
+    let here : c.loop-code.code-index < length c.args.codes.now = c.loop-code-test.true in
     hands_on _ _ c.in_err-holds.field-0.0 _ _ _ (err_from_is_err_and c.from_residual.result c.from_residual.ensures.1)
     (stops_eq _ _ _ _ _ _ (c.loop-code.invariant.so_far fits ∙ Loops.and_next _ _ _ _ _ _ _ _ _ here c.code-item.is) (choice_stops _ _ _ _ _ _ _ _ _ _ (c.in_err-holds.ensures.meant fits)))
 
 pub control::and_parts-returns-then-not-holds-clause-meant : goal.control::and_parts-returns-then-not-holds-clause-meant
 control::and_parts-returns-then-not-holds-clause-meant g t c fits =
-    let here : c.loop-code.code-index < length c.args.codes.now = omega arith in
+    let here : c.loop-code.code-index < length c.args.codes.now = c.loop-code-test.true in
     c.loop-code.invariant.so_far fits ∙ Loops.and_next _ _ _ _ _ _ _ _ _ here c.code-item.is
     ∙ chose_second _ _ _ _ _ _ _ _ _ _ (c.in_ok-holds.ensures.meant fits) c.if-not-holds.true ∙ gives _ _ _ _ _ _ _ c.bool_value.ensures refl
 
 pub control::and_parts-loop-code-preserved : goal.control::and_parts-loop-code-preserved
 control::and_parts-loop-code-preserved g t c = record {
   so_far = λ fits.
-      let here : c.loop-code.code-index < length c.args.codes.now = omega arith in
+      let here : c.loop-code.code-index < length c.args.codes.now = c.loop-code-test.true in
       c.loop-code.invariant.so_far fits ∙ Loops.and_next _ _ _ _ _ _ _ _ _ here c.code-item.is
       ∙ chose_first _ _ _ _ _ _ _ _ _ _ (c.in_ok-holds.ensures.meant fits) c.if-not-holds.false;
   below = c.in_ok-holds.ensures.below ∙ c.loop-code.invariant.below;
-  grew = omega (arith, c.in_ok-holds.ensures.grew, c.loop-code.invariant.grew);
+  grew = still_less _ _ _ c.loop-code.invariant.grew c.in_ok-holds.ensures.grew;
 }
 
 pub control::and_parts-returns-clause-meant : goal.control::and_parts-returns-clause-meant
 control::and_parts-returns-clause-meant g t c fits =
-    let past : length c.args.codes.now ≤ c.loop-code.code-index = omega arith in
+    let past : length c.args.codes.now ≤ c.loop-code.code-index = c.loop-code-test.false in
     c.loop-code.invariant.so_far fits ∙ Loops.and_end _ _ _ _ _ _ _ _ past ∙ gives _ _ _ _ _ _ _ c.bool_value-2.ensures refl
 
 pub control::evaluate_or-returns-in_err-pay-clause-meant : goal.control::evaluate_or-returns-in_err-pay-clause-meant
@@ -357,29 +367,29 @@ control::evaluate_or-returns-clause-meant g t c fits =
 
 pub control::or_parts-returns-in_err-holds-clause-meant : goal.control::or_parts-returns-in_err-holds-clause-meant
 control::or_parts-returns-in_err-holds-clause-meant g t c fits =
-    let here : c.loop-code.code-index < length c.args.codes.now = omega arith in
+    let here : c.loop-code.code-index < length c.args.codes.now = c.loop-code-test.true in
     hands_on _ _ c.in_err-holds.field-0.0 _ _ _ (err_from_is_err_and c.from_residual.result c.from_residual.ensures.1)
     (stops_eq _ _ _ _ _ _ (c.loop-code.invariant.so_far fits ∙ Loops.or_next _ _ _ _ _ _ _ _ _ here c.code-item.is) (choice_stops _ _ _ _ _ _ _ _ _ _ (c.in_err-holds.ensures.meant fits)))
 
 pub control::or_parts-returns-then-holds-clause-meant : goal.control::or_parts-returns-then-holds-clause-meant
 control::or_parts-returns-then-holds-clause-meant g t c fits =
-    let here : c.loop-code.code-index < length c.args.codes.now = omega arith in
+    let here : c.loop-code.code-index < length c.args.codes.now = c.loop-code-test.true in
     c.loop-code.invariant.so_far fits ∙ Loops.or_next _ _ _ _ _ _ _ _ _ here c.code-item.is
     ∙ chose_first _ _ _ _ _ _ _ _ _ _ (c.in_ok-holds.ensures.meant fits) c.if-holds.true ∙ gives _ _ _ _ _ _ _ c.bool_value.ensures refl
 
 pub control::or_parts-loop-code-preserved : goal.control::or_parts-loop-code-preserved
 control::or_parts-loop-code-preserved g t c = record {
   so_far = λ fits.
-      let here : c.loop-code.code-index < length c.args.codes.now = omega arith in
+      let here : c.loop-code.code-index < length c.args.codes.now = c.loop-code-test.true in
       c.loop-code.invariant.so_far fits ∙ Loops.or_next _ _ _ _ _ _ _ _ _ here c.code-item.is
       ∙ chose_second _ _ _ _ _ _ _ _ _ _ (c.in_ok-holds.ensures.meant fits) c.if-holds.false;
   below = c.in_ok-holds.ensures.below ∙ c.loop-code.invariant.below;
-  grew = omega (arith, c.in_ok-holds.ensures.grew, c.loop-code.invariant.grew);
+  grew = still_less _ _ _ c.loop-code.invariant.grew c.in_ok-holds.ensures.grew;
 }
 
 pub control::or_parts-returns-clause-meant : goal.control::or_parts-returns-clause-meant
 control::or_parts-returns-clause-meant g t c fits =
-    let past : length c.args.codes.now ≤ c.loop-code.code-index = omega arith in
+    let past : length c.args.codes.now ≤ c.loop-code.code-index = c.loop-code-test.false in
     c.loop-code.invariant.so_far fits ∙ Loops.or_end _ _ _ _ _ _ _ _ past ∙ gives _ _ _ _ _ _ _ c.bool_value-2.ensures refl
 
 pub scopes::evaluate_match_optional-returns-in_err-pay-clause-meant : goal.scopes::evaluate_match_optional-returns-in_err-pay-clause-meant
@@ -452,21 +462,21 @@ scopes::evaluate_let-returns-clause-meant g t c at fits =
 
 pub scopes::evaluate_bindings-returns-in_err-value-clause-meant : goal.scopes::evaluate_bindings-returns-in_err-value-clause-meant
 scopes::evaluate_bindings-returns-in_err-value-clause-meant g t c body fits =
-    let here : c.loop-binding.binding-index < length c.args.bindings.now = omega arith in
+    let here : c.loop-binding.binding-index < length c.args.bindings.now = c.loop-binding-test.true in
     Lets.binds_not _ _ _ (λ own. scope_of c.args.context.now (c.args.names.now.values ++ own)) _ _ c.in_err-value.field-0.0 _ _ _ (err_from_is_err_and c.from_residual-in_err-value.result c.from_residual-in_err-value.ensures.1) (stops_eq _ _ _ _ _ _ (c.loop-binding.invariant.so_far body fits ∙ Lets.let_next (costs_of c.args.context.now) c.loop-binding.meter (g.W.Watch.seen c.loop-binding.watch) (means c.args.below) body (scope c.args.context.now c.args.names.now) c.args.names.now.values c.args.bindings.now c.args.codes.now c.loop-binding.binding-index c.loop-binding.place _ _ c.loop-binding.world.stack.top c.loop-binding.own.items _ _ refl c.deref.ensures.value c.loop-binding.invariant.at here c.requires c.binding-item.is c.index-codes-place.is) (stops_then _ _ _ _ _ _ _ _ _ (c.in_err-value.ensures.meant fits)))
 
 pub scopes::evaluate_bindings-returns-in_err-pay_for-clause-meant : goal.scopes::evaluate_bindings-returns-in_err-pay_for-clause-meant
 scopes::evaluate_bindings-returns-in_err-pay_for-clause-meant g t c body fits =
-    let here : c.loop-binding.binding-index < length c.args.bindings.now = omega arith in
+    let here : c.loop-binding.binding-index < length c.args.bindings.now = c.loop-binding-test.true in
     Lets.binds_not _ _ _ (λ own. scope_of c.args.context.now (c.args.names.now.values ++ own)) _ _ c.in_err-pay_for.field-0.0 _ _ _ (err_from_is_err_and c.from_residual-in_err-pay_for.result c.from_residual-in_err-pay_for.ensures.1) (stops_eq _ _ _ _ _ _ (c.loop-binding.invariant.so_far body fits ∙ Lets.let_next (costs_of c.args.context.now) c.loop-binding.meter (g.W.Watch.seen c.loop-binding.watch) (means c.args.below) body (scope c.args.context.now c.args.names.now) c.args.names.now.values c.args.bindings.now c.args.codes.now c.loop-binding.binding-index c.loop-binding.place _ _ c.loop-binding.world.stack.top c.loop-binding.own.items _ _ refl c.deref.ensures.value c.loop-binding.invariant.at here c.requires c.binding-item.is c.index-codes-place.is ∙ then_gave _ _ _ _ _ _ _ _ _ (c.in_ok-value.ensures.meant fits)) (charge_stops _ _ _ _ _ _ _ _ _ c.in_err-pay_for.ensures))
 
 pub scopes::evaluate_bindings-loop-binding-preserved : goal.scopes::evaluate_bindings-loop-binding-preserved
 scopes::evaluate_bindings-loop-binding-preserved g t c = record {
   so_far = λ body fits.
-      let here : c.loop-binding.binding-index < length c.args.bindings.now = omega arith in
+      let here : c.loop-binding.binding-index < length c.args.bindings.now = c.loop-binding-test.true in
       c.loop-binding.invariant.so_far body fits ∙ Lets.let_next (costs_of c.args.context.now) c.loop-binding.meter (g.W.Watch.seen c.loop-binding.watch) (means c.args.below) body (scope c.args.context.now c.args.names.now) c.args.names.now.values c.args.bindings.now c.args.codes.now c.loop-binding.binding-index c.loop-binding.place _ _ c.loop-binding.world.stack.top c.loop-binding.own.items _ _ refl c.deref.ensures.value c.loop-binding.invariant.at here c.requires c.binding-item.is c.index-codes-place.is ∙ then_gave _ _ _ _ _ _ _ _ _ (c.in_ok-value.ensures.meant fits) ∙ charge_within _ _ _ _ _ _ _ c.in_ok-pay_for.ensures ∙ Lets.let_bound _ _ _ (means c.args.below) body (scope c.args.context.now c.args.names.now) c.args.names.now.values _ _ _ _ _ _ c.in_ok-push.ensures.items;
   below = c.in_ok-value.ensures.below ∙ c.loop-binding.invariant.below;
-  grew = omega (arith, c.in_ok-value.ensures.grew, c.loop-binding.invariant.grew);
+  grew = still_less _ _ _ c.loop-binding.invariant.grew c.in_ok-value.ensures.grew;
   at = omega (arith, c.loop-binding.invariant.at);
 }
 
@@ -474,13 +484,13 @@ pub scopes::evaluate_bindings-loop-binding-init : goal.scopes::evaluate_bindings
 scopes::evaluate_bindings-loop-binding-init g t c = record {
   so_far = λ body fits. Lets.let_start _ _ _ (means c.args.below) body (scope c.args.context.now c.args.names.now) c.args.names.now.values _ _ _ c.in_ok-own.ensures.items;
   below = refl;
-  grew = omega arith;
+  grew = no_less _;
   at = refl;
 }
 
 pub scopes::evaluate_bindings-returns-clause-meant : goal.scopes::evaluate_bindings-returns-clause-meant
 scopes::evaluate_bindings-returns-clause-meant g t c body fits =
-    let past : length c.args.bindings.now ≤ c.loop-binding.binding-index = omega arith in
+    let past : length c.args.bindings.now ≤ c.loop-binding.binding-index = c.loop-binding-test.false in
     c.loop-binding.invariant.so_far body fits ∙ Lets.let_end _ _ _ _ _ _ c.args.bindings.now _ _ _ past
 
 pub calls::evaluate_call-returns-in_err-values-clause-meant : goal.calls::evaluate_call-returns-in_err-values-clause-meant
@@ -496,15 +506,15 @@ pub calls::enter-returns-then-depth-eq0-clause-meant : goal.calls::enter-returns
 calls::enter-returns-then-depth-eq0-clause-meant g t c outer fits = applied_none _ _ _ _ _ _ _ _ c.if-depth-eq0.true
 
 pub calls::enter-returns-in_err-pay-clause-meant : goal.calls::enter-returns-in_err-pay-clause-meant
-calls::enter-returns-in_err-pay-clause-meant g t c outer fits = pay_fails _ _ c.in_err-pay.field-0.0 _ _ _ _ _ _ _ _ (err_from_is_err_and c.from_residual.result c.from_residual.ensures.1) (ap (watched _ _ _) (applied_down _ _ _ _ _ _ (omega arith) (omega (arith, c.args.values.ok.0)))) c.in_err-pay.ensures
+calls::enter-returns-in_err-pay-clause-meant g t c outer fits = pay_fails _ _ c.in_err-pay.field-0.0 _ _ _ _ _ _ _ _ (err_from_is_err_and c.from_residual.result c.from_residual.ensures.1) (ap (watched _ _ _) (applied_down _ _ _ _ _ _ (positive _ c.if-depth-eq0.false) (omega (arith, c.args.values.ok.0)))) c.in_err-pay.ensures
 
 pub calls::enter-returns-in_err-bind-clause-meant : goal.calls::enter-returns-in_err-bind-clause-meant
 calls::enter-returns-in_err-bind-clause-meant g t c outer fits =
-    hands_on _ _ c.in_err-bind.field-0.0 _ _ _ (err_from_is_err_and c.from_residual-in_err-bind.result c.from_residual-in_err-bind.ensures.1) (stops_eq _ _ _ _ _ _ (ap (watched _ _ _) (applied_down _ _ _ _ _ _ (omega arith) (omega (arith, c.args.values.ok.0))) ∙ charge_within _ _ _ _ _ _ _ c.in_ok-pay.ensures ∙ given_as _ _ _ _ _ _ _ _ c.as_slice-given.ensures.value) (c.in_err-bind.ensures _ _ _))
+    hands_on _ _ c.in_err-bind.field-0.0 _ _ _ (err_from_is_err_and c.from_residual-in_err-bind.result c.from_residual-in_err-bind.ensures.1) (stops_eq _ _ _ _ _ _ (ap (watched _ _ _) (applied_down _ _ _ _ _ _ (positive _ c.if-depth-eq0.false) (omega (arith, c.args.values.ok.0))) ∙ charge_within _ _ _ _ _ _ _ c.in_ok-pay.ensures ∙ given_as _ _ _ _ _ _ _ _ c.as_slice-given.ensures.value) (c.in_err-bind.ensures _ _ _))
 
 pub calls::enter-returns-clause-meant : goal.calls::enter-returns-clause-meant
 calls::enter-returns-clause-meant g t c outer fits =
-    ends_so _ _ _ _ _ _ (ap (watched _ _ _) (applied_down _ _ _ _ _ _ (omega arith) (omega (arith, c.args.values.ok.0))) ∙ charge_within _ _ _ _ _ _ _ c.in_ok-pay.ensures ∙ given_as _ _ _ _ _ _ _ _ c.as_slice-given.ensures.value ∙ c.in_ok-bind.ensures _ _ _ ∙ Lets.body_bound _ _ _ (means (c.args.depth - 1)) (scope_of c.args.context.now outer) (function_seen c.args.function.now) _ _ _ _ c.of_call-names.ensures refl) (c.evaluate_body.ensures.meant outer fits)
+    ends_so _ _ _ _ _ _ (ap (watched _ _ _) (applied_down _ _ _ _ _ _ (positive _ c.if-depth-eq0.false) (omega (arith, c.args.values.ok.0))) ∙ charge_within _ _ _ _ _ _ _ c.in_ok-pay.ensures ∙ given_as _ _ _ _ _ _ _ _ c.as_slice-given.ensures.value ∙ c.in_ok-bind.ensures _ _ _ ∙ Lets.body_bound _ _ _ (means (c.args.depth - 1)) (scope_of c.args.context.now outer) (function_seen c.args.function.now) _ _ _ _ c.of_call-names.ensures refl) (c.evaluate_body.ensures.meant outer fits)
 
 pub calls::evaluate_body-returns-in_ok-push_layer-clause-meant : goal.calls::evaluate_body-returns-in_ok-push_layer-clause-meant
 calls::evaluate_body-returns-in_ok-push_layer-clause-meant g t c outer fits =
@@ -727,7 +737,7 @@ pub iterate::fold-loop-place-preserved : goal.iterate::fold-loop-place-preserved
 iterate::fold-loop-place-preserved g t c = record {
   so_far = λ bound fits. c.loop-place.invariant.so_far bound fits ∙ Iterating.fold_next (costs_of c.args.context.now) c.loop-place.meter (g.W.Watch.seen c.loop-place.watch) (applied c.args.below) (scope_of c.args.context.now bound) (callee_seen c.args.callee.now) _ c.in-Some-2.entry _ c.in_ok-values-in-Some-2.values.items c.loop-place.so_far c.loop-place.world.stack.top (Rows.entries_next _ c.args.sequence.now _ (sym c.in-Some-2.is ∙ c.in_ok-entry.ensures)) c.in_ok-values-in-Some-2.ensures ∙ then_gave _ _ _ _ _ _ _ _ _ (c.in_ok-so_far-in-Some-2.ensures.meant bound fits);
   below = c.in_ok-so_far-in-Some-2.ensures.below ∙ c.loop-place.invariant.below;
-  grew = omega (arith, c.in_ok-so_far-in-Some-2.ensures.grew, c.loop-place.invariant.grew);
+  grew = still_less _ _ _ c.loop-place.invariant.grew c.in_ok-so_far-in-Some-2.ensures.grew;
 }
 
 pub iterate::fold-returns-in-None-clause-meant : goal.iterate::fold-returns-in-None-clause-meant
@@ -736,7 +746,7 @@ iterate::fold-returns-in-None-clause-meant g t c bound fits =
 
 pub iterate::fold-returns-clause-meant : goal.iterate::fold-returns-clause-meant
 iterate::fold-returns-clause-meant g t c bound fits =
-    let past : c.in-Some.count ≤ c.loop-place.place = omega arith in
+    let past : c.in-Some.count ≤ c.loop-place.place = c.loop-place-test.false in
     known_some _ _ _ _ _ (λ xs. folded (applied c.args.below) (scope_of c.args.context.now bound) (callee_seen c.args.callee.now) xs c.args.start) _ (Rows.entries_known _ c.args.sequence.now _ c.in-Some.is c.try_len.ensures) ∙ c.loop-place.invariant.so_far bound fits ∙ Iterating.fold_end _ _ _ _ _ _ _ _ _ (Rows.entries_end _ _ c.args.sequence.now _ c.in-Some.is c.try_len.ensures past)
 
 pub iterate::apply_each-returns-in_default-clause-meant : goal.iterate::apply_each-returns-in_default-clause-meant
@@ -751,14 +761,14 @@ pub iterate::apply_each-loop-place-init : goal.iterate::apply_each-loop-place-in
 iterate::apply_each-loop-place-init g t c = record {
   so_far = λ bound fits. onto-nil _ ∙ ap (λ vs. onto vs (watched (costs_of c.args.context.now) c.args.meter.now (g.W.Watch.seen c.args.watch.now) (each (applied c.args.below) (scope_of c.args.context.now bound) (callee_seen c.args.callee.now) (rows_from 0 c.args.sequences.now) c.args.world.now.stack.top))) (sym c.new-results.ensures.items);
   below = refl;
-  grew = omega arith;
+  grew = no_less _;
 }
 
 pub iterate::apply_each-loop-place-preserved : goal.iterate::apply_each-loop-place-preserved
 iterate::apply_each-loop-place-preserved g t c = record {
   so_far = λ bound fits. c.loop-place.invariant.so_far bound fits ∙ Iterating.each_turn _ _ _ _ _ _ _ _ _ _ _ _ _ _ _ _ (Rows.rows_next _ c.args.sequences.now _ (Rows.some_sequence _ c.args.sequences.now (sym c.width.ensures ∙ c.in-Some.is)) (sym c.in_ok-row.ensures.row ∙ ap (option_map (λ r. r.items)) c.in-Some-2.is)) c.in_ok-push-in-Some-2.ensures.items (c.in_ok-value-in-Some-2.ensures.meant bound fits);
   below = c.in_ok-value-in-Some-2.ensures.below ∙ c.loop-place.invariant.below;
-  grew = omega (arith, c.in_ok-value-in-Some-2.ensures.grew, c.loop-place.invariant.grew);
+  grew = still_less _ _ _ c.loop-place.invariant.grew c.in_ok-value-in-Some-2.ensures.grew;
 }
 
 pub iterate::apply_each-returns-in-None-clause-meant : goal.iterate::apply_each-returns-in-None-clause-meant
@@ -767,7 +777,7 @@ iterate::apply_each-returns-in-None-clause-meant g t c bound fits =
 
 pub iterate::apply_each-returns-clause-meant : goal.iterate::apply_each-returns-clause-meant
 iterate::apply_each-returns-clause-meant g t c bound fits =
-    let past : c.in-Some.count ≤ c.loop-place.place = omega arith in
+    let past : c.in-Some.count ≤ c.loop-place.place = c.loop-place-test.false in
     known_some _ _ _ _ _ (each (applied c.args.below) (scope_of c.args.context.now bound) (callee_seen c.args.callee.now)) _ (Rows.rows_known _ c.args.sequences.now (sym c.width.ensures ∙ c.in-Some.is)) ∙ c.loop-place.invariant.so_far bound fits ∙ Iterating.each_end _ _ _ _ _ _ _ _ _ (Rows.rows_end _ _ c.args.sequences.now (sym c.width.ensures ∙ c.in-Some.is) past)
 
 pub iterate::apply_each-apply-requires : goal.iterate::apply_each-apply-requires
@@ -809,7 +819,7 @@ iterate::evaluate_iteration-evaluate_fold-requires g t c = λ κs alive. (omega 
 pub walk::evaluate-returns-in_err-saw-clause-meant : goal.walk::evaluate-returns-in_err-saw-clause-meant
 walk::evaluate-returns-in_err-saw-clause-meant g t c fits =
     memory_ends _ _ _ _ _ _ (err_from_is_err_and c.from_residual-in_err-saw.result c.from_residual-in_err-saw.ensures.1)
-    (means_down _ _ _ _ _ _ _ (omega arith) ∙ watched-ending _ _ _ _ _) (node_unseen _ _ _ _ _ _ _ (c.in_ok-value.ensures.meant fits) c.in_err-saw.ensures)
+    (means_down _ _ _ _ _ _ _ (positive _ c.if-depth-eq0.false) ∙ watched-ending _ _ _ _ _) (node_unseen _ _ _ _ _ _ _ (c.in_ok-value.ensures.meant fits) c.in_err-saw.ensures)
 
 pub walk::evaluate_parts-returns-in_err-values-clause-meant : goal.walk::evaluate_parts-returns-in_err-values-clause-meant
 walk::evaluate_parts-returns-in_err-values-clause-meant g t c fits = onto_memory _ _ _ _ _ [] _ _ (err_from_is_err_and c.from_residual.result c.from_residual.ensures.1) (onto-nil _)
@@ -820,7 +830,7 @@ scopes::evaluate_bindings-returns-in_err-own-clause-meant g t c body fits =
 
 pub scopes::evaluate_bindings-returns-in_err-push-clause-meant : goal.scopes::evaluate_bindings-returns-in_err-push-clause-meant
 scopes::evaluate_bindings-returns-in_err-push-clause-meant g t c body fits =
-    let here : c.loop-binding.binding-index < length c.args.bindings.now = omega arith in
+    let here : c.loop-binding.binding-index < length c.args.bindings.now = c.loop-binding-test.true in
     Lets.binds_memory _ _ _ (λ own. scope_of c.args.context.now (c.args.names.now.values ++ own)) _ _ _ _ _ _ (err_from_is_err_and c.from_residual-in_err-push.result c.from_residual-in_err-push.ensures.1) (c.loop-binding.invariant.so_far body fits ∙ Lets.let_next (costs_of c.args.context.now) c.loop-binding.meter (g.W.Watch.seen c.loop-binding.watch) (means c.args.below) body (scope c.args.context.now c.args.names.now) c.args.names.now.values c.args.bindings.now c.args.codes.now c.loop-binding.binding-index c.loop-binding.place _ _ c.loop-binding.world.stack.top c.loop-binding.own.items _ _ refl c.deref.ensures.value c.loop-binding.invariant.at here c.requires c.binding-item.is c.index-codes-place.is ∙ then_gave _ _ _ _ _ _ _ _ _ (c.in_ok-value.ensures.meant fits) ∙ charge_within _ _ _ _ _ _ _ c.in_ok-pay_for.ensures) (starts _ _ _ _)
 
 pub calls::evaluate_body-returns-in_err-push_layer-clause-meant : goal.calls::evaluate_body-returns-in_err-push_layer-clause-meant
