@@ -9,23 +9,24 @@ top=$(cd "$(dirname "$0")/.." && pwd)
 work=$(mktemp -d)
 trap 'rm -rf "$work"' EXIT
 mkdir -p "$work/crates/world_bench/src"
-for crate in cl_types cl_c32 cl_arith cl_values cl_codec cl_maps cl_tokens cl_events cl_state; do
+for crate in cl_types cl_c32 cl_arith cl_values cl_codec cl_maps cl_tokens cl_events cl_tables cl_state; do
     mkdir -p "$work/crates/$crate/out"
     cp -r "$top/crates/$crate/src" "$top/crates/$crate/specs" "$top/crates/$crate/proofs" "$work/crates/$crate"
     [ ! -d "$top/crates/$crate/out/rlib" ] || cp -a "$top/crates/$crate/out/rlib" "$work/crates/$crate/out"
     grep "^$crate:" "$top/crates.txt" >>"$work/crates.txt"
 done
-echo "world_bench: cl_types cl_c32 cl_values cl_events cl_state anyhow" >>"$work/crates.txt"
+echo "world_bench: cl_types cl_c32 cl_values cl_events cl_tables cl_state anyhow" >>"$work/crates.txt"
 cat >"$work/crates/world_bench/src/main.rt" <<'PROGRAM'
 //! Layers on a world of many balances, entries or variables: words ACT END COUNT LAYERS.
 #![tactic(auto)]
 ghost use Rattle.std.specs.Prelude.{◌≡◌, true};
 ghost use Rattle.cl_events.specs.State.{State};
-ghost use Rattle.cl_state.specs.Deeds.{is_there};
+ghost use Rattle.cl_tables.specs.Deeds.{is_there};
 
 use cl_c32::{Address, ContractName, Principal};
 use cl_events::EventKind;
-use cl_state::{Place, TokenAct, World, acts_have_answers};
+use cl_state::{TokenAct, World, acts_have_answers};
+use cl_tables::Place;
 use cl_types::Name;
 use cl_values::{Kind, Val, Value};
 use std::alloc::{AllocError, Global};

@@ -7,9 +7,9 @@ use Rattle.cl_meaning.specs.Limits.{Costs}
 use Rattle.cl_maps.specs.Maps.{get}
 use Rattle.cl_tokens.specs.Ledger.{Ledger}
 use Rattle.cl_events.specs.State.{State, holder}
-use Rattle.cl_state.specs.Amounts.{balance_in}
-use Rattle.cl_state.specs.Variables.{key_of}
-use Rattle.cl_state.specs.declared.place.Place.{Place}
+use Rattle.cl_tables.specs.Amounts.{balance_in}
+use Rattle.cl_tables.specs.Variables.{key_of}
+use Rattle.cl_tables.specs.declared.place.Place.{Place}
 use Rattle.cl_meaning.specs.Samples.{P1, of_P0}
 use Rattle.cl_file.specs.declared.entry.Entry.{Entry}
 use Rattle.cl_file.specs.Entries.{height_after}

@@ -9,7 +9,7 @@ use Rattle.cl_values.specs.TreeCode.{tree_code}
 use Rattle.cl_forms.specs.Forms.{Form}
 use Rattle.cl_forms.specs.FormCode.{form_code}
 use Rattle.cl_events.specs.State.{State}
-use Rattle.cl_state.specs.Codes.{name_code, principal_code, state_code}
+use Rattle.cl_tables.specs.Codes.{name_code, principal_code, state_code}
 use Rattle.cl_meaning.specs.Deployed.{Contract}
 use Rattle.cl_engine.specs.Seen.{Seen}
 

@@ -19,8 +19,8 @@ use Rattle.cl_events.specs.declared.event.EventKind.{EventKind}
 use Rattle.cl_events.specs.declared.event.EventKind.TheVariants.{Print, FtMint, FtTransfer, FtBurn, NftMint, NftTransfer, NftBurn, StxTransfer, StxBurn}
 use Rattle.cl_events.specs.State.{State, holder, place}
 use Rattle.cl_events.specs.Acts.{Acted, acted, acted_by, changed, told, on_ledger, on_owners, sender_refusal}
-use Rattle.cl_state.specs.Deeds.{is_there}
-use Rattle.cl_state.specs.Amounts.{balance_in as balance_by}
+use Rattle.cl_tables.specs.Deeds.{is_there}
+use Rattle.cl_tables.specs.Amounts.{balance_in as balance_by}
 use Rattle.cl_types.specs.declared.fault.Fault.{Fault}
 use Rattle.cl_types.specs.declared.fault.Fault.TheVariants.{Refused}
 use Rattle.cl_state.specs.Stack.{Stack, with_top}
@@ -87,7 +87,7 @@ some_ends costs q p v r s h k c =
     ends_so _ _ _ _ _ (ap (λ o. limited costs q (stop o s)) (sym (owner_given p h)) ∙ ap (λ u. limited costs q (stop (outcome_of (Gives (SomeV u))) s)) (sym k)) (native_ends costs q (outcome_of (Gives (SomeV v))) r s c)
 
 -- the owner of an asset, as the code has found it
-pub owner_is : (costs : Costs) (p : Purse) (o : Option Owners) (id : Val) (found : Option Principal) (who : Principal) (s : State) → is_some o ≡ true → option_map (λ q. holder q) found ≡ Rattle.cl_state.specs.Amounts.owner_in (wire id) o → found ≡ Some who → IfSome found (λ q. decoded (holder q) ≡ Ok (PrincipalV q)) → limited costs p (with_known o (λ owners. with_known (owner_value (get (wire id) owners)) give) s) ≡ limited costs p (give (SomeV (PrincipalV who)) s)
+pub owner_is : (costs : Costs) (p : Purse) (o : Option Owners) (id : Val) (found : Option Principal) (who : Principal) (s : State) → is_some o ≡ true → option_map (λ q. holder q) found ≡ Rattle.cl_tables.specs.Amounts.owner_in (wire id) o → found ≡ Some who → IfSome found (λ q. decoded (holder q) ≡ Ok (PrincipalV q)) → limited costs p (with_known o (λ owners. with_known (owner_value (get (wire id) owners)) give) s) ≡ limited costs p (give (SomeV (PrincipalV who)) s)
 owner_is costs p None id found who s h k e d = absurd cc
 owner_is costs p (Some m) id found who s h k e d =
     let at : get (wire id) m ≡ Some (holder who) = sym k ∙ ap (option_map (λ q. holder q)) e in
@@ -95,7 +95,7 @@ owner_is costs p (Some m) id found who s h k e d =
     ap (λ w. limited costs p (with_known (owner_value w) give s)) at
     ∙ ap (λ (w : Result Val DecodeRefusal). limited costs p (with_known (Rattle.cl_meaning.specs.Tokens.some_value w) give s)) read
 
-pub no_owner : (costs : Costs) (p : Purse) (o : Option Owners) (id : Val) (found : Option Principal) (v : Val) (s : State) → is_some o ≡ true → option_map (λ q. holder q) found ≡ Rattle.cl_state.specs.Amounts.owner_in (wire id) o → found ≡ None → v ≡ NoneV → limited costs p (with_known o (λ owners. with_known (owner_value (get (wire id) owners)) give) s) ≡ Gave v s p
+pub no_owner : (costs : Costs) (p : Purse) (o : Option Owners) (id : Val) (found : Option Principal) (v : Val) (s : State) → is_some o ≡ true → option_map (λ q. holder q) found ≡ Rattle.cl_tables.specs.Amounts.owner_in (wire id) o → found ≡ None → v ≡ NoneV → limited costs p (with_known o (λ owners. with_known (owner_value (get (wire id) owners)) give) s) ≡ Gave v s p
 no_owner costs p None id found v s h k e n = absurd cc
 no_owner costs p (Some m) id found v s h k e n =
     let at : get (wire id) m ≡ None = sym k ∙ ap (option_map (λ q. holder q)) e in

@@ -11,10 +11,10 @@ use Rattle.cl_maps.proofs.MapLaws.{same_keys, self_equal}
 use Rattle.cl_tokens.specs.Table.{is_key}
 use Rattle.cl_tokens.specs.Ledger.{balance}
 use Rattle.cl_events.specs.State.{State, holder}
-use Rattle.cl_state.specs.declared.place.Place.{Place}
-use Rattle.cl_state.specs.declared.row.StateRow.{StateRow}
-use Rattle.cl_state.specs.StateRows.{IsRow, AreRows, variable_row, entry_row, balance_row, supply_row, owner_row, stx_row}
-use Rattle.cl_state.specs.StateRows as row
+use Rattle.cl_tables.specs.declared.place.Place.{Place}
+use Rattle.cl_tables.specs.declared.row.StateRow.{StateRow}
+use Rattle.cl_tables.specs.StateRows.{IsRow, AreRows, variable_row, entry_row, balance_row, supply_row, owner_row, stx_row}
+use Rattle.cl_tables.specs.StateRows as row
 use Rattle.cl_lines.specs.Events.{amount_text, name_text, value_text, who_text}
 use Rattle.cl_lines.specs.StateLines.{IsLine, OfVariable, OfEntry, OfBalance, OfSupply, OfAsset, OfStx, IsStateText, ended, variable_line, entry_line, balance_line, supply_line, owner_line, stx_line}
 use Rattle.cl_lines.specs.RowLines.{row_word, row_line}

@@ -2,9 +2,9 @@
 use Rattle.std.specs.Prelude.{ℕ, List, [], ◌++◌, Option, None, Some, codes}
 use Rattle.cl_c32.specs.declared.principal.Principal.{Principal}
 use Rattle.cl_values.specs.Tree.{Tree}
-use Rattle.cl_state.specs.declared.row.RowKind.{RowKind}
-use Rattle.cl_state.specs.declared.row.RowKind.TheVariants.{Variable, MapEntry, Balance, Supply, Owner, StxBalance}
-use Rattle.cl_state.specs.declared.row.StateRow.{StateRow}
+use Rattle.cl_tables.specs.declared.row.RowKind.{RowKind}
+use Rattle.cl_tables.specs.declared.row.RowKind.TheVariants.{Variable, MapEntry, Balance, Supply, Owner, StxBalance}
+use Rattle.cl_tables.specs.declared.row.StateRow.{StateRow}
 use Rattle.cl_lines.specs.Events.{name_text, value_text, who_text}
 
 -- the word of a row

@@ -10,8 +10,8 @@ use Rattle.cl_maps.specs.Maps.{get, key_cmp}
 use Rattle.cl_tokens.specs.Ledger.{Ledger, balance}
 use Rattle.cl_tokens.specs.Owners.{Owners}
 use Rattle.cl_events.specs.State.{State, holder, spot}
-use Rattle.cl_state.specs.declared.place.Place.{Place}
-use Rattle.cl_state.specs.Variables.{IsPlace, key_of}
+use Rattle.cl_tables.specs.declared.place.Place.{Place}
+use Rattle.cl_tables.specs.Variables.{IsPlace, key_of}
 use Rattle.cl_lines.specs.Events.{amount_text, name_text, value_text, who_text}
 
 -- a word, and behind it a contract and a name

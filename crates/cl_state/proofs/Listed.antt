@@ -8,14 +8,14 @@ use Rattle.cl_tokens.specs.Table.{is_key}
 use Rattle.cl_events.specs.declared.event.Event.{Event}
 use Rattle.cl_events.specs.declared.event.Move.{Move}
 use Rattle.cl_events.specs.State.{State}
-use Rattle.cl_state.specs.declared.place.Place.{Place}
-use Rattle.cl_state.specs.Variables.{key_of, IsPlaceKey}
-use Rattle.cl_state.specs.Numbered.{by_place, ArePlaced}
-use Rattle.cl_state.specs.Spelled.{Each}
+use Rattle.cl_tables.specs.declared.place.Place.{Place}
+use Rattle.cl_tables.specs.Variables.{key_of, IsPlaceKey}
+use Rattle.cl_tables.specs.Numbered.{by_place, ArePlaced}
+use Rattle.cl_tables.specs.Spelled.{Each}
 use Rattle.cl_state.specs.Sums.{HasSums}
-use Rattle.cl_state.specs.Notes.{Held, state_of, IsSound}
+use Rattle.cl_tables.specs.Notes.{Held, state_of, IsSound}
 use Rattle.cl_state.specs.Rows.{with_told}
-use Rattle.cl_state.specs.StateRows.{IsListed}
+use Rattle.cl_tables.specs.StateRows.{IsListed}
 
 token_step : {A : Type 0} (key : List ℕ) (e : Place × A) (es : List (Place × A)) (a : A) (b : Bool) → is_key key (key_of e.0) ≡ b → ArePlaced (e ∷ es) → cond b (Some e.1) (get key (by_place es)) ≡ Some a → (get key (by_place es) ≡ Some a → IsPlaceKey key) → IsPlaceKey key
 token_step key e es a true same placed is rest = (e.0, placed.0, same_keys key (key_of e.0) same)

@@ -15,7 +15,7 @@ use Rattle.cl_events.specs.declared.event.EventKind.TheVariants.{Print, FtMint, 
 use Rattle.cl_events.specs.State.{State, holder, place, with_event, with_stx}
 use Rattle.cl_events.specs.Acts.{Acted, acted, changed, moved, told, on_ledger, on_owners, burnt_stx}
 use Rattle.cl_state.specs.Sums.{stx_burnt_by}
-use Rattle.cl_state.proofs.Spelled.{state_or, is_done, part_done, ledger_done, owners_done}
+use Rattle.cl_tables.proofs.Spelled.{state_or, is_done, part_done, ledger_done, owners_done}
 
 -- the supply is the same, and nothing of it is burnt
 none_burnt : (s u : State) → u.stx.supply ≡ s.stx.supply → u.stx.supply + 0 ≡ s.stx.supply

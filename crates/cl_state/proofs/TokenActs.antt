@@ -19,10 +19,10 @@ use Rattle.cl_events.specs.declared.event.Move.{Move}
 use Rattle.cl_events.specs.State.{State, holder, place, with_fungibles, with_nonfungibles, with_stx}
 use Rattle.cl_events.specs.Acts.{Acted, acted, changed, moved, told, replaced, on_ledger, on_owners, burnt_stx}
 use Rattle.cl_state.specs.declared.world.Mark.{Mark}
-use Rattle.cl_state.specs.declared.deed.Deed.{Deed}
+use Rattle.cl_tables.specs.declared.deed.Deed.{Deed}
 use Rattle.cl_state.specs.Stack.{Stack, Seen}
-use Rattle.cl_state.specs.Notes.{Past, ActsOnPast}
-use Rattle.cl_state.specs.Deeds.{deed, deed_done, is_empty_burn, move_in, is_there}
+use Rattle.cl_tables.specs.Notes.{Past, ActsOnPast}
+use Rattle.cl_tables.specs.Deeds.{deed, deed_done, is_empty_burn, move_in, is_there}
 use Rattle.cl_state.specs.Rows.{with_told, stack_of, ActsOn, Falls}
 use Rattle.cl_state.proofs.Layers.{moved_law}
 

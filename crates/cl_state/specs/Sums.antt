@@ -4,7 +4,7 @@ use Rattle.cl_tokens.specs.Ledger.{IsLedger}
 use Rattle.cl_events.specs.declared.event.EventKind.{EventKind}
 use Rattle.cl_events.specs.declared.event.EventKind.TheVariants.{StxBurn}
 use Rattle.cl_events.specs.State.{State}
-use Rattle.cl_state.specs.Spelled.{Each}
+use Rattle.cl_tables.specs.Spelled.{Each}
 
 -- the balances of each fungible token and of STX are above 0 and sum to the supply, which is at most the cap
 pub record HasSums (s : State) : Type 0 where

@@ -22,7 +22,8 @@ use cl_forms::TokenNative as Token;
 use cl_frames::{Context, Names, Stop, pay, pay_for, pay_for_all};
 use cl_seq::{bool_value, none, some, try_get};
 use cl_shapes::{CostName, Meter};
-use cl_state::{Place, World};
+use cl_state::World;
+use cl_tables::Place;
 use cl_types::Name;
 use cl_values::Val;
 

@@ -10,7 +10,8 @@ ghost use Rattle.cl_frames.specs.Deploys.{Makes, contract_so_far, defined_by, ca
 
 use cl_frames::{Deploying, Stop, pay, pay_for};
 use cl_shapes::{CostName, Meter};
-use cl_state::{Place, World};
+use cl_state::World;
+use cl_tables::Place;
 use cl_types::Name;
 use cl_values::{Kind, Val};
 use indexmap::IndexMap;

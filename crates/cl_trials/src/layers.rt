@@ -1,7 +1,8 @@
 //! Layers on a base of many variables. A world that copied what a layer is put on, or what it changes first, would need some
 //! 30 GB here.
 use cl_c32::{Address, ContractName, Principal};
-use cl_state::{Place, World};
+use cl_state::World;
+use cl_tables::Place;
 use cl_types::Name;
 use cl_values::{Kind, Val, Value};
 use std::test::Fail;

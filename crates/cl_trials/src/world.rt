@@ -1,7 +1,7 @@
 //! The world of a node with holders of STX of whom one is there twice, which no transaction file gives.
 ghost use Rattle.std.specs.Prelude.{◌≡◌, true};
 ghost use Rattle.cl_events.specs.State.{State};
-ghost use Rattle.cl_state.specs.Deeds.{is_there};
+ghost use Rattle.cl_tables.specs.Deeds.{is_there};
 
 use crate::layers::layers_stay_small;
 use cl_c32::{Address, ContractName, Principal};

@@ -1,7 +1,7 @@
 use Rattle.std.proofs.Common.{◌≡◌, sym, subst, Vec, Global, ℕ}
 use Rattle.std.specs.Prelude.{IfOk, map}
 use Rattle.std.proofs.lemmas.Result.{IfOk-weaker}
-use Rattle.cl_state.specs.declared.row.StateRow.{StateRow}
+use Rattle.cl_tables.specs.declared.row.StateRow.{StateRow}
 use Rattle.cl_lines.specs.RowLines.{row_line}
 use Rattle.cl_lines.specs.StateLines.{IsStateText, ended}
 use Rattle.cl_lines.specs.LineSets.{IsSetOf}

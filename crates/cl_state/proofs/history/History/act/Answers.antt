@@ -1,11 +1,11 @@
 use Rattle.std.proofs.Common.{◌∙◌, ap, refl, sym, subst, ◌++◌, ◌∷◌, []}
 use Rattle.std.specs.Prelude.{IsSome, Ok}
 use Rattle.cl_events.specs.Acts.{Acted, changed}
-use Rattle.cl_state.specs.declared.note.Note.{Note}
-use Rattle.cl_state.specs.Deeds.{deed_done}
-use Rattle.cl_state.specs.Notes.{past_of, state_of, ActsOnPast}
-use Rattle.cl_state.specs.Tables.{held_in}
-use Rattle.cl_state.proofs.Past.{kept_changed, kept_as_before, past_changed, past_as_before, gave_up, refused_past}
+use Rattle.cl_tables.specs.declared.note.Note.{Note}
+use Rattle.cl_tables.specs.Deeds.{deed_done}
+use Rattle.cl_tables.specs.Notes.{past_of, state_of, ActsOnPast}
+use Rattle.cl_tables.specs.Tables.{held_in}
+use Rattle.cl_tables.proofs.Past.{kept_changed, kept_as_before, past_changed, past_as_before, gave_up, refused_past}
 use Rattle.cl_state.proofs.TokenActs.{change_is, change_has_act, empty_burn}
 use Rattle.cl_state.proofs.history.History.act.Goals as goal
 

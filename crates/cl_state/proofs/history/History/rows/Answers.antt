@@ -1,8 +1,8 @@
 use Rattle.std.proofs.Common.{subst}
 use Rattle.std.proofs.lemmas.Result.{IfOk-weaker}
-use Rattle.cl_state.specs.Notes.{Past}
-use Rattle.cl_state.specs.Tables.{held_in}
-use Rattle.cl_state.specs.StateRows.{AreRows, IsListed}
+use Rattle.cl_tables.specs.Notes.{Past}
+use Rattle.cl_tables.specs.Tables.{held_in}
+use Rattle.cl_tables.specs.StateRows.{AreRows, IsListed}
 use Rattle.cl_state.proofs.Listed.{sound_is_listed}
 use Rattle.cl_state.proofs.history.History.rows.Goals as goal
 

@@ -2,10 +2,10 @@ use Rattle.std.proofs.Common.{◌≡◌, ◌∙◌, ap, subst, ◌++◌, ◌∷�
 use Rattle.std.specs.Prelude.{IfSome, OnSome, Option, is_some}
 use Rattle.cl_maps.specs.Maps.{put}
 use Rattle.cl_events.specs.State.{place, with_variables}
-use Rattle.cl_state.specs.Notes.{past_of, changed_to, state_of}
-use Rattle.cl_state.specs.declared.note.Note.{Note}
-use Rattle.cl_state.specs.Tables.{held_in, Changes}
-use Rattle.cl_state.proofs.Past.{refused, kept_changed, past_changed, kept_as_before, past_as_before}
+use Rattle.cl_tables.specs.Notes.{past_of, changed_to, state_of}
+use Rattle.cl_tables.specs.declared.note.Note.{Note}
+use Rattle.cl_tables.specs.Tables.{held_in, Changes}
+use Rattle.cl_tables.proofs.Past.{refused, kept_changed, past_changed, kept_as_before, past_as_before}
 use Rattle.cl_state.proofs.history.History.set_variable.Goals as goal
 
 pub returns-in_err-reserve-clause-refused : goal.returns-in_err-reserve-clause-refused

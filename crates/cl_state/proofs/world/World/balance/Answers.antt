@@ -1,7 +1,7 @@
 use Rattle.std.proofs.Common.{◌∙◌, ap}
 use Rattle.std.proofs.lemmas.Result.{IfOk-weaker}
-use Rattle.cl_state.specs.Amounts.{amount_of}
-use Rattle.cl_state.proofs.Amounts.{amount_told}
+use Rattle.cl_tables.specs.Amounts.{amount_of}
+use Rattle.cl_state.proofs.ToldStates.{amount_told}
 use Rattle.cl_state.proofs.world.World.balance.Goals as goal
 
 pub returns : goal.returns

@@ -4,7 +4,7 @@ use Rattle.std.proofs.lemmas.Result.{on_ok_weaker}
 use Rattle.cl_maps.specs.Maps.{put, get}
 use Rattle.cl_tokens.specs.Ledger.{no_tokens}
 use Rattle.cl_events.specs.State.{with_fungibles}
-use Rattle.cl_state.specs.Variables.{key_of}
+use Rattle.cl_tables.specs.Variables.{key_of}
 use Rattle.cl_state.specs.Stack.{with_top}
 use Rattle.cl_state.specs.Rows.{stack_of}
 use Rattle.cl_state.proofs.Layers.{changed_law, changed_or_not}

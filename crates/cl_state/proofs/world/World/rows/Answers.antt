@@ -1,8 +1,8 @@
 use Rattle.std.proofs.Common.{subst}
 use Rattle.std.proofs.lemmas.Result.{IfOk-weaker}
 use Rattle.cl_state.specs.Stack.{Seen}
-use Rattle.cl_state.specs.StateRows.{AreRows, IsListed}
-use Rattle.cl_state.proofs.WholeRows.{rows_told}
+use Rattle.cl_tables.specs.StateRows.{AreRows, IsListed}
+use Rattle.cl_state.proofs.ToldStates.{rows_told}
 use Rattle.cl_state.proofs.Listed.{listed_told}
 use Rattle.cl_state.proofs.world.World.rows.Goals as goal
 

@@ -1,6 +1,0 @@
-use Rattle.std.proofs.Common.{take}
-use Rattle.cl_state.specs.RowParts.{IsOwnerRow, Lists}
-use Rattle.cl_state.proofs.listing.list_owners.Given as goal
-
-abbrev pub invariant-loop-asset : goal.invariant-loop-asset
-invariant-loop-asset l = Lists (IsOwnerRow l.at) (take l.asset-index l.assets) l.initial.out.items l.out.items

@@ -1,5 +1,0 @@
-use Rattle.cl_state.proofs.Numbered.{numbered}
-use Rattle.cl_state.proofs.tokens.number_of.Goals as goal
-
-pub returns : goal.returns
-returns g c = numbered c.args.at.now c.args.tokens.now.entries c.get_index_of.result c.is_valid.ensures c.requires c.get_index_of.ensures.index

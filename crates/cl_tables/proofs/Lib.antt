@@ -1,0 +1,13 @@
+pub mod PlaceKeys
+pub mod SamePlaces
+pub mod Past
+pub mod Numbered
+pub mod Spelled
+pub mod Changes
+pub mod Amounts
+pub mod OwnerKeys
+pub mod KeyReading
+pub mod RowLists
+pub mod MadeRows
+pub mod PlacedRows
+pub mod WholeRows

@@ -1,0 +1,9 @@
+use Rattle.std.proofs.Common.{◌≡◌, ◌-◌}
+use Rattle.cl_tables.specs.Numbered.{ledgers_of}
+use Rattle.cl_tables.proofs.tokens.tidy_ledgers.Given as goal
+
+abbrev pub invariant-loop-number : goal.invariant-loop-number
+invariant-loop-number l = ledgers_of l.tokens.entries ≡ ledgers_of l.initial.tokens.entries
+
+abbrev pub decreases-loop-number : goal.decreases-loop-number
+decreases-loop-number l = l.touched.end - l.number

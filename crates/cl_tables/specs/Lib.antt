@@ -1,0 +1,10 @@
+pub mod Codes
+pub mod Variables
+pub mod Numbered
+pub mod Spelled
+pub mod Notes
+pub mod Tables
+pub mod Deeds
+pub mod Amounts
+pub mod StateRows
+pub mod RowParts
