@@ -8,7 +8,7 @@ ghost use Rattle.cl_frames.specs.Seen.{scope, Fits};
 ghost use Rattle.cl_frames.specs.Watching.{Walks, amount};
 
 use crate::walk::{evaluate, evaluate_parts, evaluate_thrown, evaluate_truth};
-use cl_calls::{as_contract, last};
+use cl_calls::{and_ends, as_contract, last, or_ends};
 use cl_code::{Code, Watch};
 use cl_frames::{Context, Names, Stop, Way, err_way_of, into_content, pay, tried, way_of};
 use cl_seq::bool_value;
@@ -101,8 +101,8 @@ fn and_parts<W: Watch>(
 {
     for code in codes {
         let holds = evaluate_truth(context, names, code, below, world, meter, watch)?;
-        if !holds {
-            return Ok(bool_value(false));
+        if let Some(value) = and_ends(holds) {
+            return Ok(value);
         }
     }
     Ok(bool_value(true))
@@ -145,8 +145,8 @@ fn or_parts<W: Watch>(
 {
     for code in codes {
         let holds = evaluate_truth(context, names, code, below, world, meter, watch)?;
-        if holds {
-            return Ok(bool_value(true));
+        if let Some(value) = or_ends(holds) {
+            return Ok(value);
         }
     }
     Ok(bool_value(false))

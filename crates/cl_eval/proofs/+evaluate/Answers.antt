@@ -29,6 +29,7 @@ use Rattle.cl_frames.proofs.Nodes.{node_is}
 use Rattle.cl_frames.proofs.Heads
 use Rattle.cl_frames.proofs.Forms
 use Rattle.cl_frames.proofs.Forms.{begin_at, strict_at, call_at, means_none, means_down, applied_none, applied_down}
+use Rattle.cl_calls.proofs.Chosen.{chose_by}
 use Rattle.cl_frames.proofs.Ways.{chose_first, chose_second, choice_stops, truth_stops, wanted_good, wanted_bad, wanted_neither, truth_ends, err_good, err_bad, err_neither}
 use Rattle.cl_frames.proofs.Loops
 use Rattle.cl_frames.proofs.Lets
@@ -334,18 +335,18 @@ control::and_parts-returns-in_err-holds-clause-meant g t c fits =
     hands_on _ _ c.in_err-holds.field-0.0 _ _ _ (err_from_is_err_and c.from_residual.result c.from_residual.ensures.1)
     (stops_eq _ _ _ _ _ _ (c.loop-code.invariant.so_far fits ∙ Loops.and_next _ _ _ _ _ _ _ _ _ here c.code-item.is) (choice_stops _ _ _ _ _ _ _ _ _ _ (c.in_err-holds.ensures.meant fits)))
 
-pub control::and_parts-returns-then-not-holds-clause-meant : goal.control::and_parts-returns-then-not-holds-clause-meant
-control::and_parts-returns-then-not-holds-clause-meant g t c fits =
+pub control::and_parts-returns-in-Some-clause-meant : goal.control::and_parts-returns-in-Some-clause-meant
+control::and_parts-returns-in-Some-clause-meant g t c fits =
     let here : c.loop-code.code-index < length c.args.codes.now = c.loop-code-test.true in
     c.loop-code.invariant.so_far fits ∙ Loops.and_next _ _ _ _ _ _ _ _ _ here c.code-item.is
-    ∙ chose_second _ _ _ _ _ _ _ _ _ _ (c.in_ok-holds.ensures.meant fits) c.if-not-holds.true ∙ gives _ _ _ _ _ _ _ c.bool_value.ensures refl
+    ∙ chose_by _ _ _ _ _ _ _ _ _ _ (c.in_ok-holds.ensures.meant fits) ∙ ap (watched _ _ _) (sym (c.in-Some.ensures _ _)) ∙ gives _ _ _ _ _ _ _ refl refl
 
 pub control::and_parts-loop-code-preserved : goal.control::and_parts-loop-code-preserved
 control::and_parts-loop-code-preserved g t c = record {
   so_far = λ fits.
       let here : c.loop-code.code-index < length c.args.codes.now = c.loop-code-test.true in
       c.loop-code.invariant.so_far fits ∙ Loops.and_next _ _ _ _ _ _ _ _ _ here c.code-item.is
-      ∙ chose_first _ _ _ _ _ _ _ _ _ _ (c.in_ok-holds.ensures.meant fits) c.if-not-holds.false;
+      ∙ chose_by _ _ _ _ _ _ _ _ _ _ (c.in_ok-holds.ensures.meant fits) ∙ ap (watched _ _ _) (sym (c.in_default.ensures _ _));
   below = c.in_ok-holds.ensures.below ∙ c.loop-code.invariant.below;
   grew = still_less _ _ _ c.loop-code.invariant.grew c.in_ok-holds.ensures.grew;
 }
@@ -353,7 +354,7 @@ control::and_parts-loop-code-preserved g t c = record {
 pub control::and_parts-returns-clause-meant : goal.control::and_parts-returns-clause-meant
 control::and_parts-returns-clause-meant g t c fits =
     let past : length c.args.codes.now ≤ c.loop-code.code-index = c.loop-code-test.false in
-    c.loop-code.invariant.so_far fits ∙ Loops.and_end _ _ _ _ _ _ _ _ past ∙ gives _ _ _ _ _ _ _ c.bool_value-2.ensures refl
+    c.loop-code.invariant.so_far fits ∙ Loops.and_end _ _ _ _ _ _ _ _ past ∙ gives _ _ _ _ _ _ _ c.bool_value.ensures refl
 
 pub control::evaluate_or-returns-in_err-pay-clause-meant : goal.control::evaluate_or-returns-in_err-pay-clause-meant
 control::evaluate_or-returns-in_err-pay-clause-meant g t c fits =
@@ -371,18 +372,18 @@ control::or_parts-returns-in_err-holds-clause-meant g t c fits =
     hands_on _ _ c.in_err-holds.field-0.0 _ _ _ (err_from_is_err_and c.from_residual.result c.from_residual.ensures.1)
     (stops_eq _ _ _ _ _ _ (c.loop-code.invariant.so_far fits ∙ Loops.or_next _ _ _ _ _ _ _ _ _ here c.code-item.is) (choice_stops _ _ _ _ _ _ _ _ _ _ (c.in_err-holds.ensures.meant fits)))
 
-pub control::or_parts-returns-then-holds-clause-meant : goal.control::or_parts-returns-then-holds-clause-meant
-control::or_parts-returns-then-holds-clause-meant g t c fits =
+pub control::or_parts-returns-in-Some-clause-meant : goal.control::or_parts-returns-in-Some-clause-meant
+control::or_parts-returns-in-Some-clause-meant g t c fits =
     let here : c.loop-code.code-index < length c.args.codes.now = c.loop-code-test.true in
     c.loop-code.invariant.so_far fits ∙ Loops.or_next _ _ _ _ _ _ _ _ _ here c.code-item.is
-    ∙ chose_first _ _ _ _ _ _ _ _ _ _ (c.in_ok-holds.ensures.meant fits) c.if-holds.true ∙ gives _ _ _ _ _ _ _ c.bool_value.ensures refl
+    ∙ chose_by _ _ _ _ _ _ _ _ _ _ (c.in_ok-holds.ensures.meant fits) ∙ ap (watched _ _ _) (sym (c.in-Some.ensures _ _)) ∙ gives _ _ _ _ _ _ _ refl refl
 
 pub control::or_parts-loop-code-preserved : goal.control::or_parts-loop-code-preserved
 control::or_parts-loop-code-preserved g t c = record {
   so_far = λ fits.
       let here : c.loop-code.code-index < length c.args.codes.now = c.loop-code-test.true in
       c.loop-code.invariant.so_far fits ∙ Loops.or_next _ _ _ _ _ _ _ _ _ here c.code-item.is
-      ∙ chose_second _ _ _ _ _ _ _ _ _ _ (c.in_ok-holds.ensures.meant fits) c.if-holds.false;
+      ∙ chose_by _ _ _ _ _ _ _ _ _ _ (c.in_ok-holds.ensures.meant fits) ∙ ap (watched _ _ _) (sym (c.in_default.ensures _ _));
   below = c.in_ok-holds.ensures.below ∙ c.loop-code.invariant.below;
   grew = still_less _ _ _ c.loop-code.invariant.grew c.in_ok-holds.ensures.grew;
 }
@@ -390,7 +391,7 @@ control::or_parts-loop-code-preserved g t c = record {
 pub control::or_parts-returns-clause-meant : goal.control::or_parts-returns-clause-meant
 control::or_parts-returns-clause-meant g t c fits =
     let past : length c.args.codes.now ≤ c.loop-code.code-index = c.loop-code-test.false in
-    c.loop-code.invariant.so_far fits ∙ Loops.or_end _ _ _ _ _ _ _ _ past ∙ gives _ _ _ _ _ _ _ c.bool_value-2.ensures refl
+    c.loop-code.invariant.so_far fits ∙ Loops.or_end _ _ _ _ _ _ _ _ past ∙ gives _ _ _ _ _ _ _ c.bool_value.ensures refl
 
 pub scopes::evaluate_match_optional-returns-in_err-pay-clause-meant : goal.scopes::evaluate_match_optional-returns-in_err-pay-clause-meant
 scopes::evaluate_match_optional-returns-in_err-pay-clause-meant g t c fits = pay_fails _ _ c.in_err-pay.field-0.0 _ _ _ _ _ _ _ _ (err_from_is_err_and c.from_residual.result c.from_residual.ensures.1) (ap (watched _ _ _) (Lets.optional_at _ _ _ _ _ c.requires _ c.index-codes-0.is _ c.index-codes-1.is _ c.index-codes-2.is)) c.in_err-pay.ensures
