@@ -240,6 +240,11 @@ module _ (ts : List Tree) (i : ℕ) (d : Tree) (inside : i < length ts) (r : ℕ
 none_within : (r : ℕ) → nat_le 0 r ≡ true
 none_within r = grind (arith, nat_tests)
 
+-- before any field
+pub none_before : (more : Option Fields) → and_more (fields []) more ≡ more
+none_before None = refl
+none_before (Some fs) = refl
+
 empty_within : (r : ℕ) (xs : List (List ℕ × PlainType)) → Some (fields xs) ≡ and_more (fields xs) (fields_within r (Some NoField))
 empty_within r xs = rw (none_within r) (ap (λ (fs : Fields). Some fs) (sym (followed_none (fields xs))))
 

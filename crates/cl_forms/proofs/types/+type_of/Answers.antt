@@ -1,18 +1,22 @@
-use Rattle.std.proofs.Common.{◌≡◌, ◌+◌, ℕ, List, ◌∙◌, sym, ap, subst, Some, arith}
+use Rattle.std.proofs.Common.{◌≡◌, ◌+◌, ◌*◌, ◌<◌, ℕ, List, ◌∙◌, sym, ap, subst, Some, arith}
 use Rattle.std.specs.Prelude.{Option, IfOk}
-use Rattle.cl_types.specs.Types.{PlainType}
+use Rattle.std.proofs.lemmas.Result.{err_from_is_err_and}
+use Rattle.cl_types.specs.Types.{PlainType, Fields, fields}
 use Rattle.cl_sexpr.specs.declared.sexpr.Node.{Node}
 use Rattle.cl_sexpr.specs.Tree.{Tree, forest, pairs, tree_size}
 use Rattle.cl_sexpr.specs.View.{tree_of}
 use Rattle.cl_sexpr.specs.ViewFalls.{part_falls, pair_falls}
 use Rattle.cl_forms.specs.Shapes.{binding_of}
 use Rattle.cl_forms.specs.ItemView.{behind, first_atom}
-use Rattle.cl_forms.specs.WrittenTypes.{type_of, fields_of_pairs}
-use Rattle.cl_forms.specs.TypeRoom.{within, list_by, field_within, fields_within}
+use Rattle.cl_forms.specs.WrittenTypes.{type_of, fields_of, fields_of_pairs}
+use Rattle.cl_forms.specs.TypeRoom.{within, list_by, and_more, field_within, fields_within}
 use Rattle.cl_forms.specs.declared.type_word.TypeWord.{TypeWord}
 use Rattle.cl_forms.specs.declared.type_word.TypeWord.TheVariants.{Tuple}
-use Rattle.cl_forms.proofs.TypeSteps.{no_field, one_field, all_fields, no_part, one_part, all_parts, within_zero, type_of_list, pairs_made, list_made, optional_made, response_made, tuple_made}
+use Rattle.cl_forms.proofs.TypeSteps.{none_before, no_field, one_field, all_fields, no_part, one_part, all_parts, within_zero, type_of_list, pairs_made, list_made, optional_made, response_made, tuple_made}
 use Rattle.cl_forms.proofs.types.+type_of.Goals as goal
+
+one_below : (n t : ℕ) → n + 2 ≡ t → n + 1 < t
+one_below n t e = omega (arith, e)
 
 pub fields_of-returns-in-None : goal.fields_of-returns-in-None
 fields_of-returns-in-None t c =
@@ -94,3 +98,28 @@ response_of-returns-in_ok-bad-in-Some t c =
     subst (λ (z : Option PlainType). IfOk c.response_type.result (λ o. o ≡ z))
     (response_made c.args.parts.now c.in-Some.good.now c.in-Some.bad.now c.in_ok-good-in-Some.good c.in_ok-bad-in-Some.bad c.args.room c.in-Some.ensures c.in_ok-good-in-Some.ensures c.in_ok-bad-in-Some.ensures)
     c.response_type.ensures
+
+pub fields_of-loop-part-init : goal.fields_of-loop-part-init
+fields_of-loop-part-init t c =
+    let whole : Option Fields = fields_within c.args.room (fields_of (forest c.args.parts.now)) in
+    ap (λ (xs : List (List ℕ × PlainType)). and_more (fields xs) whole) c.new-list.ensures.items ∙ none_before whole
+
+pub fields_of_pairs-loop-part-init : goal.fields_of_pairs-loop-part-init
+fields_of_pairs-loop-part-init t c =
+    let whole : Option Fields = fields_within c.args.room (fields_of_pairs (pairs c.args.parts.now)) in
+    ap (λ (xs : List (List ℕ × PlainType)). and_more (fields xs) whole) c.new-list.ensures.items ∙ none_before whole
+
+pub fields_of-returns-in_err-field : goal.fields_of-returns-in_err-field
+fields_of-returns-in_err-field t c = let failed = err_from_is_err_and c.from_residual.result c.from_residual.ensures.1 in rw failed.1 tt
+
+pub fields_of-returns-in_err-push-in-Some : goal.fields_of-returns-in_err-push-in-Some
+fields_of-returns-in_err-push-in-Some t c = let failed = err_from_is_err_and c.from_residual-in_err-push-in-Some.result c.from_residual-in_err-push-in-Some.ensures.1 in rw failed.1 tt
+
+pub fields_of_pairs-returns-in_err-field : goal.fields_of_pairs-returns-in_err-field
+fields_of_pairs-returns-in_err-field t c = let failed = err_from_is_err_and c.from_residual.result c.from_residual.ensures.1 in rw failed.1 tt
+
+pub fields_of_pairs-returns-in_err-push-in-Some : goal.fields_of_pairs-returns-in_err-push-in-Some
+fields_of_pairs-returns-in_err-push-in-Some t c = let failed = err_from_is_err_and c.from_residual-in_err-push-in-Some.result c.from_residual-in_err-push-in-Some.ensures.1 in rw failed.1 tt
+
+pub field_in-type_of-requires : goal.field_in-type_of-requires
+field_in-type_of-requires t c = (one_below (4 * tree_size c.args.pair.now.1) t c.decreases, tt)
