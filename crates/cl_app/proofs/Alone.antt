@@ -3,12 +3,12 @@ use Rattle.std.proofs.Common.{◌≡◌, ℕ, List, Bool, Option, Some, Result, 
 use Rattle.cl_c32.specs.Address.{AddressParts}
 use Rattle.cl_text.specs.Parsed.{Reading}
 use Rattle.cl_values.specs.Tree.{Tree}
-use Rattle.cl_app.specs.declared.pieces.Reply.{Reply}
-use Rattle.cl_app.specs.declared.pieces.Stop.{Stop}
-use Rattle.cl_app.specs.Answer.{IsAnswerAlone}
+use Rattle.cl_entries.specs.declared.pieces.Reply.{Reply}
+use Rattle.cl_entries.specs.declared.pieces.Stop.{Stop}
+use Rattle.cl_replies.specs.Answer.{IsAnswerAlone}
 use Rattle.cl_words.specs.Argument.{Arguments, Spell}
-use Rattle.cl_app.specs.Reply.{answer_of}
-use Rattle.cl_app.specs.Spelling.{Answer, no_value_answer}
+use Rattle.cl_entries.specs.Reply.{answer_of, Answer}
+use Rattle.cl_replies.specs.Spelling.{no_value_answer}
 use Rattle.cl_words.specs.Words.{Command, Call, Run, Check}
 use Rattle.cl_app.proofs.Once.{OneOutcome, spell_same}
 

@@ -27,19 +27,19 @@ use Rattle.cl_tx.specs.Nodes.{NodeSeen}
 use Rattle.cl_tx.specs.Step.{told_of}
 use Rattle.cl_report.specs.Lines.{report_from}
 use Rattle.cl_lines.specs.StateLines.{IsStateText}
-use Rattle.cl_app.specs.declared.pieces.Reply.{Reply}
+use Rattle.cl_entries.specs.declared.pieces.Reply.{Reply}
 use Rattle.cl_words.specs.declared.sources.Source.{Source}
 use Rattle.cl_words.specs.Words.{Command, Call, Run, Check, Value, Wire, Gen}
 use Rattle.cl_words.specs.Argument.{Arguments, before, from_word, Spell}
-use Rattle.cl_app.specs.Spelling.{Answer, wire_answer}
-use Rattle.cl_app.specs.Called.{deployment, call, called_answer, IsCalled}
-use Rattle.cl_app.specs.Ran.{IsStatePart, IsRun, IsRunOf, IsRan, IsRanUnder, IsRunAnswer}
-use Rattle.cl_app.specs.Answer.{IsArgumentsAnswer, IsCallAnswer, IsAnswerTo, arguments_named}
-use Rattle.cl_app.specs.Checked.{IsAnswerUnder, IsCheckAnswer, IsReport, IsSourcesAnswer, Sources, accepted_answer, refused_answer, sources_under}
-use Rattle.cl_app.specs.FileAnswers.{IsAnswerByLength, IsFileAnswer, is_long}
-use Rattle.cl_app.specs.Reply.{bytes_of, Completes}
-use Rattle.cl_app.specs.Top.{IsAnswer, AnswersPart, AsksPart}
-use Rattle.cl_app.proofs.Counted.{generated_same}
+use Rattle.cl_entries.specs.Reply.{Answer, bytes_of, Completes}
+use Rattle.cl_replies.specs.Spelling.{wire_answer}
+use Rattle.cl_replies.specs.Called.{deployment, call, called_answer, IsCalled}
+use Rattle.cl_replies.specs.Ran.{IsStatePart, IsRun, IsRunOf, IsRan, IsRanUnder, IsRunAnswer}
+use Rattle.cl_replies.specs.Answer.{IsArgumentsAnswer, IsCallAnswer, IsAnswerTo, arguments_named, IsAnswer, AsksPart}
+use Rattle.cl_replies.specs.Checked.{IsAnswerUnder, IsCheckAnswer, IsReport, IsSourcesAnswer, Sources, accepted_answer, refused_answer, sources_under}
+use Rattle.cl_replies.specs.FileAnswers.{IsAnswerByLength, IsFileAnswer, is_long}
+use Rattle.cl_app.specs.Top.{AnswersPart}
+use Rattle.cl_replies.proofs.Counted.{generated_same}
 
 abbrev pub OneOutcome : Type 0
 OneOutcome = (text : List ℕ) (a b : Reading) → Parses text a → Parses text b → a ≡ b

@@ -20,17 +20,18 @@ use Rattle.cl_tx.specs.Laws.{OneRun}
 use Rattle.cl_tx.specs.Nodes.{NodeSeen}
 use Rattle.cl_tx.specs.Step.{AllStep, Commits, Runs, committed, first_node}
 use Rattle.cl_report.specs.Lines.{report_from}
-use Rattle.cl_app.specs.declared.pieces.Reply.{Reply}
-use Rattle.cl_app.specs.Answer.{IsAnswerTo}
-use Rattle.cl_app.specs.FileAnswers.{IsAnswerByLength, IsFileAnswer, is_long}
-use Rattle.cl_app.specs.Heard.{IsEventsByLength, IsFileEvents, IsEventsOf, IsEventsIn, IsEventsUnder, IsCommittedBy, HearsAll, HearsPart}
-use Rattle.cl_app.specs.Ran.{IsRan, IsRanUnder, IsRun, IsRunAnswer, IsRunOf}
-use Rattle.cl_app.specs.Reply.{bytes_of, Completes}
-use Rattle.cl_app.specs.Spelling.{Answer}
-use Rattle.cl_app.specs.Streams.{HearsWritten, RunReads, Stops, StopsHeld, StopsIn, StopsUnder, Untouched, WritesAll, WritesFirst}
-use Rattle.cl_app.specs.Top.{AnswersPart, IsAnswer}
+use Rattle.cl_entries.specs.declared.pieces.Reply.{Reply}
+use Rattle.cl_replies.specs.Answer.{IsAnswerTo, IsAnswer}
+use Rattle.cl_replies.specs.FileAnswers.{IsAnswerByLength, IsFileAnswer, is_long}
+use Rattle.cl_replies.specs.Heard.{IsEventsByLength, IsFileEvents, IsEventsOf, IsEventsIn, IsEventsUnder, IsCommittedBy, HearsAll, HearsPart}
+use Rattle.cl_replies.specs.Ran.{IsRan, IsRanUnder, IsRun, IsRunAnswer, IsRunOf}
+use Rattle.cl_entries.specs.Reply.{bytes_of, Completes, Answer}
+use Rattle.cl_app.specs.Written.{HearsWritten, RunReads, WritesAll}
+use Rattle.cl_replies.specs.Stops.{Stops, StopsHeld, StopsIn, StopsUnder}
+use Rattle.cl_entries.specs.Streams.{Untouched, WritesFirst}
+use Rattle.cl_app.specs.Top.{AnswersPart}
 use Rattle.cl_words.specs.Words.{Command, Run}
-use Rattle.cl_app.proofs.Telling.{committed_append, each_result, report_front, written_none}
+use Rattle.cl_entries.proofs.Telling.{committed_append, each_result, report_front, written_none}
 
 -- ---- so many first entries, and all
 

@@ -1,20 +1,10 @@
 -- What the top call promises, for what its files hold and its sink has written where they tell it.
-use Rattle.std.specs.Prelude.{◌≡◌, ◌≢◌, ℕ, List, Option, Some}
+use Rattle.std.specs.Prelude.{◌≡◌, ℕ, List, Option, Some}
 use Rattle.cl_ports.specs.Files.{Held}
 use Rattle.cl_ports.specs.Growth.{Grows, GrowsPart}
 use Rattle.cl_words.specs.Words.{Command}
-use Rattle.cl_app.specs.Spelling.{Answer}
-use Rattle.cl_app.specs.Answer.{IsAnswerAlone, IsAnswerTo, IsNamed}
-
--- where it is told what is held, this is the answer to the command, none standing for words that are not of the table
-pub record IsAnswer (command : Option Command) (held : Option Held) (answer : Answer) : Type 0 where
-  pub told : (files : Held) → held ≡ Some files → IsAnswerTo command files answer
-
--- a status that is the answer's own: neither a failed read or write nor want of memory
-pub record IsOwnStatus (status : ℕ) : Type 0 where
-  pub not_read : status ≢ 3
-  pub not_write : status ≢ 4
-  pub not_memory : status ≢ 9
+use Rattle.cl_entries.specs.Reply.{Answer}
+use Rattle.cl_replies.specs.Answer.{IsAnswer, IsAnswerAlone, IsAnswerTo}
 
 -- all bytes of the answer were written, and this is its status
 pub record Answers (command : Option Command) (held : Option Held) (before now : Option (List ℕ)) (status : ℕ) : Type 0 where
@@ -31,7 +21,3 @@ pub record AnswersAlone (command : Option Command) (before now : Option (List �
 -- a first part of the bytes of the answer was written
 pub record AnswersPart (command : Option Command) (held : Option Held) (before now : Option (List ℕ)) : Type 0 where
   pub told : (files : Held) (answer : Answer) → held ≡ Some files → IsAnswerTo command files answer → GrowsPart before now answer.bytes
-
--- a first part of the names of the words was asked for
-pub record AsksPart (command : Option Command) (held : Option Held) (before now : Option (List (List ℕ))) : Type 0 where
-  pub told : (files : Held) (names : List (List ℕ)) → held ≡ Some files → IsNamed command files names → GrowsPart before now names

@@ -2,24 +2,21 @@
 //! there is a reply.
 ghost use Rattle.std.specs.Prelude.{◌≡◌, ◌≢◌, ◌↔◌, ◌∷◌, [], None, Some, IfOk, IfErr, OnOk, option_map};
 ghost use Rattle.cl_ports.specs.Growth.{GrowsPart};
-ghost use Rattle.cl_app.specs.Answer.{IsAnswerAlone, usage_answer};
-ghost use Rattle.cl_app.specs.Called.{IsCalled};
-ghost use Rattle.cl_app.specs.Heard.{HearsAll};
+ghost use Rattle.cl_replies.specs.Answer.{IsAnswerAlone, usage_answer, IsAnswer, IsOwnStatus, AsksPart};
+ghost use Rattle.cl_replies.specs.Called.{IsCalled};
+ghost use Rattle.cl_replies.specs.Heard.{HearsAll};
 ghost use Rattle.cl_words.specs.Seen.{line_of};
 ghost use Rattle.cl_words.specs.Words.{Call, command_on, taken, texts};
-ghost use Rattle.cl_app.specs.Reply.{answer_of, Completes, CountsReadStop, CountsStop, CountsWriteStop, IsHeldAnswer};
-ghost use Rattle.cl_app.specs.Streams.{Stops};
-ghost use Rattle.cl_app.specs.Top.{IsAnswer, IsOwnStatus, AsksPart};
+ghost use Rattle.cl_entries.specs.Reply.{answer_of, Completes, CountsReadStop, CountsStop, CountsWriteStop};
+ghost use Rattle.cl_replies.specs.FileAnswers.{IsHeldAnswer};
+ghost use Rattle.cl_replies.specs.Stops.{Stops};
 
-use crate::bad_file::long_file;
-use crate::call::call_reply;
-use crate::check::check_words;
-use crate::generated::gen_reply;
-use crate::pieces::{Reply, Stop, fixed_line};
-use crate::run_words::run_words;
-use crate::spelling::{no_value, value_reply, wire_reply};
+use cl_entries::{Reply, Stop, fixed_line};
 use cl_listeners::{Listener, Listeners, events_told_in_turn};
 use cl_ports::{Files, ReadRefusal, Sink};
+use cl_replies::{
+    call_reply, check_words, gen_reply, long_file, no_value, run_words, value_reply, wire_reply,
+};
 use cl_text::one_outcome;
 use cl_types::Fault;
 use cl_values::Val;

@@ -4,13 +4,13 @@ ghost use Rattle.std.specs.List.{flat_map};
 ghost use Rattle.cl_ports.specs.Growth.{Rose, Grows, GrowsPart};
 ghost use Rattle.cl_ports.specs.Sink.{CountsWriteFault};
 ghost use Rattle.cl_words.specs.Words.{taken, texts};
-ghost use Rattle.cl_app.specs.Answer.{usage_answer};
-ghost use Rattle.cl_app.specs.Heard.{HearsAll, HearsPart};
-ghost use Rattle.cl_app.specs.Streams.{HearsWritten};
-ghost use Rattle.cl_app.specs.Top.{Answers, AnswersAlone, AnswersPart, AsksPart};
+ghost use Rattle.cl_replies.specs.Answer.{usage_answer, AsksPart};
+ghost use Rattle.cl_replies.specs.Heard.{HearsAll, HearsPart};
+ghost use Rattle.cl_app.specs.Written.{HearsWritten};
+ghost use Rattle.cl_app.specs.Top.{Answers, AnswersAlone, AnswersPart};
 
-use crate::pieces::Stop;
 use crate::reply::reply_to;
+use cl_entries::Stop;
 use cl_file::files_have_one_reading;
 use cl_lines::a_state_has_one_text;
 use cl_listeners::{Listener, Listeners, events_told_in_turn};

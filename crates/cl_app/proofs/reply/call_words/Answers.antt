@@ -1,5 +1,5 @@
 use Rattle.cl_text.specs.Parsed.{outcome_of}
-use Rattle.cl_app.specs.Reply.{answer_of}
+use Rattle.cl_entries.specs.Reply.{answer_of}
 use Rattle.cl_words.specs.Words.{texts}
 use Rattle.cl_app.proofs.Once.{asks_file}
 use Rattle.cl_app.proofs.Alone.{called_alone, refused_alone}

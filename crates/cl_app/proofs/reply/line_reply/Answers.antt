@@ -1,18 +1,19 @@
 use Rattle.std.proofs.Common.{◌≡◌, ℕ, List, Option, IfErr, IfOk, OnOk, inl, refl, subst}
 use Rattle.std.specs.Prelude.{None, Some, option_map}
-use Rattle.cl_app.specs.Answer.{IsAnswerAlone, IsWireAnswer}
+use Rattle.cl_replies.specs.Answer.{IsAnswerAlone, IsWireAnswer, IsAnswer}
 use Rattle.cl_words.specs.Seen.{line_of}
-use Rattle.cl_app.specs.Heard.{HearsAll}
+use Rattle.cl_replies.specs.Heard.{HearsAll}
 use Rattle.cl_words.specs.Words.{Command, Call, Run, Check, Value, Wire, Gen, texts, command_on}
-use Rattle.cl_app.specs.Reply.{answer_of, Completes}
-use Rattle.cl_app.specs.Spelling.{value_answer}
-use Rattle.cl_app.specs.Streams.{Stops}
-use Rattle.cl_app.specs.Top.{IsAnswer}
+use Rattle.cl_entries.specs.Reply.{answer_of, Completes}
+use Rattle.cl_replies.specs.Spelling.{value_answer}
+use Rattle.cl_replies.specs.Stops.{Stops}
 use Rattle.cl_words.proofs.WordSources.{check_has_sources}
-use Rattle.cl_app.proofs.HeardSo.{nobody_told, ok_so}
-use Rattle.cl_app.proofs.Spellings.{wire_answers}
+use Rattle.cl_app.proofs.Heard.{nobody_told, ok_so}
+use Rattle.cl_replies.proofs.Spellings.{wire_answers}
 use Rattle.cl_app.proofs.Alone.{check_alone}
-use Rattle.cl_app.proofs.Replied.{completes_command, completes_now, completes_same, counts_read, counts_unwritten, err_so, ok_completes_by}
+use Rattle.cl_app.proofs.Completed.{completes_command, completes_same, counts_read, counts_unwritten}
+use Rattle.cl_replies.proofs.Replied.{completes_now, ok_completes_by}
+use Rattle.cl_entries.proofs.Results.{err_so}
 use Rattle.cl_app.proofs.reply.line_reply.Goals as goal
 
 pub check_words-requires : goal.check_words-requires

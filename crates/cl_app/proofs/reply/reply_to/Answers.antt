@@ -1,14 +1,13 @@
 use Rattle.std.proofs.Common.{◌≡◌, ◌≢◌, inl, refl, ap, subst}
 use Rattle.std.specs.Prelude.{◌↔◌, IfErr, IfOk, OnOk, None, Option}
 use Rattle.cl_ports.proofs.Grown.{part_none}
-use Rattle.cl_app.specs.Heard.{HearsAll}
-use Rattle.cl_app.specs.Answer.{IsAnswerAlone}
-use Rattle.cl_app.specs.Reply.{Completes}
-use Rattle.cl_app.specs.Streams.{Stops}
-use Rattle.cl_app.specs.Top.{AsksPart, IsAnswer, IsOwnStatus}
+use Rattle.cl_replies.specs.Heard.{HearsAll}
+use Rattle.cl_replies.specs.Answer.{IsAnswerAlone, AsksPart, IsAnswer, IsOwnStatus}
+use Rattle.cl_entries.specs.Reply.{Completes}
+use Rattle.cl_replies.specs.Stops.{Stops}
 use Rattle.cl_words.specs.Words.{Command, command_on, taken, texts}
-use Rattle.cl_app.specs.declared.pieces.Stop.TheVariants.{ReadFailed}
-use Rattle.cl_app.proofs.Replied.{err_so}
+use Rattle.cl_entries.specs.declared.pieces.Stop.TheVariants.{ReadFailed}
+use Rattle.cl_entries.proofs.Results.{err_so}
 use Rattle.cl_app.proofs.reply.reply_to.Goals as goal
 
 pub returns-clause-answer : goal.returns-clause-answer

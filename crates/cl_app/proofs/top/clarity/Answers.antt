@@ -1,11 +1,11 @@
 -- Whatever a write does, what was written is a first part of the one answer, and the events of what was written were told.
 use Rattle.std.proofs.Common.{ℕ, List, Vec, Global, ◌∙◌, sym, subst, refl, inl, inr}
 use Rattle.cl_ports.specs.Growth.{Grows, GrowsPart}
-use Rattle.cl_app.specs.Reply.{bytes_of}
+use Rattle.cl_entries.specs.Reply.{bytes_of}
 use Rattle.cl_words.specs.Words.{taken, texts}
-use Rattle.cl_app.proofs.HeardSo.{all_is_part}
+use Rattle.cl_app.proofs.Heard.{all_is_part}
 use Rattle.cl_app.proofs.Once.{part_of_answer}
-use Rattle.cl_app.proofs.Replied.{answers_alone, answers_whole, ok_gives}
+use Rattle.cl_app.proofs.Completed.{answers_alone, answers_whole, ok_gives}
 use Rattle.cl_app.proofs.Stopped.{all_told, stops_heard, stops_part, stops_told}
 use Rattle.cl_app.proofs.top.clarity.Goals as goal
 

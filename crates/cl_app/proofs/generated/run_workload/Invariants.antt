@@ -1,7 +1,0 @@
-use Rattle.cl_app.specs.Generated.{IsCounted}
-use Rattle.cl_app.proofs.generated.run_workload.Given as goal
-
-abbrev pub invariant-loop : goal.invariant-loop
-invariant-loop l = record {
-  counted : IsCounted l.fn.seed l.counter l.tally l.draws l.node;
-}

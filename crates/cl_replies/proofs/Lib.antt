@@ -1,0 +1,9 @@
+pub mod Both
+pub mod Counted
+pub mod Called
+pub mod Judged
+pub mod ReadSo
+pub mod HeardSo
+pub mod Replied
+pub mod RunSo
+pub mod Spellings

@@ -1,0 +1,19 @@
+use Rattle.std.proofs.Common.{ℕ, ◌<◌, ◌^◌, List, [], sym, subst, ◌∙◌, arith}
+use Rattle.cl_c32.specs.declared.principal.Principal.{Principal}
+use Rattle.cl_events.specs.State.{genesis}
+use Rattle.cl_file.specs.Files.{total, AreOnce}
+use Rattle.cl_replies.proofs.call.report_from_genesis.Goals as goal
+
+pub genesis-requires : goal.genesis-requires
+genesis-requires c =
+    let few : total [] < 2 ^ 128 = omega arith in
+    record {
+      once = subst (AreOnce []) (sym c.new-holders.ensures.items) tt;
+      total = subst (λ (holders : List (Principal × ℕ)). total holders < 2 ^ 128) (sym c.new-holders.ensures.items) few;
+    }
+
+pub report_of-reply-requires : goal.report_of-reply-requires
+report_of-reply-requires c = record {
+  first = c.in_ok-node.ensures.first ∙ (λ i. record { state = genesis (c.new-holders.ensures.items i); contracts = []; height = 0; costs = c.builtin-costs.ensures i });
+  rising = c.requires;
+}

@@ -1,0 +1,14 @@
+pub mod Generated
+pub mod Spelling
+pub mod FileAnswers
+pub mod Checked
+pub mod Called
+pub mod Both
+pub mod Ran
+pub mod Heard
+pub mod Stops
+pub mod Answer
+pub mod Checking
+pub mod Reading
+pub mod CheckReply
+pub mod RunReply
