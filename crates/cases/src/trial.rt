@@ -127,22 +127,59 @@ fn are_known(value: &Value) -> bool {
     }
 }
 
-/// Runs the case.
-pub(crate) fn run(rt: &HostRuntime, case: Case) -> Result<Ended, BadCase> {
+// Whether the case wants what was answered.
+fn is_wanted(
+    rt: &HostRuntime,
+    case: Case,
+    status: u8,
+    out: &MemorySink,
+    files: &MemoryFiles,
+) -> Result<bool, BadCase> {
+    Ok(
+        is_status(case, status)?
+            && is_output(rt, case, out.bytes())?
+            && is_asked(rt.alloc(), case, files.asked())?,
+    )
+}
+
+// The status of the words over these files and this sink, and whether listeners heard what the
+// case wants.
+fn told(
+    rt: &HostRuntime,
+    case: Case,
+    words: &[String],
+    files: &mut MemoryFiles,
+    out: &mut MemorySink,
+) -> Result<(u8, bool), BadCase> {
     let alloc = rt.alloc();
-    let words = words(rt, case.get("words"))?;
-    let mut files = files_of(rt, case)?;
-    let mut out = sink_of(alloc, case)?;
     let mut listeners = recorders(alloc, case.get("failing_hearings"))?;
-    let status = clarity(alloc, &words, &mut files, &mut out, &mut listeners);
-    let is_as_wanted = is_status(case, status)?
-        && is_output(rt, case, out.bytes())?
-        && is_asked(alloc, case, files.asked())?
-        && is_heard(rt, &listeners, case.get("heard"), case.get("deaf"))?;
+    let status = clarity(alloc, words, files, out, &mut listeners);
+    let heard = is_heard(rt, &listeners, case.get("heard"), case.get("deaf"))?;
+    Ok((status, heard))
+}
+
+// Runs the case over its files.
+fn run_over(
+    rt: &HostRuntime,
+    case: Case,
+    words: &[String],
+    files: MemoryFiles,
+) -> Result<Ended, BadCase> {
+    let mut files = files;
+    let mut out = sink_of(rt.alloc(), case)?;
+    let (status, heard) = told(rt, case, words, &mut files, &mut out)?;
+    let is_as_wanted = heard && is_wanted(rt, case, status, &out, &files)?;
     Ok(Ended {
         is_as_wanted,
         status,
         out,
         files,
     })
+}
+
+/// Runs the case.
+pub(crate) fn run(rt: &HostRuntime, case: Case) -> Result<Ended, BadCase> {
+    let words = words(rt, case.get("words"))?;
+    let files = files_of(rt, case)?;
+    run_over(rt, case, &words, files)
 }

@@ -2,17 +2,23 @@
 //! of the text.
 use cl_forms::{Form, forms};
 use cl_order::order;
-use cl_sexpr::read;
+use cl_sexpr::{Sexpr, read};
 use std::alloc::Global;
 use std::test::Fail;
 
+// The items of a text, if it breaks no rule.
+fn items_of(alloc: Global, text: &[u8]) -> Option<Vec<Sexpr>> {
+    match read(alloc, text) {
+        Ok(items) => Some(items),
+        Err(_) => None,
+    }
+}
+
 // The forms of a text, if it breaks no rule.
 fn forms_of(alloc: Global, text: &[u8]) -> Option<Vec<Form>> {
-    match read(alloc, text) {
-        Ok(items) => match forms(alloc, items) {
-            Ok(list) => Some(list),
-            Err(_) => None,
-        },
+    let items = items_of(alloc, text)?;
+    match forms(alloc, items) {
+        Ok(list) => Some(list),
         Err(_) => None,
     }
 }
