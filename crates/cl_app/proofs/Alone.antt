@@ -1,5 +1,5 @@
 -- Answers that need no file.
-use Rattle.std.proofs.Common.{◌≡◌, ℕ, List, Bool, Option, Some, Result, Ok, Err, IfOk, refl, subst}
+use Rattle.std.proofs.Common.{◌≡◌, ℕ, List, Some, Result, Ok, Err, IfOk, refl, subst}
 use Rattle.cl_c32.specs.Address.{AddressParts}
 use Rattle.cl_text.specs.Parsed.{Reading}
 use Rattle.cl_values.specs.Tree.{Tree}
@@ -9,20 +9,8 @@ use Rattle.cl_replies.specs.Answer.{IsAnswerAlone}
 use Rattle.cl_words.specs.Argument.{Arguments, Spell}
 use Rattle.cl_entries.specs.Reply.{answer_of, Answer}
 use Rattle.cl_replies.specs.Spelling.{no_value_answer}
-use Rattle.cl_words.specs.Words.{Command, Call, Run, Check}
+use Rattle.cl_words.specs.Words.{Call, Check}
 use Rattle.cl_app.proofs.Once.{OneOutcome, spell_same}
-
--- a reply to a command by another word for it
-pub alone_by : (command same : Option Command) (r : Result Reply Stop) → same ≡ command → IfOk r (λ reply. IsAnswerAlone same (answer_of reply)) → IfOk r (λ reply. IsAnswerAlone command (answer_of reply))
-alone_by command same r is said = subst (λ (c : Option Command). IfOk r (λ reply. IsAnswerAlone c (answer_of reply))) is said
-
-pub answer_alone : (command same : Option Command) (answer : Answer) → same ≡ command → IsAnswerAlone same answer → IsAnswerAlone command answer
-answer_alone command same answer is said = subst (λ (c : Option Command). IsAnswerAlone c answer) is said
-
--- nothing is said of commands that ask for files
-pub run_alone : (costs file : List ℕ) (state : Bool) (r : Result Reply Stop) → IfOk r (λ reply. IsAnswerAlone (Some (Run costs file state)) (answer_of reply))
-run_alone costs file state (Ok reply) = tt
-run_alone costs file state (Err stop) = tt
 
 pub check_alone : (costs : List ℕ) (address : AddressParts) (paths : List (List ℕ)) (r : Result Reply Stop) → IfOk r (λ reply. IsAnswerAlone (Some (Check costs address paths)) (answer_of reply))
 check_alone costs address paths (Ok reply) = tt

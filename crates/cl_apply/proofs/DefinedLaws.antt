@@ -1,12 +1,12 @@
 -- Where natives are defined.
 use Rattle.std.proofs.Common.{◌≡◌, ℕ, ◌+◌, ◌≤◌, ◌<◌, ◌&&◌, nat_le, max, get_or, take, drop, Bool, true, false, List, [], ◌∷◌, ◌++◌, length, refl, ap, sym, ◌∙◌, arith, if◌then◌else◌}
 use Rattle.std.proofs.lemmas.Bool.Decides.{nat_tests}
-use Rattle.std.proofs.lemmas.List.{length-append, take_more, take_all, take-append-drop}
+use Rattle.std.proofs.lemmas.List.{take_more, take-append-drop}
 use Rattle.sha2.specs.Sha256.{sha256}
 use Rattle.sha2.specs.Sha512.{sha512, sha512_256}
 use Rattle.cl_values.proofs.Digests.{hash_256, hash_512, hash_512_256}
 use Rattle.cl_values.specs.Natives.{listed}
-use Rattle.cl_values.specs.Tree.{Tree, ListV, BuffV, AsciiV, Utf8V, items_of, depth_of, items_depth}
+use Rattle.cl_values.specs.Tree.{Tree, ListV, BuffV, Utf8V, items_of, depth_of, items_depth}
 use Rattle.cl_values.specs.Wire.{size_of}
 use Rattle.cl_values.specs.Computed.{Gives, Undefined, is_within, is_defined, kept}
 use Rattle.cl_values.specs.Sequences.{append, concat}
@@ -35,7 +35,7 @@ pub both_by : (a b : Bool) → a ≡ true → (a && b) ≡ b
 both_by true b h = refl
 both_by false b h = absurd cc
 
-joined_by : (w : Tree) (sizes : ℕ) → depth_of w ≤ 32 → size_of w + 5 ≡ sizes → nat_le sizes 1048581 ≡ is_defined (kept (Gives w))
+pub joined_by : (w : Tree) (sizes : ℕ) → depth_of w ≤ 32 → size_of w + 5 ≡ sizes → nat_le sizes 1048581 ≡ is_defined (kept (Gives w))
 joined_by w sizes d s =
     let deep : nat_le (depth_of w) 32 ≡ true = grind (arith, nat_tests, d) in
     let same : nat_le sizes 1048581 ≡ nat_le (size_of w) 1048576 = grind (arith, nat_tests, s) in
@@ -47,12 +47,6 @@ concat_lists_is xs ys d e =
     let deep = joined_depth xs ys (xs ++ ys) refl in
     joined_by (ListV (items_of (xs ++ ys))) (size_of (ListV (items_of xs)) + size_of (ListV (items_of ys))) (omega (arith, deep, d, e)) (joined_size xs ys (xs ++ ys) refl)
     ∙ ap (λ c. is_defined (kept c)) (sym (joined_value xs ys (xs ++ ys) refl))
-
-pub concat_buffs_is : (xs ys : List ℕ) → nat_le (size_of (BuffV xs) + size_of (BuffV ys)) 1048581 ≡ is_defined (kept (concat (BuffV xs ∷ BuffV ys ∷ [])))
-concat_buffs_is xs ys = joined_by (BuffV (xs ++ ys)) (size_of (BuffV xs) + size_of (BuffV ys)) (omega arith) (omega (arith, length-append xs ys))
-
-pub concat_texts_is : (xs ys : List ℕ) → nat_le (size_of (AsciiV xs) + size_of (AsciiV ys)) 1048581 ≡ is_defined (kept (concat (AsciiV xs ∷ AsciiV ys ∷ [])))
-concat_texts_is xs ys = joined_by (AsciiV (xs ++ ys)) (size_of (AsciiV xs) + size_of (AsciiV ys)) (omega arith) (omega (arith, length-append xs ys))
 
 pub concat_characters_is : (xs ys : List ℕ) → nat_le (size_of (Utf8V xs) + size_of (Utf8V ys)) 1048581 ≡ is_defined (kept (concat (Utf8V xs ∷ Utf8V ys ∷ [])))
 concat_characters_is xs ys = joined_by (Utf8V (xs ++ ys)) (size_of (Utf8V xs) + size_of (Utf8V ys)) (omega arith) (characters_size xs ys (xs ++ ys) refl)
@@ -82,9 +76,3 @@ lists_more vs i size depth v h e s d =
 
 pub lists_not : (vs : List Tree) (i : ℕ) → 1048576 < size_of (ListV (items_of (take i vs))) → is_defined (kept (listed vs)) ≡ false
 lists_not vs i h = ap is_defined (too_large (take i vs) (drop i vs) vs (take-append-drop i vs) h)
-
-pub lists_is : (vs : List Tree) (i size depth : ℕ) → length vs ≤ i → size ≡ size_of (ListV (items_of (take i vs))) → depth ≡ items_depth (items_of (take i vs)) + 1
-    → (nat_le depth 32 && nat_le size 1048576) ≡ is_defined (kept (listed vs))
-lists_is vs i size depth h s d =
-    let all : take i vs ≡ vs = take_all i vs h in
-    fits_is (ListV (items_of vs)) size depth (s ∙ ap (λ l. size_of (ListV (items_of l))) all) (d ∙ ap (λ l. items_depth (items_of l) + 1) all ∙ omega arith)

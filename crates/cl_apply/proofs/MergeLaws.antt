@@ -41,14 +41,6 @@ merged_depth (Entry k v es) fs = by (is_among k fs) (merged_depth es fs)
     by true rest = omega (arith, rest)
     by false rest = let more = placed_depth k v (merged es fs) in omega (arith, rest, more)
 
-pub added_le : (es fs : Entries) → added_size es fs ≤ entries_size es
-added_le NoEntry fs = omega arith
-added_le (Entry k v es) fs = by (is_among k fs) (added_le es fs)
-  where
-    by : (b : Bool) → added_size es fs ≤ entries_size es → (if b then 0 else (1 + length k + size_of v)) + added_size es fs ≤ entries_size (Entry k v es)
-    by true rest = omega (arith, rest)
-    by false rest = omega (arith, rest)
-
 -- a merged tuple is as deep as one of the two at most
 pub merges_is : (es fs : Entries) (added size : ℕ) → added ≡ added_size es fs → size ≡ size_of (TupleV fs) → depth_of (TupleV es) ≤ 32 → depth_of (TupleV fs) ≤ 32
     → nat_le (added + size) 1048576 ≡ is_defined (kept (merge (TupleV es ∷ TupleV fs ∷ [])))

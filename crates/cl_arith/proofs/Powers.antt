@@ -59,10 +59,6 @@ last_step b e p s left under done =
     let one : left ≡ 1 = omega (arith, under.positive) in
     sym under.product ∙ ap (λ n. p * n) (ap (λ n. s ^ n) one ∙ pow-one s)
 
-factor_positive : (p s : ℕ) → 0 < p * s → 0 < s
-factor_positive p zero h = absurd (omega arith)
-factor_positive p (suc s) h = omega arith
-
 -- where the next product or square is too large, so is the power
 pub product_within : (b e p s left : ℕ) → IsUnderway b e p s left → b ^ e < 2 ^ 128 → p * s < 2 ^ 128
 product_within b e p s left under small =

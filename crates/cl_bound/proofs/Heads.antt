@@ -51,10 +51,6 @@ pub when_not : (b : Bool) (r : Rule) (rs : List Rule) → when b r rs ≡ [] →
 when_not true r rs h = absurd cc
 when_not false r rs h = refl
 
-pub when_rest : (b : Bool) (r : Rule) (rs : List Rule) → when b r rs ≡ [] → rs ≡ []
-when_rest true r rs h = absurd cc
-when_rest false r rs h = h
-
 not_not : (b : Bool) → not b ≡ false → b ≡ true
 not_not true h = refl
 not_not false h = absurd cc

@@ -1,8 +1,8 @@
 -- The lines of the functions, in the order of the text.
-use Rattle.std.proofs.Common.{◌≡◌, ℕ, zero, suc, ◌+◌, ◌<◌, ◌≤◌, List, [], ◌∷◌, ◌++◌, length, map, drop, get_or, filter_map, Contains, Option, Some, None, arith, append_assoc, refl, ap, sym, subst, ◌∙◌}
+use Rattle.std.proofs.Common.{◌≡◌, ℕ, zero, suc, ◌+◌, ◌<◌, List, [], ◌∷◌, ◌++◌, length, map, drop, get_or, filter_map, Contains, Option, Some, None, arith, append_assoc, refl, ap, sym, subst, ◌∙◌}
 use Rattle.std.specs.Prelude.{option_map}
 use Rattle.std.specs.List.{cons_option}
-use Rattle.std.proofs.lemmas.List.{drop_all, length-map}
+use Rattle.std.proofs.lemmas.List.{length-map}
 use Rattle.std.proofs.lemmas.List.Elements.{Contains-get_or}
 use Rattle.cl_shapes.specs.declared.cost.Cost5.{Cost5}
 use Rattle.cl_shapes.specs.Costs.{first_above}
@@ -65,11 +65,3 @@ module _ (checked : Checked) (table : CostTable) (D : Defined) where
 
   pub line_past : (i : ℕ) (lines more : List (List ℕ × Cost5)) → more ≡ lines → lines ++ lines_of (drop (i + 1) checked.definitions.items) ≡ lines_of checked.definitions.items → more ++ lines_of (drop (i + 1) checked.definitions.items) ≡ lines_of checked.definitions.items
   line_past i lines more is so_far = ap (λ (ls : List (List ℕ × Cost5)). ls ++ lines_of (drop (i + 1) checked.definitions.items)) is ∙ so_far
-
-  pub line_last : (i : ℕ) (lines : List (List ℕ × Cost5)) → length checked.definitions.items ≤ i → lines ++ lines_of (drop i checked.definitions.items) ≡ lines_of checked.definitions.items → lines ≡ lines_of checked.definitions.items
-  line_last i lines far so_far =
-      sym (no_more lines) ∙ ap (λ (ds : List Definition). lines ++ lines_of ds) (sym (drop_all i checked.definitions.items far)) ∙ so_far
-    where
-      no_more : {A : Type 0} (xs : List A) → xs ++ [] ≡ xs
-      no_more [] = refl
-      no_more (x ∷ xs) = ap (λ ys. x ∷ ys) (no_more xs)

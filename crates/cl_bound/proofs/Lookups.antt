@@ -107,10 +107,6 @@ module _ (c : Prices) (G : Context) (p : Principal) (x : List ℕ) (shows : Show
   own_is : (b : Bool) → eq-value.it p c.principal ≡ b → same_principal p G.principal ≡ b
   own_is b h = ap (same_principal p) (sym shows.principal) ∙ sym (equal_so p c.principal) ∙ h
 
-  pub own_sum : eq-value.it p c.principal ≡ true → told zero_cost ≡ told (cost_under (function_of c.costs) (called_at (there_or_not (target_at G p)) x))
-  unfolding charged
-  own_sum h = ap (λ (b : Bool). charged b (known_at p G.deployed)) (sym (own_is true h))
-
   deployed_is : (o : Option ContractBounds) → o ≡ lookup (eq-value.it p) c.deployed.now.contracts.entries → ShowsKnown (function_of c.costs) (known_at p G.deployed) o
   deployed_is o h = subst (ShowsKnown (function_of c.costs) (known_at p G.deployed)) (sym (h ∙ under_principal p c.deployed.now.contracts.entries)) (shows.deployed p)
 

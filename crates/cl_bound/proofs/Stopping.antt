@@ -1,5 +1,5 @@
 -- The first bound above the limit, place by place.
-use Rattle.std.proofs.Common.{◌≡◌, ℕ, ◌+◌, ◌<◌, ◌≤◌, List, ◌∷◌, length, drop, get_or, slice_get, Option, Some, None, Result, Ok, Err, refl, ap, sym, ◌∙◌}
+use Rattle.std.proofs.Common.{◌≡◌, ℕ, ◌+◌, ◌<◌, ◌≤◌, List, ◌∷◌, length, drop, get_or, slice_get, Option, Some, None, refl, ap, sym, ◌∙◌}
 use Rattle.std.specs.Prelude.{option_map}
 use Rattle.std.specs.List.{cons_option}
 use Rattle.std.proofs.lemmas.List.{drop_all}
@@ -7,7 +7,7 @@ use Rattle.std.proofs.lemmas.Option.{slice_get-map}
 use Rattle.cl_sexpr.specs.declared.sexpr.Span.{Span}
 use Rattle.cl_shapes.specs.declared.cost.Cost5.{Cost5}
 use Rattle.cl_shapes.specs.declared.cost.Dimension.{Dimension}
-use Rattle.cl_shapes.specs.Costs.{counted, first_above}
+use Rattle.cl_shapes.specs.Costs.{first_above}
 use Rattle.cl_forms.specs.Forms.{Form}
 use Rattle.cl_code.specs.Definitions.{form_defined}
 use Rattle.cl_code.specs.declared.definition.Definition.{Definition}
@@ -22,22 +22,6 @@ use Rattle.cl_bound.specs.declared.prices.Application.{Application}
 use Rattle.cl_sums.specs.Sums.{told}
 use Rattle.cl_bound.specs.Seen.{application_of}
 use Rattle.cl_bound.proofs.Adding.{rest_of}
-
--- ---- one sum
-
-pub counted_within : (a : Cost5) (c : Cost5) → Ok c ≡ counted a → None ≡ first_above most_cost a
-counted_within a c h = by (first_above most_cost a) h
-  where
-    by : (o : Option Dimension) → Ok c ≡ elim o as (λ _. Result Cost5 Dimension) [ None ↦ Ok a | Some e ↦ Err e ] → None ≡ o
-    by None h = refl
-    by (Some e) h = absurd cc
-
-pub counted_above : (a : Cost5) (d : Dimension) → Err d ≡ counted a → Some d ≡ first_above most_cost a
-counted_above a d h = by (first_above most_cost a) h
-  where
-    by : (o : Option Dimension) → Err d ≡ elim o as (λ _. Result Cost5 Dimension) [ None ↦ Ok a | Some e ↦ Err e ] → Some d ≡ o
-    by None h = absurd cc
-    by (Some e) h = ap (λ (x : Dimension). Some x) (let same : d ≡ e = cc in same)
 
 -- ---- one function
 

@@ -35,12 +35,6 @@ dropped i [] x h = absurd cc
 dropped zero (y ∷ ys) x h = let same : y ≡ x = cc in ap (λ z. z ∷ ys) same
 dropped (suc i) (y ∷ ys) x h = dropped i ys x h
 
-take_all : {A : Type 0} (xs : List A) (k : ℕ) → length xs ≤ k → take k xs ≡ xs
-take_all [] zero h = refl
-take_all [] (suc k) h = refl
-take_all (x ∷ xs) zero h = absurd (omega arith)
-take_all (x ∷ xs) (suc k) h = ap (λ ys. x ∷ ys) (take_all xs k (omega arith))
-
 drop_all : {A : Type 0} (xs : List A) (k : ℕ) → length xs ≤ k → drop k xs ≡ []
 drop_all [] zero h = refl
 drop_all [] (suc k) h = refl
@@ -97,13 +91,6 @@ pub record HasWalked (c : CodeContext) (forms : List Form) (order : List ℕ) (k
   pub done : map form_defined ds ≡ forms_at forms (take k order)
   pub come : (D : Defined) → Shows c D.context → HasCome D forms order k ds d
   pub names : (y : List ℕ) → top_level_in d y ≡ true → (n : ℕ) × (is_in n (take k order) ≡ true) × (name_at forms n ≡ Some y)
-
-pub none_walked : (c : CodeContext) (forms : List Form) (order : List ℕ) (ds : List Definition) → ds ≡ [] → ((x : List ℕ) → top_level_in c x ≡ false) → HasWalked c forms order 0 ds c
-none_walked c forms order ds none empty = subst (λ (es : List Definition). HasWalked c forms order 0 es c) (sym none) (record {
-  done = refl;
-  come = λ D shows. record { defined = D; standing = refl; shows = shows; judged = refl };
-  names = λ y h. absurd (true≢false (sym h ∙ empty y));
-})
 
 all_more : (D E : Defined) (ds : List Definition) (d : Definition) (form : Form) (fs : List Found) → AllStand D ds E → StandsAs E d fs → form_defined d ≡ form → AllStand D (ds ++ d ∷ []) (defined_after E form fs)
 all_more D E [] d form fs s h same = (fs, subst (λ (F : Defined). StandsAs F d fs) (sym s) h, λ i. defined_after (s i) (same i) fs)
@@ -182,9 +169,6 @@ unfolding forms_judged
 all_walked c d forms order k ds h end D shows =
     let past = h.come D shows in
     record { defined = past.defined; judged = past.judged ∙ ap (λ ns. forms_judged past.defined (forms_at forms ns)) (drop_all order k end); standing = past.standing }
-
-pub all_done : (c d : CodeContext) (forms : List Form) (order : List ℕ) (k : ℕ) (ds : List Definition) → HasWalked c forms order k ds d → length order ≤ k → map form_defined ds ≡ forms_at forms order
-all_done c d forms order k ds h end = h.done ∙ ap (forms_at forms) (take_all order k end)
 
 pub place_within : (forms : List Form) (order : List ℕ) (k place : ℕ) → IsGoodOrder forms order → k < length order → place ≡ get_or order k place → place < length forms
 place_within forms order k place good low here = good.within place (in_all order k place (at_here order k place low here))

@@ -39,11 +39,6 @@ items_step read vs (suc n) bytes v more h e =
     ∙ items_one vs v (read_items read n more)
     ∙ ap (λ (k : ℕ). with_items (vs ++ v ∷ []) (read_items read k more)) one
 
-pub items_fault : (read : List ℕ → Read Tree) (vs : List Tree) (n : ℕ) (bytes : List ℕ) (fault : DecodeRefusal) → 0 < n → read bytes ≡ Err fault → with_items vs (read_items read n bytes) ≡ Err fault
-items_fault read vs zero bytes fault h e = absurd (omega (arith, h))
-items_fault read vs (suc n) bytes fault h e =
-    ap (λ (r : Read Tree). with_items vs (and_then r (λ w left. and_then (read_items read n left) (λ ws rest. Ok (Item w ws, rest))))) e
-
 pub items_end : (read : List ℕ → Read Tree) (vs : List Tree) (n : ℕ) (bytes : List ℕ) → n ≡ 0 → with_items vs (read_items read n bytes) ≡ Ok (items_of vs, bytes)
 items_end read vs n bytes e =
     ap (λ (k : ℕ). with_items vs (read_items read k bytes)) e ∙ ap (λ (x : Items). Ok (x, bytes)) (items_alone vs)

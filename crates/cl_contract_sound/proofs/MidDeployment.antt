@@ -116,15 +116,6 @@ among_more x (f ∷ done) form (inr h) = by (among_more x done form h)
     by (inl h) = inl (inr h)
     by (inr h) = inr h
 
-pub among_before : (x : List ℕ) (done : List Form) (form : Form) → IsAmong x done → IsAmong x (done ++ form ∷ [])
-among_before x [] form h = absurd h
-among_before x (f ∷ done) form (inl h) = inl h
-among_before x (f ∷ done) form (inr h) = inr (among_before x done form h)
-
-pub among_last : (x : List ℕ) (done : List Form) (form : Form) → IsDefinition form.kind → unwrap_or form.name [] ≡ x → IsAmong x (done ++ form ∷ [])
-among_last x [] form h e = inl (h, e)
-among_last x (f ∷ done) form h e = inr (among_last x done form h e)
-
 -- what is new stands there
 abbrev pub IsNewThere : Contract → List ℕ → FormKind → State → Type 0
 IsNewThere c x (VariableForm t e) s = Stands s.variables (place c.principal x)

@@ -1,12 +1,11 @@
 -- Values of types, and what may be thrown.
 use Rattle.std.proofs.Common.{◌≡◌, ◌⊎◌, inl, inr, ℕ, false, List, [], ◌∷◌, ◌++◌, map, Option, Some, None, Result, Ok, Err, refl}
-use Rattle.cl_types.specs.Types.{PlainType, NoType}
+use Rattle.cl_types.specs.Types.{PlainType}
 use Rattle.cl_types.specs.Lattice.{least_supertype}
 use Rattle.cl_types.specs.declared.sized.TyRefusal.{TyRefusal}
 use Rattle.cl_types.specs.declared.sized.TyRefusal.TheVariants.{Differ, TooLarge, TooDeep, EmptyTuple, KeyTwice}
 use Rattle.cl_types.proofs.LatticeAnswers.{ok_least}
 use Rattle.cl_values.specs.Tree.{Tree as Val}
-use Rattle.cl_values.proofs.Admitted.{no_inhabitant}
 use Rattle.cl_rules.specs.Faults.{type_rules}
 use Rattle.cl_rules.specs.NativeTypes.{Ruled}
 use Rattle.cl_rules.specs.Bills.{Bill}
@@ -24,9 +23,6 @@ of_left v a b c h i = raised_of v c a (ok_least a b c h).left i
 
 pub of_right : (v : Val) (a b c : PlainType) → least_supertype a b ≡ Ok c → IsOf v b → IsOf v c
 of_right v a b c h i = raised_of v c b (ok_least a b c h).right i
-
-pub of_nothing : (v : Val) → IsOf v NoType → ⊥
-of_nothing v i = let e = no_inhabitant v in let h = i.typed in absurd cc
 
 -- ---- what may be thrown
 

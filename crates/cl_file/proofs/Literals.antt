@@ -31,9 +31,5 @@ pub literal_next : (values : Values) (done : List Tree) (xs : List Value) (i : �
     → literals_from values done (items_view (drop i xs)) ≡ literals_from values (done ++ t ∷ []) (items_view (drop (i + 1) xs))
 literal_next values done xs i x t h is e = ap (literals_from values done) (at xs i x h is) ∙ rw e refl
 
-pub literal_stops : (values : Values) (done : List Tree) (xs : List Value) (i : ℕ) (x : Value) → i < length xs → x ≡ get_or xs i x → literal values (view x) ≡ None
-    → literals_from values done (items_view (drop i xs)) ≡ None
-literal_stops values done xs i x h is e = ap (literals_from values done) (at xs i x h is) ∙ rw e refl
-
 pub literal_end : (values : Values) (done : List Tree) (xs : List Value) (i : ℕ) → length xs ≤ i → literals_from values done (items_view (drop i xs)) ≡ Some done
 literal_end values done xs i h = ap (λ ys. literals_from values done (items_view ys)) (drop_all i xs h)

@@ -346,11 +346,6 @@ pub all_parts : (ps : List (List ℕ × Tree)) (i r : ℕ) (xs : List (List ℕ 
 all_parts ps i r xs whole past inv =
     empty_within r xs ∙ ap (λ us. and_more (fields xs) (fields_within r (fields_of_pairs (pairs us)))) (sym (drop_all i ps past)) ∙ inv
 
--- ---- the room of a whole type
-
-pub room_again : (room : ℕ) → (room ≡ 0 → ⊥) → room - 1 + 1 ≡ room
-room_again room some = omega arith
-
 -- ---- types in brackets, their parts read with a level less of room
 
 pub list_made : (ts : List Tree) (a b : Tree) (n : Option ℕ) (t : Option PlainType) (r : ℕ) → Some (a, b) ≡ two_of ts → n ≡ stated_length a → t ≡ within r (type_of b) → list_type n t ≡ within (r + 1) (type_by (Some ListWord) (forest ts))

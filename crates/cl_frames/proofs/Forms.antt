@@ -9,14 +9,13 @@ use Rattle.cl_sexpr.specs.declared.sexpr.Span.{Span}
 use Rattle.cl_forms.specs.Heads.{Row}
 use Rattle.cl_values.specs.declared.native.Native.{Native}
 use Rattle.cl_values.specs.Tree.{Tree as Val, BoolV}
-use Rattle.cl_values.specs.Natives.{native_value}
 use Rattle.cl_events.specs.State.{State}
 use Rattle.cl_code.specs.Typed.{Typed, expression_of}
-use Rattle.cl_meaning.specs.Answers.{Deeper, stop, give, charged, and_then, with_known, outcome_of, ending}
+use Rattle.cl_meaning.specs.Answers.{Deeper, give, charged, and_then, with_known, ending}
 use Rattle.cl_meaning.specs.Deployed.{Function, function_of}
 use Rattle.cl_meaning.specs.Scope.{Scope, home, OwnFunction, ByName, Callee, Take, Enter, parts, in_frame, as_contract}
 use Rattle.cl_meaning.specs.Control.{if_form, begin_form, last_of, choice, and_on, or_on, and_form, or_form, throwing, wanted_part, err_part, asserts_form, unwrap_form, unwrap_err_form, tried, try_form, as_contract_form}
-use Rattle.cl_meaning.specs.Values.{strict_form, on_values, number_of}
+use Rattle.cl_meaning.specs.Values.{strict_form, on_values}
 use Rattle.cl_forms.specs.declared.head.TokenNative.TheVariants as natives
 use Rattle.cl_meaning.specs.Tokens.{print_form, stx_balance_form, token_form}
 use Rattle.cl_meaning.specs.Calls.{call_form, application, function_form, body_in, bound_to, native_form}
@@ -118,10 +117,6 @@ means_down costs p sp (suc depth) S e s h =
 pub strict_at : (native : Native) (cost : CostName) (take : Take) (S : Scope) (es : List Tree) (s : State) → strict_form native cost take S es s ≡ and_then (parts take S es s) (on_values native cost)
 unfolding strict_form
 strict_at native cost take S es s = refl
-
-pub on_values_at : (native : Native) (cost : CostName) (vs : List Val) (n : ℕ) (s : State) → n ≡ number_of cost vs → on_values native cost vs s ≡ charged cost n (stop (outcome_of (native_value native vs)) s)
-unfolding on_values
-on_values_at native cost vs n s h = ap (λ m. charged cost m (stop (outcome_of (native_value native vs)) s)) (sym h)
 
 pub call_at : (x : List ℕ) (take : Take) (enter : Enter) (S : Scope) (es : List Tree) (s : State) → call_form x take enter S es s ≡ and_then (parts take S es s) (λ vs. with_known (function_of x (home S)) (λ f. enter S (OwnFunction f) vs))
 unfolding call_form

@@ -115,9 +115,6 @@ nothing_at on_name.VarGet cost take enter S w (x ∷ xs) s h k = absurd (too_man
 nothing_at on_name.FtSupply cost take enter S w (x ∷ xs) s h k = absurd (too_many x xs k)
 nothing_at n cost take enter S w xs s h k = absurd cc
 
-one_part : (xs : List Typed) → (suc (length xs) == 2) ≡ true → length xs ≡ 1
-one_part xs h = let i : suc (length xs) ≡ 2 = exactly (suc (length xs)) 2 h in omega (arith, i)
-
 pub is_one : (n : NameNative) (count : ℕ) → One ≡ taking_of n → takes (row_of (name_head n)).arity (suc count) ≡ true → count ≡ 1
 is_one on_name.Get count h k = omega (arith, exactly (suc count) 2 k)
 is_one on_name.VarSet count h k = omega (arith, exactly (suc count) 2 k)

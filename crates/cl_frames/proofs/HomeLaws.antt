@@ -45,28 +45,6 @@ found_at_home p W c h = same_found c.principal p W (found_key p W c h) ∙ h
 
 -- ---- the contract that is being deployed
 
-pub at_opening : (o : Option Home) (h : Home) (p : Principal) → o ≡ Some h → is_principal h.checked.now.principal p ≡ true → contract_at p (with_opening o []) ≡ Some (home_seen h)
-at_opening o h p e k = ap (λ q. contract_at p (with_opening q [])) e ∙ ap (λ (b : Bool). if b then Some (home_seen h) else None) k
-
-pub not_opening : (o : Option Home) (h : Home) (p : Principal) → o ≡ Some h → is_principal h.checked.now.principal p ≡ false → contract_at p (with_opening o []) ≡ None
-not_opening o h p e k = ap (λ q. contract_at p (with_opening q [])) e ∙ ap (λ (b : Bool). if b then Some (home_seen h) else None) k
-
-pub opening_first : (o : Option Home) (W : Deployed) (p : Principal) (c : Contract) → contract_at p (with_opening o []) ≡ Some c → contract_at p (with_opening o W) ≡ Some c
-opening_first None W p c h = absurd cc
-opening_first (Some k) W p c h = step (is_principal k.checked.now.principal p) h
-  where
-    step : (b : Bool) → (if b then Some (home_seen k) else None) ≡ Some c → (if b then Some (home_seen k) else contract_at p W) ≡ Some c
-    step true e = e
-    step false e = absurd cc
-
-pub opening_past : (o : Option Home) (W : Deployed) (p : Principal) → contract_at p (with_opening o []) ≡ None → contract_at p (with_opening o W) ≡ contract_at p W
-opening_past None W p h = refl
-opening_past (Some k) W p h = step (is_principal k.checked.now.principal p) h
-  where
-    step : (b : Bool) → (if b then Some (home_seen k) else None) ≡ None → (if b then Some (home_seen k) else contract_at p W) ≡ contract_at p W
-    step true e = absurd cc
-    step false e = refl
-
 -- a deployed contract, as the code has it
 pub home_of_entry : (h : Home) (p : Principal) → h.checked.now.principal ≡ p → home_seen h ≡ record { principal = p; forms = forms_of h.checked.now; source_length = h.checked.now.source_length; constants = h.constants.now.entries }
 home_of_entry h p e = ap (λ (q : Principal). record { principal = q; forms = forms_of h.checked.now; source_length = h.checked.now.source_length; constants = h.constants.now.entries }) e

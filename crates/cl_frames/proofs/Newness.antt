@@ -25,7 +25,7 @@ use Rattle.cl_code.specs.Typed.{expression_of}
 use Rattle.cl_code.specs.Definitions.{form_defined, expression_if}
 use Rattle.cl_contracts.specs.declared.checked.Checked.{Checked}
 use Rattle.cl_contracts.specs.Seen.{forms_of, deployed_seen, IsIndexed}
-use Rattle.cl_meaning.specs.Answers.{Outcome, Given, Thrown, Aborted, Wrong, Deeper, Answer, Note, stop, give, charged, and_then, then_on}
+use Rattle.cl_meaning.specs.Answers.{Outcome, Given, Thrown, Aborted, Wrong, Deeper, Answer, Note, stop, charged, and_then, then_on}
 use Rattle.cl_meaning.specs.Deployed.{Contract, Deployed, has_name, value_of}
 use Rattle.cl_meaning.specs.Deploying.{defined, with_cap}
 use Rattle.cl_meaning.specs.Limits.{Costs, Paid, Within, Past, pay, limit_on, Gave, limited}
@@ -44,10 +44,6 @@ OfOutcome P o s = Unit {0}
 
 abbrev pub GivesSo : {A : Type 0} → (A → State → Type 0) → Answer A → Type 0
 GivesSo P a = OfOutcome P a.outcome a.state
-
-so_given : {A : Type 0} (P : A → State → Type 0) (a : A) (s : State) → P a s → GivesSo P (give a s)
-unfolding stop
-so_given P a s h = h
 
 so_charged : {A : Type 0} (P : A → State → Type 0) (name : CostName) (n : ℕ) (a : Answer A) → GivesSo P a → GivesSo P (charged name n a)
 unfolding charged

@@ -1,5 +1,5 @@
 -- The entries of sequences, place by place.
-use Rattle.std.proofs.Common.{◌≡◌, ℕ, zero, suc, ◌+◌, ◌<◌, ◌≤◌, List, [], ◌∷◌, ◌++◌, length, get_or, map, drop, slice_get, option_map, Bool, true, false, Option, Some, None, append_assoc, length-append, add-one, refl, sym, ap, ◌∙◌, arith}
+use Rattle.std.proofs.Common.{◌≡◌, ℕ, zero, suc, ◌+◌, ◌<◌, ◌≤◌, List, [], ◌∷◌, ◌++◌, length, get_or, map, drop, slice_get, option_map, Bool, true, Option, Some, None, append_assoc, length-append, add-one, refl, sym, ap, ◌∙◌, arith}
 use Rattle.std.proofs.Common.{Vec, Global}
 use Rattle.std.specs.Prelude.{is_some, IfSome}
 use Rattle.std.proofs.lemmas.List.{append-nil, drop_all}
@@ -77,9 +77,6 @@ row_turn place vs i v x o row more whole h k m e pushed so_far =
     ∙ ap (λ p. option_map (λ l. row ++ l) (and_entry p (row_at place (drop (i + 1) vs)))) (sym m ∙ e)
     ∙ ap (option_map (λ l. row ++ l)) (sym (at_next place vs i v h k)) ∙ so_far
 
-no_entry : (row : List Val) (r : Option (List Val)) → option_map (λ l. row ++ l) (and_entry None r) ≡ None
-no_entry row r = refl
-
 pub row_stops : (place : ℕ) (vs : List Val) (i : ℕ) (v : Val) (o : Option Val) (row : List Val) (whole : Option (List Val)) → i < length vs → v ≡ get_or vs i v → o ≡ None → o ≡ entry_in (option_map (λ xs. slice_get xs place) (entries_of v)) → option_map (λ l. row ++ l) (row_at place (drop i vs)) ≡ whole → None ≡ whole
 row_stops place vs i v o row whole h k m e so_far =
     ap (λ p. option_map (λ l. row ++ l) (and_entry p (row_at place (drop (i + 1) vs)))) (sym m ∙ e)
@@ -103,13 +100,6 @@ one_longer row x more n h k =
 
 -- ---- the length of the first
 
-none_all : (o : Option (List (List Val))) → and_entries None o ≡ None
-none_all None = refl
-none_all (Some rows) = refl
-
-not_sequence : (v : Val) (vs : List Val) → option_map length (entries_of v) ≡ None → all_entries (v ∷ vs) ≡ None
-not_sequence v vs h = ap (λ o. and_entries o (all_entries vs)) (unknown_in (entries_of v) h) ∙ none_all (all_entries vs)
-
 one_all : (o : Option (List Val)) (p : Option (List (List Val))) (n : ℕ) → option_map length o ≡ Some n → is_some (and_entries o p) ≡ is_some p
 one_all None p n h = absurd cc
 one_all (Some xs) None n h = refl
@@ -119,18 +109,6 @@ one_all (Some xs) (Some rows) n h = refl
 pub width_turn : (vs : List Val) (i : ℕ) (v : Val) (n : ℕ) (o : Option ℕ) (whole : Bool) → i < length vs → v ≡ get_or vs i v → o ≡ Some n → o ≡ option_map length (entries_of v) → is_some (all_entries (drop i vs)) ≡ whole → is_some (all_entries (drop (i + 1) vs)) ≡ whole
 width_turn vs i v n o whole h k m e so_far =
     sym (one_all (entries_of v) (all_entries (drop (i + 1) vs)) n (sym e ∙ m)) ∙ sym (ap (λ l. is_some (all_entries l)) (next_part vs i v h k)) ∙ so_far
-
-no_width : (o : Option (List (List Val))) → is_some o ≡ false → width_of o ≡ None
-no_width None h = refl
-no_width (Some rows) h = absurd cc
-
-pub width_stops : (vs : List Val) (i : ℕ) (v : Val) (o : Option ℕ) → i < length vs → v ≡ get_or vs i v → o ≡ None → o ≡ option_map length (entries_of v) → is_some (all_entries (drop i vs)) ≡ is_some (all_entries vs) → None ≡ width_of (all_entries vs)
-width_stops vs i v o h k m e so_far =
-    sym (no_width (all_entries vs) (sym so_far ∙ ap is_some (ap all_entries (next_part vs i v h k) ∙ not_sequence v (drop (i + 1) vs) (sym e ∙ m))))
-
-pub width_none : (vs : List Val) → length vs ≡ 0 → None ≡ width_of (all_entries vs)
-width_none [] h = refl
-width_none (v ∷ vs) h = absurd (omega arith)
 
 width_one : (o : Option (List Val)) (p : Option (List (List Val))) → is_some (and_entries o p) ≡ true → option_map length o ≡ width_of (and_entries o p)
 width_one None None h = absurd cc

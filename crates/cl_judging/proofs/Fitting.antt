@@ -1,10 +1,7 @@
 -- Parts of items whose names and literals are within the limits.
-use Rattle.std.proofs.Common.{◌≡◌, ℕ, zero, suc, ◌<◌, ◌≤◌, List, [], ◌∷◌, map, length, get_or, filter_map, sym, subst, arith}
+use Rattle.std.proofs.Common.{◌≡◌, ℕ, zero, suc, ◌<◌, ◌≤◌, List, [], ◌∷◌, map, length, get_or, filter_map, subst, arith}
 use Rattle.std.specs.List.{cons_option}
-use Rattle.cl_sexpr.specs.declared.sexpr.Span.{Span}
-use Rattle.cl_sexpr.specs.declared.sexpr.Node.{Node}
 use Rattle.cl_sexpr.specs.Fits.{Fits, AllFit, PairsFit, HasPair}
-use Rattle.cl_sexpr.specs.View.{tree_of}
 use Rattle.cl_sexpr.specs.Tree.{Tree, ListAt, LeafAt, Named, Empty, Then, forest, pairs, forest_size, forest_depth}
 use Rattle.cl_forms.specs.Shapes.{binding_of}
 use Rattle.cl_code.specs.declared.op.Binding.{Binding}
@@ -15,18 +12,6 @@ pub part_fits : (items : List Tree) (i : ℕ) (e : Tree) → i < length items �
 part_fits [] i e lt at h = absurd (omega (arith, lt))
 part_fits (t ∷ ts) zero e lt at h = subst Fits at h.0
 part_fits (t ∷ ts) (suc i) e lt at h = part_fits ts i e (omega (arith, lt)) at h.1
-
-pub first_fits : (items : List Tree) (e : Tree) (rest : List Tree) → items ≡ e ∷ rest → AllFit (forest items) → Fits e
-first_fits items e rest is h = let all : AllFit (forest (e ∷ rest)) = subst (λ (ts : List Tree). AllFit (forest ts)) is h in all.0
-
-pub rest_fits : (items : List Tree) (e : Tree) (rest : List Tree) → items ≡ e ∷ rest → AllFit (forest items) → AllFit (forest rest)
-rest_fits items e rest is h = let all : AllFit (forest (e ∷ rest)) = subst (λ (ts : List Tree). AllFit (forest ts)) is h in all.1
-
-pub list_fits : (e : Tree) (items : List Tree) (at : Span) → e ≡ ListAt (forest items) at → Fits e → AllFit (forest items)
-list_fits e items at is h = subst Fits is h
-
-pub node_fits : (n k : Node) (s : Span) (e : Tree) → tree_of n s ≡ e → n ≡ k → Fits e → Fits (tree_of k s)
-node_fits n k s e view is h = subst (λ (m : Node). Fits (tree_of m s)) is (subst Fits (sym view) h)
 
 pub binding_fits : (items : List Tree) (i : ℕ) (item : Tree) (b : Binding) (e : Tree) → i < length items → get_or items i item ≡ item → item ≡ binding b e → AllFit (forest items) → Fits e
 binding_fits items i item b e lt at is h =

@@ -11,7 +11,7 @@ use Rattle.cl_sexpr.specs.declared.sexpr.Span.{Span}
 use Rattle.cl_sexpr.specs.declared.rule.Rule.{Rule}
 use Rattle.cl_sexpr.specs.declared.rule.Rule.TheVariants.{ArgumentCount, ShadowedName, BadBinding}
 use Rattle.cl_sexpr.specs.declared.rule.Break.{Break}
-use Rattle.cl_sexpr.specs.Tree.{Tree, LeafAt, ListAt, TupleAt, forest, tree_depth, forest_depth, forest_size}
+use Rattle.cl_sexpr.specs.Tree.{Tree, ListAt, forest, tree_depth, forest_depth, forest_size}
 use Rattle.cl_forms.specs.Heads.{Row, row_of, takes}
 use Rattle.cl_forms.specs.declared.head.Head.{Head}
 use Rattle.cl_forms.specs.declared.head.Head.TheVariants.{Let}
@@ -32,7 +32,7 @@ use Rattle.cl_typing.specs.declared.concluding.Concluded.{Concluded}
 use Rattle.cl_judging.specs.Seen.{Shows, shadowed_in}
 use Rattle.cl_typing.specs.Verdicts.{texts_of, first_rule}
 use Rattle.cl_judging.specs.Walking.{Finds, judged_as, ChecksHead, Finishes}
-use Rattle.cl_judging.specs.LetWalk.{is_list, exprs_of, plan_of, ChecksBindings, ChecksMore, JudgesLet, ChecksLetWith, ChecksLet}
+use Rattle.cl_judging.specs.LetWalk.{exprs_of, plan_of, ChecksBindings, ChecksMore, JudgesLet, ChecksLetWith, ChecksLet}
 use Rattle.cl_judging.proofs.Lets.{shadowed_is}
 use Rattle.cl_judging.proofs.Lists.{shape_fails, parts_fail, parts_finish, twice}
 use Rattle.cl_judging.proofs.Plans.{walked_end}
@@ -92,17 +92,6 @@ let_body args e [] enough list = absurd (no (sym (ap (λ (ts : List Tree). nat_l
     no : false ≡ true → ⊥
     no h = cc
 let_body args e (d ∷ body) enough list = eqb-suc-zero (length body)
-
--- where no brackets stand for bindings
-pub let_misshapen : (c : CodeContext) (B : Names) (args body : List Tree) (e : Tree) (at : Span) (f : Fault Break) → takes (row_of Let).arity (length args) ≡ true → args ≡ e ∷ body → is_list e ≡ false → f ≡ Refused (record { rule = BadBinding; span = at }) → ChecksLet c B args at (Err f)
-let_misshapen c B args body e at f enough list odd fails r =
-    shape_fails c (λ G. let_shape r G B args) at (forest_depth (forest args) + 1) BadBinding f (λ G shows.
-    ap (λ (ts : List Tree). first_rule (shape_rules (let_shape r G B ts).faults)) list ∙ (odd_rules r G e odd ∙ (λ i. first_rule (when (let_body args e body enough list i) ArgumentCount (BadBinding ∷ []))))) fails
-  where
-    odd_rules : (r : Row) (G : Context) (e : Tree) → is_list e ≡ false → first_rule (shape_rules (let_shape r G B (e ∷ body)).faults) ≡ first_rule (when (nat_eq (length body) 0) ArgumentCount (BadBinding ∷ []))
-    odd_rules r G (LeafAt leaf s) h = refl
-    odd_rules r G (TupleAt ps s) h = refl
-    odd_rules r G (ListAt es s) h = absurd cc
 
 -- ---- the text of a let
 

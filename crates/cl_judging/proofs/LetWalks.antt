@@ -99,11 +99,6 @@ both_false : (a b : Bool) → (a || b) ≡ false → (a ≡ false) × (b ≡ fal
 both_false false b h = (refl, h)
 both_false true b h = absurd cc
 
--- the next binding's name is free, and so are those behind it
-pub free_now : (c : CodeContext) (S : Names) (items : List Tree) (i : ℕ) (item : Tree) (b : Binding) (e : Tree) → i < length items → get_or items i item ≡ item → item ≡ binding b e → shadowed_in c S (filter_map bound_name (drop i items)) ≡ false → taken_in c S b.word.name ≡ false
-free_now c S items i item b e lt at is h =
-    (both_false (taken_in c S b.word.name) (shadowed_in c (bind b.word.name NoType S) (filter_map bound_name (drop (i + 1) items))) (sym (ap (λ (ts : List Tree). shadowed_in c S (filter_map bound_name ts)) (binding_rest items i item b e lt at is)) ∙ h)).0
-
 pub free_next : (c : CodeContext) (S T : Names) (t : PlainType) (items : List Tree) (i : ℕ) (item : Tree) (b : Binding) (e : Tree) → i < length items → get_or items i item ≡ item → item ≡ binding b e → T ≡ bind b.word.name t S → shadowed_in c S (filter_map bound_name (drop i items)) ≡ false → shadowed_in c T (filter_map bound_name (drop (i + 1) items)) ≡ false
 free_next c S T t items i item b e lt at is grown h =
     ap (λ (U : Names). shadowed_in c U (filter_map bound_name (drop (i + 1) items))) grown
@@ -172,9 +167,6 @@ pub let_text : (items : List Tree) (i : ℕ) (item : Tree) (b : Binding) (e : Tr
 let_text items i item b e cs ds x lt at is text grown so_far =
     ap texts_of grown ∙ texts_more cs x ∙ (λ j. so_far j ++ text j ∷ []) ∙ sym (exprs_more (take i items) b e)
     ∙ ap exprs_of (ap (λ (y : Tree). take i items ++ y ∷ []) (sym is ∙ sym at) ∙ sym (take_more items i item lt))
-
-pub let_text_end : (items : List Tree) (i : ℕ) (ts : List Tree) → length items ≤ i → ts ≡ exprs_of (take i items) → ts ≡ exprs_of items
-let_text_end items i ts far h = h ∙ ap exprs_of (take_all i items far)
 
 pub binding_less : (items : List Tree) (i : ℕ) (item : Tree) (b : Binding) (e : Tree) → i < length items → get_or items i item ≡ item → item ≡ binding b e → tree_size e < forest_size (forest items)
 binding_less items i item b e lt at is =

@@ -77,9 +77,6 @@ module _ (c : CodeContext) (s : Context → Shape) (at : Span) (deep : ℕ) (p :
 -- ---- natives all of whose arguments are evaluated
 
 module _ (c : CodeContext) (native : Evaluated) (B : Names) (args : List Tree) (at : Span) (b : Bool) (is : b ≡ takes (row_of (head_at native)).arity (length args)) where
-  pub native_short : (f : Fault Break) → b ≡ false → f ≡ Refused (record { rule = ArgumentCount; span = at }) → ChecksNative c native B args at (Err f)
-  native_short f short fails = shape_fails c (λ G. native_as native B args) at _ ArgumentCount f (λ G shows i. first_rule (when (not ((sym is ∙ short) i)) ArgumentCount [])) fails
-
   module _ (enough : b ≡ true) where
     sound : shape_rules (native_as native B args).faults ≡ []
     sound i = when (not ((sym is ∙ enough) i)) ArgumentCount []

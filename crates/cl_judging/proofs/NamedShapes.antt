@@ -174,25 +174,6 @@ given_is NonFungibles c G x shows = ap (λ (es : List (List ℕ × PlainType)). 
 none : false ≡ true → ⊥
 none h = cc
 
--- a native with a name takes an argument
-pub takes_name : (native : NameNative) (args : List Tree) → args ≡ [] → takes (row_of (name_head native)).arity (length args) ≡ true → ⊥
-takes_name Get args is h = none (ap (λ (ts : List Tree). takes (row_of (name_head Get)).arity (length ts)) (sym is) ∙ h)
-takes_name VarGet args is h = none (ap (λ (ts : List Tree). takes (row_of (name_head VarGet)).arity (length ts)) (sym is) ∙ h)
-takes_name VarSet args is h = none (ap (λ (ts : List Tree). takes (row_of (name_head VarSet)).arity (length ts)) (sym is) ∙ h)
-takes_name MapGet args is h = none (ap (λ (ts : List Tree). takes (row_of (name_head MapGet)).arity (length ts)) (sym is) ∙ h)
-takes_name MapSet args is h = none (ap (λ (ts : List Tree). takes (row_of (name_head MapSet)).arity (length ts)) (sym is) ∙ h)
-takes_name MapInsert args is h = none (ap (λ (ts : List Tree). takes (row_of (name_head MapInsert)).arity (length ts)) (sym is) ∙ h)
-takes_name MapDelete args is h = none (ap (λ (ts : List Tree). takes (row_of (name_head MapDelete)).arity (length ts)) (sym is) ∙ h)
-takes_name FtBalance args is h = none (ap (λ (ts : List Tree). takes (row_of (name_head FtBalance)).arity (length ts)) (sym is) ∙ h)
-takes_name FtSupply args is h = none (ap (λ (ts : List Tree). takes (row_of (name_head FtSupply)).arity (length ts)) (sym is) ∙ h)
-takes_name MintFt args is h = none (ap (λ (ts : List Tree). takes (row_of (name_head MintFt)).arity (length ts)) (sym is) ∙ h)
-takes_name BurnFt args is h = none (ap (λ (ts : List Tree). takes (row_of (name_head BurnFt)).arity (length ts)) (sym is) ∙ h)
-takes_name SendFt args is h = none (ap (λ (ts : List Tree). takes (row_of (name_head SendFt)).arity (length ts)) (sym is) ∙ h)
-takes_name NftOwner args is h = none (ap (λ (ts : List Tree). takes (row_of (name_head NftOwner)).arity (length ts)) (sym is) ∙ h)
-takes_name MintNft args is h = none (ap (λ (ts : List Tree). takes (row_of (name_head MintNft)).arity (length ts)) (sym is) ∙ h)
-takes_name BurnNft args is h = none (ap (λ (ts : List Tree). takes (row_of (name_head BurnNft)).arity (length ts)) (sym is) ∙ h)
-takes_name SendNft args is h = none (ap (λ (ts : List Tree). takes (row_of (name_head SendNft)).arity (length ts)) (sym is) ∙ h)
-
 -- ---- the rules of the one shape
 
 odd_rules : (sort : Sort) (row : Row) (args : List Tree) → takes row.arity (length args) ≡ true → first_rule (shape_rules (missing sort (named_faults {A = Given} row args NoName) false)) ≡ Some BadBinding

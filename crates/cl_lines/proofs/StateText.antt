@@ -1,8 +1,8 @@
 -- The lines of a state, and that they make one text.
-use Rattle.std.proofs.Common.{◌≡◌, ℕ, ◌+◌, ◌<◌, List, [], ◌∷◌, ◌++◌, length, take, get_or, refl, ap, sym, subst, ◌∙◌, append_assoc}
+use Rattle.std.proofs.Common.{◌≡◌, ℕ, ◌+◌, List, [], ◌∷◌, ◌++◌, get_or, refl, ap, sym, subst, ◌∙◌, append_assoc}
 use Rattle.std.specs.Prelude.{true, false, ◌||◌, map, Contains, codes}
 use Rattle.std.specs.List.{list_any, AllByRecursion as ByRecursion}
-use Rattle.std.proofs.lemmas.List.{get_or-map, length-map, map-append, take_more}
+use Rattle.std.proofs.lemmas.List.{get_or-map, length-map}
 use Rattle.std.proofs.lemmas.List.Elements.{recursion_from_All}
 use Rattle.std.proofs.lemmas.List.Folds.{list_any_at}
 use Rattle.cl_c32.specs.declared.principal.Principal.{Principal}
@@ -66,11 +66,6 @@ line_of s r (row.OfBalance at token who real is valid more) = subst (IsLine s) (
 line_of s r (row.OfSupply at token real is) = subst (IsLine s) (of_supply at token.supply) (OfSupply at token real is)
 line_of s r (row.OfAsset at owners id owner real is valid owned owner_is) = subst (IsLine s) (of_owner at id owner) (OfAsset at owners id owner real is valid owned owner_is)
 line_of s r (row.OfStx who valid more) = subst (IsLine s) (of_stx who (balance (holder who) s.stx.balances)) (OfStx who valid more)
-
--- the line of one row more
-pub lines_more : (rows : List StateRow) (i : ℕ) (r : StateRow) (line : List ℕ) → i < length rows → r ≡ get_or rows i r → line ≡ row_line r → map row_line (take i rows) ++ line ∷ [] ≡ map row_line (take (i + 1) rows)
-lines_more rows i r line low at is =
-    ap (λ last. map row_line (take i rows) ++ last ∷ []) (is ∙ ap row_line at) ∙ sym (map-append row_line (take i rows) (get_or rows i r ∷ [])) ∙ ap (map row_line) (sym (take_more rows i r low))
 
 row_told : (s : State) (rows : List StateRow) → ByRecursion (IsRow s) rows → (line : List ℕ) → list_any (is_key line) (map row_line rows) ≡ true → IsLine s line
 row_told s [] are line is = absurd (cc)

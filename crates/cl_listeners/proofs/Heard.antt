@@ -1,6 +1,6 @@
 -- What was heard, and more.
-use Rattle.std.proofs.Common.{◌≡◌, ℕ, ◌+◌, ◌<◌, ◌≤◌, List, [], ◌∷◌, ◌++◌, length, take, get_or, Option, Some, None, refl, sym, ap, ◌∙◌, append_assoc, append-nil}
-use Rattle.std.proofs.lemmas.List.{take_more, take_all}
+use Rattle.std.proofs.Common.{◌≡◌, ℕ, ◌+◌, ◌<◌, List, [], ◌∷◌, ◌++◌, length, take, get_or, Option, Some, None, refl, sym, ap, ◌∙◌, append_assoc, append-nil}
+use Rattle.std.proofs.lemmas.List.{take_more}
 use Rattle.cl_events.specs.declared.event.Event.{Event}
 use Rattle.cl_listeners.specs.Hearing.{with_more, one}
 
@@ -17,6 +17,3 @@ pub one_more : (before now after : Option (List Event)) (events : List Event) (i
 one_more before now after events i e below at h k =
     k ∙ ap (with_more (one e)) h ∙ more_and_more before (take i events) (one e)
     ∙ ap (λ xs. with_more xs before) (ap (λ x. take i events ++ x ∷ []) at ∙ sym (take_more events i e below))
-
-pub all_heard : (before now : Option (List Event)) (events : List Event) (i : ℕ) → length events ≤ i → now ≡ with_more (take i events) before → now ≡ with_more events before
-all_heard before now events i past h = h ∙ ap (λ xs. with_more xs before) (take_all i events past)

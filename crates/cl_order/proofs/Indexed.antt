@@ -1,5 +1,5 @@
 -- Indexes of forms.
-use Rattle.std.proofs.Common.{◌≡◌, refl, sym, ap, ◌∙◌, ℕ, suc, ◌<◌, ◌≤◌, ◌+◌, List, [], ◌∷◌, ◌++◌, length, take, get_or, append-nil, arith, Bool, true, false, cond, if◌then◌else◌, Option, Some, Vec, Global, length-take, ◌||◌}
+use Rattle.std.proofs.Common.{◌≡◌, refl, sym, ap, ◌∙◌, ℕ, suc, ◌<◌, ◌≤◌, ◌+◌, List, [], ◌∷◌, ◌++◌, length, take, get_or, arith, Bool, true, false, cond, if◌then◌else◌, Option, Some, Vec, Global, length-take}
 use Rattle.std.proofs.lemmas.List.{take_more, take_all}
 use Rattle.std.specs.Cmp.Lexicographic.{same_text}
 use Rattle.indexmap.specs.IndexMap.{get, Updates}
@@ -25,16 +25,6 @@ pub added : (old new : Rows) (name : List ℕ) (row : Vec ℕ Global) (place : �
 added old new name row place h is x =
     under_changed old new name row h x
     ∙ same_choice (same name x) row.items (under old x ++ place ∷ []) (under old x) (λ e. is ∙ ap (λ (n : List ℕ). under old n ++ place ∷ []) (same_text name x (sym e)))
-
-chosen_behind : (b c : Bool) (xs : List ℕ) (place : ℕ) → b ≡ c → (if b then xs ++ place ∷ [] else xs) ≡ xs ++ place_if (c || false) place
-chosen_behind true true xs place e = refl
-chosen_behind false false xs place e = sym (append-nil xs)
-chosen_behind true false xs place e = cc
-chosen_behind false true xs place e = cc
-
--- the form of a place has a name
-pub form_added : (old new : Rows) (name : List ℕ) (place : ℕ) → ((x : List ℕ) → under new x ≡ (if same name x then under old x ++ place ∷ [] else under old x)) → (x : List ℕ) → under new x ≡ under old x ++ place_if (is_among (x ∷ []) (Some name)) place
-form_added old new name place h x = h x ∙ chosen_behind (same name x) (same name x) (under old x) place refl
 
 -- ---- the loop
 

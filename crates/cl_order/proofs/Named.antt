@@ -15,11 +15,6 @@ there_below [] n x h = cc
 there_below (y ∷ ys) zero x h = omega arith
 there_below (y ∷ ys) (suc n) x h = let low : n < length ys = there_below ys n x h in omega arith
 
-pub below_there : {A : Type 0} (xs : List A) (n : ℕ) → n < length xs → (x : A) × (slice_get xs n ≡ Some x)
-below_there [] n h = absurd (omega arith)
-below_there (y ∷ ys) zero h = (y, refl)
-below_there (y ∷ ys) (suc n) h = below_there ys n (omega arith)
-
 -- a form with a name among these at a place
 pub record Placed (xs : List (List ℕ)) (fs : List Form) (k m : ℕ) : Type 0 where
   pub turn : ℕ

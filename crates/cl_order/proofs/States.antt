@@ -1,5 +1,5 @@
 -- The states of forms, and the work that is left.
-use Rattle.std.proofs.Common.{◌≡◌, refl, sym, ap, subst, ◌∙◌, inl, inr, ℕ, zero, suc, ◌<◌, ◌+◌, List, [], ◌∷◌, ◌++◌, length, drop, get_or, set, arith, Bool, true, false, nat_eq, ne_eqb, if◌then◌else◌, ◌||◌, get_or-set_other, get_or-set_same, replicate}
+use Rattle.std.proofs.Common.{◌≡◌, refl, sym, ap, subst, ◌∙◌, inl, inr, ℕ, zero, suc, ◌<◌, ◌+◌, List, [], ◌∷◌, ◌++◌, length, drop, get_or, set, arith, Bool, true, false, nat_eq, ne_eqb, if◌then◌else◌, ◌||◌, get_or-set_other, get_or-set_same}
 use Rattle.std.specs.List.{IsDistinct, AllByRecursion}
 use Rattle.std.proofs.lemmas.Bool.{false≢true, cases_eq}
 use Rattle.std.proofs.lemmas.List.Folds.{list_any-append}
@@ -125,10 +125,3 @@ work_set forms k (t ∷ states) (suc i) s d low =
     let rest : work_new forms (k + 1) (set states i s) + weight (get_or states i d) (length (next forms (k + suc i)) + 2) ≡ work_new forms (k + 1) states + weight s (length (next forms (k + suc i)) + 2) =
     subst (λ (n : ℕ). work_new forms (k + 1) (set states i s) + weight (get_or states i d) (length (next forms n) + 2) ≡ work_new forms (k + 1) states + weight s (length (next forms n) + 2)) there (work_set forms (k + 1) states i s d (omega arith)) in
     omega arith
-
--- ---- the beginning
-
-pub all_new : (n : ℕ) (d : State) (k : ℕ) → k < n → get_or (replicate n New) k d ≡ New
-all_new zero d k low = absurd (omega arith)
-all_new (suc n) d zero low = refl
-all_new (suc n) d (suc k) low = all_new n d k (omega arith)

@@ -1,9 +1,8 @@
 -- One step of a search.
-use Rattle.std.proofs.Common.{◌≡◌, refl, sym, ap, subst, ◌∙◌, ℕ, zero, suc, ◌<◌, ◌≤◌, ◌+◌, List, [], ◌∷◌, ◌++◌, length, length-append, drop, drop-cons, drop_of_length-le, get_or, set, length-set, arith, Bool, true, false, nat_eq, eq-eqb, ne_eqb, if◌then◌else◌, Result, Ok, Err, OnOk, replicate}
+use Rattle.std.proofs.Common.{◌≡◌, refl, sym, ap, subst, ◌∙◌, ℕ, zero, suc, ◌<◌, ◌≤◌, ◌+◌, List, [], ◌∷◌, ◌++◌, length, length-append, drop, drop-cons, drop_of_length-le, get_or, set, length-set, arith, Bool, true, false, nat_eq, eq-eqb, if◌then◌else◌, Result, Ok, Err, OnOk, replicate}
 use Rattle.std.proofs.lemmas.List.{get_or-replicate, length-replicate}
 use Rattle.std.specs.List.{IsDistinct}
 use Rattle.std.proofs.lemmas.Bool.{false≢true, or_left, or_right}
-use Rattle.std.proofs.lemmas.List.{at_drop_more}
 use Rattle.std.proofs.lemmas.Grind.{get_or_default_zero}
 use Rattle.cl_types.specs.declared.fault.Fault.{Fault}
 use Rattle.cl_types.specs.declared.fault.Fault.TheVariants.{Refused, NoMemory}
@@ -340,24 +339,6 @@ pub none_left : (forms : List Form) (k : ℕ) (done : List ℕ) → length forms
 none_left forms k done all = ap (λ (l : List Form). visit_each (visit (length forms + 1) forms []) (places_of k l) done) (drop_of_length-le forms all)
 
 -- ---- the part of a path
-
-part_one : (b : Bool) (place n : ℕ) (path : List ℕ) → nat_eq place n ≡ b → part_from place (n ∷ path) ≡ (if b then n ∷ path else part_from place path)
-part_one b place n path e = ap (λ (c : Bool). if c then n ∷ path else part_from place path) e
-
--- the form with the place is found
-pub part_starts : (path : List Frame) (i place : ℕ) (f : Frame) → i < length path → f ≡ get_or path i f → f.place ≡ place → part_from place (places_on (drop i path)) ≡ part_from place (places_on path) → part_from place (places_on path) ≡ places_on (drop i path)
-part_starts path i place f low is here before =
-    let front : drop i path ≡ f ∷ drop (i + 1) path = at_drop_more (λ (l : List Frame). l) path i f low ∙ ap (λ (g : Frame). g ∷ drop (i + 1) path) (sym is) in
-    sym before ∙ ap (λ (l : List Frame). part_from place (places_on l)) front
-    ∙ part_one true place f.place (places_on (drop (i + 1) path)) (eq-eqb place f.place (sym here))
-    ∙ ap places_on (sym front)
-
--- a form with another place is skipped
-pub part_skips : (path : List Frame) (i place : ℕ) (f : Frame) → i < length path → f ≡ get_or path i f → (f.place ≡ place → ⊥) → part_from place (places_on (drop i path)) ≡ part_from place (places_on path) → part_from place (places_on (drop (i + 1) path)) ≡ part_from place (places_on path)
-part_skips path i place f low is other before =
-    let front : drop i path ≡ f ∷ drop (i + 1) path = at_drop_more (λ (l : List Frame). l) path i f low ∙ ap (λ (g : Frame). g ∷ drop (i + 1) path) (sym is) in
-    sym (part_one false place f.place (places_on (drop (i + 1) path)) (ne_eqb place f.place (λ e. other (sym e))))
-    ∙ ap (λ (l : List Frame). part_from place (places_on l)) (sym front) ∙ before
 
 -- there is none
 pub part_ends : (path : List Frame) (i n place : ℕ) → length path ≤ i → n ≡ length path → part_from place (places_on (drop i path)) ≡ part_from place (places_on path) → part_from place (places_on path) ≡ places_on (drop n path)

@@ -1,6 +1,5 @@
 -- The sum so far, and all of it.
-use Rattle.std.proofs.Common.{◌≡◌, ℕ, ◌+◌, ◌<◌, ◌≤◌, List, length, take, get_or, ap, ◌∙◌, sym}
-use Rattle.std.proofs.lemmas.List.{take_all}
+use Rattle.std.proofs.Common.{◌≡◌, ℕ, ◌+◌, ◌<◌, List, length, take, get_or, ap, ◌∙◌, sym}
 use Rattle.std.specs.List.{sum_by}
 use Rattle.std.proofs.lemmas.List.Sums.{sum_by_more}
 use Rattle.cl_c32.specs.declared.principal.Principal.{Principal}
@@ -12,6 +11,3 @@ pub sent_next : (moves : List Move) (p : Principal) (asset : Asset) (i : ℕ) (m
     → sent (take i moves) p asset + n ≡ sent (take (i + 1) moves) p asset
 unfolding sent
 sent_next moves p asset i m n below at is = ap (λ k. sum_by (weight p asset) (take i moves) + k) (is ∙ ap (weight p asset) at) ∙ sym (sum_by_more (weight p asset) moves i m below)
-
-pub sent_all : (moves : List Move) (p : Principal) (asset : Asset) (i : ℕ) → length moves ≤ i → sent (take i moves) p asset ≡ sent moves p asset
-sent_all moves p asset i past = ap (λ ms. sent ms p asset) (take_all i moves past)

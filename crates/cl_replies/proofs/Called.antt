@@ -1,12 +1,9 @@
 -- The replies to `call` and `run` are their answers.
-use Rattle.std.proofs.Common.{◌≡◌, ℕ, Bool, List, Option, [], ◌++◌, IfOk, sym, ap, subst, ◌∙◌, append-nil}
-use Rattle.std.specs.Prelude.{Result}
-use Rattle.cl_types.specs.declared.fault.NoMemory.{NoMemory}
+use Rattle.std.proofs.Common.{◌≡◌, ℕ, Bool, List, Option, [], ◌++◌, sym, ap, subst, ◌∙◌, append-nil}
 use Rattle.cl_shapes.specs.declared.function.CostFn.{CostFn}
 use Rattle.cl_costs.specs.Tables.{function_of}
 use Rattle.std.specs.List.{All}
 use Rattle.cl_c32.specs.declared.principal.Principal.{Principal}
-use Rattle.cl_values.specs.Tree.{Tree}
 use Rattle.cl_values.specs.Valid.{IsPrincipal}
 use Rattle.cl_file.specs.declared.entry.Entry.{Entry}
 use Rattle.cl_file.specs.Files.{FileSeen}
@@ -20,10 +17,10 @@ use Rattle.cl_report.specs.Lines.{lines_of, report_from}
 use Rattle.cl_replies.specs.declared.call.Both.{Both}
 use Rattle.cl_entries.specs.declared.entries.End.{End}
 use Rattle.cl_entries.specs.Entries.{end_of}
-use Rattle.cl_replies.specs.Called.{deployment, call, status_of, lines_by, IsReportOf, IsCalled}
+use Rattle.cl_replies.specs.Called.{call, status_of, lines_by, IsReportOf}
 use Rattle.cl_replies.specs.Both.{AreBoth}
 use Rattle.cl_replies.specs.Ran.{IsStatePart, IsRun}
-use Rattle.cl_entries.specs.Reply.{Answer, answer_of, bytes_of, Completes}
+use Rattle.cl_entries.specs.Reply.{Answer, bytes_of, Completes}
 use Rattle.cl_entries.specs.Streams.{Tells}
 use Rattle.cl_entries.specs.declared.pieces.Reply.{Reply}
 
@@ -44,13 +41,6 @@ is_report_of first second both answer are is =
           ∙ ap (λ (text : List ℕ). record { bytes = lines_by (end_of are.deployed.outcome) text both.called.text.items; status = status_of (end_of are.deployed.outcome) (end_of are.called.outcome) }) front
           ∙ ap (λ (text : List ℕ). record { bytes = lines_by (end_of are.deployed.outcome) (lines_of 0 first are.deployed ++ []) text; status = status_of (end_of are.deployed.outcome) (end_of are.called.outcome) }) back;
     }
-
--- the two entries of `call`
-pub called_entries : (r : Result Reply NoMemory) (source function given : List ℕ) (args : List Tree) (first second : Entry) → first ≡ deployment source → second ≡ call given args → given ≡ function → IfOk r (λ reply. IsReportOf first second (answer_of reply)) → IfOk r (λ reply. IsCalled source function args (answer_of reply))
-called_entries r source function given args first second one two same answers =
-    let Answers : Entry → Entry → Type 0 = λ a b. IfOk r (λ reply. IsReportOf a b (answer_of reply)) in
-    let again : second ≡ call function args = two ∙ ap (λ (name : List ℕ). call name args) same in
-    subst (λ (b : Entry). Answers (deployment source) b) again (subst (λ (a : Entry). Answers a second) one answers)
 
 -- the report of a file's entries was written, and the reply has the lines of the state
 pub completes_run : RunsStayWithin → RunsAreNotStopped → (table : List CostFn) (file : FileSeen) (state : Bool) (after : Seen) (before now : Option (List ℕ)) (were are : Listening) (reply : Reply) → All (λ (h : Principal × ℕ). IsPrincipal h.0) file.genesis → Tells table file.genesis file.entries after before now were are

@@ -14,13 +14,6 @@ mapped : (i : ℕ) (o : Option ℕ) → option_map (λ k. k + i) (option_map suc
 mapped i None = refl
 mapped i (Some k) = ap Some (omega arith)
 
-same_number : (o : Option ℕ) → o ≡ option_map (λ k. k + 0) o
-same_number None = refl
-same_number (Some k) = ap Some (omega arith)
-
-pub find_start : (item : Tree) (vs : List Tree) → place_of item vs ≡ found_from 0 item vs
-find_start item vs = same_number (place_of item vs)
-
 pub find_here : (item : Tree) (vs : List Tree) (i : ℕ) (v : Tree) → i < length vs → v ≡ get_or vs i v → true ≡ equal v item → found_from i item vs ≡ Some i
 find_here item vs i v h k e =
     ap (λ l. option_map (λ n. n + i) (place_of item l)) (next_part vs i v h k)

@@ -13,11 +13,6 @@ single_at make [] at = refl
 single_at make (x ∷ xs) zero = refl
 single_at make (x ∷ xs) (suc at) = single_at make xs at
 
-pub item_valid : (vs : List Tree) (i : ℕ) (v : Tree) → AreVals (items_of vs) → Some v ≡ slice_get vs i → IsVal v
-item_valid [] i v h e = absurd cc
-item_valid (w ∷ vs) zero v h e = let same : w ≡ v = cc in rw (sym same) (first_part w (items_of vs) h)
-item_valid (w ∷ vs) (suc i) v h e = item_valid vs i v (rest_part w (items_of vs) h) e
-
 pub text_at : (xs : List ℕ) (i x : ℕ) → list_all is_text_byte xs ≡ true → Some x ≡ slice_get xs i → is_text_byte x ≡ true
 text_at [] i x h e = absurd cc
 text_at (y ∷ xs) zero x h e = let same : y ≡ x = cc in rw (sym same) (and_parts (is_text_byte y) (list_all is_text_byte xs) h).0

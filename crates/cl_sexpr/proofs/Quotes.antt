@@ -1,5 +1,5 @@
 -- Strings, along the loops that read them.
-use Rattle.std.proofs.Common.{◌≡◌, ℕ, suc, zero, ◌+◌, ◌-◌, ◌<◌, ◌≤◌, ◌==◌, List, [], ◌∷◌, ◌++◌, length, drop, get_or, Bool, true, false, Option, Some, None, Result, Ok, Err, refl, arith, append_assoc, append-nil, sym, ap, ◌∙◌}
+use Rattle.std.proofs.Common.{◌≡◌, ℕ, suc, zero, ◌+◌, ◌-◌, ◌<◌, ◌≤◌, ◌==◌, List, [], ◌∷◌, ◌++◌, length, drop, get_or, Bool, true, false, Option, Some, None, Result, Ok, Err, refl, arith, append_assoc, sym, ap, ◌∙◌}
 use Rattle.std.specs.Option.{option_map}
 use Rattle.std.proofs.lemmas.List.{at_drop_more}
 use Rattle.std.proofs.lemmas.Bool.Decides.{nat_tests}
@@ -25,13 +25,6 @@ differs n m h = grind (arith, nat_tests)
 pub closing_escaped : (bs : List ℕ) (i : ℕ) → i < length bs → plus i (closing true (drop i bs)) ≡ plus (i + 1) (closing false (drop (i + 1) bs))
 closing_escaped bs i h = ap (plus i) (at_drop_more (closing true) bs i 0 h) ∙ plus_more i (closing false (drop (i + 1) bs))
 
--- at a quote
-pub closing_here : (bs : List ℕ) (i : ℕ) → i < length bs → get_or bs i 0 ≡ 34 → plus i (closing false (drop i bs)) ≡ Some i
-closing_here bs i h e =
-    let here : closing false (get_or bs i 0 ∷ drop (i + 1) bs) ≡ Some 0 = rw e refl in
-    let sum : 0 + i ≡ i = omega arith in
-    ap (plus i) (at_drop_more (closing false) bs i 0 h ∙ here) ∙ ap (λ (k : ℕ). Some k) sum
-
 -- at any other byte
 pub closing_more : (bs : List ℕ) (i : ℕ) → i < length bs → (get_or bs i 0 ≡ 34 → ⊥) → plus i (closing false (drop i bs)) ≡ plus (i + 1) (closing (get_or bs i 0 == 92) (drop (i + 1) bs))
 closing_more bs i h e =
@@ -43,10 +36,6 @@ closing_more bs i h e =
 abbrev pub with_front : List ℕ → Result (List ℕ) Break → Result (List ℕ) Break
 with_front xs (Ok ys) = Ok (xs ++ ys)
 with_front xs (Err r) = Err r
-
-pub with_front-nil : (r : Result (List ℕ) Break) → r ≡ with_front [] r
-with_front-nil (Ok ys) = refl
-with_front-nil (Err r) = refl
 
 with_front-character : (xs : List ℕ) (c : ℕ) (r : Result (List ℕ) Break) → with_front xs (with_character c r) ≡ with_front (xs ++ c ∷ []) r
 with_front-character xs c (Ok ys) = ap (λ (z : List ℕ). Ok z) (sym (append_assoc xs (c ∷ []) ys))
@@ -64,10 +53,3 @@ characters_more u xs at rest c cs char size e is some within =
     let here : characters u at 0 rest ≡ with_character char (characters u (at + 1) (size - 1) cs) = ap (characters u at 0) e ∙ ap (λ (r : Result (ℕ × ℕ) Break). and_then r (λ skip. characters u (at + 1) skip cs)) (sym is) in
     let place : at + 1 + (size - 1) ≡ at + size = omega (arith, some) in
     ap (with_front xs) here ∙ (with_front-character xs char (characters u (at + 1) (size - 1) cs) ∙ ap (with_front (xs ++ char ∷ [])) (skipped u (at + 1) (size - 1) cs (omega (arith, within, some)) ∙ ap (λ (n : ℕ). characters u n 0 (drop (size - 1) cs)) place))
-
-pub characters_bad : (u : Bool) (xs : List ℕ) (at : ℕ) (rest : List ℕ) (c : ℕ) (cs : List ℕ) (r : Break) → rest ≡ c ∷ cs → Err r ≡ character_at u at c cs → with_front xs (characters u at 0 rest) ≡ Err r
-characters_bad u xs at rest c cs r e is =
-    ap (with_front xs) (ap (characters u at 0) e ∙ ap (λ (r : Result (ℕ × ℕ) Break). and_then r (λ skip. characters u (at + 1) skip cs)) (sym is))
-
-pub characters_end : (u : Bool) (xs : List ℕ) (at : ℕ) (rest : List ℕ) → rest ≡ [] → with_front xs (characters u at 0 rest) ≡ Ok xs
-characters_end u xs at rest e = ap (λ (z : List ℕ). with_front xs (characters u at 0 z)) e ∙ ap (λ (z : List ℕ). Ok z) (append-nil xs)

@@ -17,11 +17,6 @@ halvings-large : (most n : ℕ) → 2 ≤ n → halvings (suc most) n ≡ suc (h
 unfolding halvings
 halvings-large most n large = rw (le-ltb n 2 large, halvings) refl
 
-halvings-below : (most n : ℕ) → n < 2 → halvings most n ≡ 0
-unfolding halvings
-halvings-below zero n small = refl
-halvings-below (suc most) n small = halvings-small most n small
-
 -- ---- the logarithm rounds down
 
 pub next-power : (k : ℕ) → 2 ^ (k + 1) ≡ 2 * 2 ^ k

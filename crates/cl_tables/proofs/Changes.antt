@@ -138,9 +138,6 @@ stx_change h r x act sound spelled back ready keeps = record {
   sound = record { variables = sound.variables; fungibles = sound.fungibles; nonfungibles = sound.nonfungibles; spelled = spelled };
 }
 
-pub stx_same : (h : Held) (r : Rooms) (x : LedgerHeld) → x.ledger ≡ h.stx → Keeps r.stx x.room → IsAsBefore h (record h { stx = x.ledger }) r (record r { stx = x.room })
-stx_same h r x is keeps = record { held = λ i. record h { stx = is i }; rooms = stx_serves r x.room keeps }
-
 pub stx_gives : (s : State) (act : Act) (l : Ledger) → done act s.stx ≡ Ok l → on_stx (done act) s ≡ Some (Ok (with_stx l s))
 stx_gives s act l is = ap (replaced (λ m. with_stx m s)) is
 
@@ -148,9 +145,6 @@ stx_gives s act l is = ap (replaced (λ m. with_stx m s)) is
 part_refused : (A B : Type 0) {P : Type 0} (put_back : P → State) (meant : Result P TokenRefusal) (f : Fault TokenRefusal) (t : State) → IsRefusedBy {A = B} meant (Err f) → Gives {A = A} (replaced put_back meant) (Err f) t
 part_refused A B put_back meant (Refused x) t is = ap (replaced put_back) is
 part_refused A B put_back meant NoMemory t is = tt
-
-pub stx_refused : (A B : Type 0) (s t : State) (act : Act) (f : Fault TokenRefusal) → IsRefusedBy {A = B} (done act s.stx) (Err f) → Gives {A = A} (on_stx (done act) s) (Err f) t
-stx_refused A B s t act f is = part_refused A B (λ m. with_stx m s) (done act s.stx) f t is
 
 pub refused_gives : {A : Type 0} (meant : Acted) (f : Fault TokenRefusal) (r : Result A (Fault TokenRefusal)) (t : State) → Gives {A = A} meant (Err f) t → IsErrAnd r (λ y. y ≡ f) → Gives {A = A} meant r t
 refused_gives {A} meant f r t gives is =
@@ -431,17 +425,6 @@ nonfungible_unchanged h r es new is =
 
 pub undone_rooms : (n m : Note) (r s : Rooms) → n ≡ m → Serves (fungibles_in m) (nonfungibles_in m) 0 0 r s → Serves (fungibles_in n) (nonfungibles_in n) 0 0 r s
 undone_rooms n m r s is serves = subst (λ (x : Note). Serves (fungibles_in x) (nonfungibles_in x) 0 0 r s) (sym is) serves
-
-pub equal_serves : (r s : Rooms) → s ≡ r → Serves 0 0 0 0 r s
-equal_serves r s is = subst (Serves 0 0 0 0 r) (sym is) (same_rooms r)
-
-module _ {A : Type 0} (room : A → List (List ℕ)) (none : A) where
-  -- a number that has room has a token
-  pub in_rooms : (es : List (Place × A)) (i : ℕ) → i + 0 < length (rooms_of room es) → i < length es
-  in_rooms es i low = let size = length-map es (λ e. room e.1) in omega (arith, low, size)
-
-  pub some_rooms : (es : List (Place × A)) → 0 < length (rooms_of room es) → 0 < length es
-  some_rooms es low = let size = length-map es (λ e. room e.1) in omega (arith, low, size)
 
 pub giver_at : (es : List (Place × LedgerHeld)) (i : ℕ) (act : Act) → HasGiver (room_at (rooms_of ledger_room es) i) act → HasGiver (value_at no_ledger es i).room act
 giver_at es i act has = subst (λ rs. HasGiver rs act) (room_is ledger_room no_ledger refl es i) has

@@ -10,7 +10,6 @@ use Rattle.cl_values.specs.Valid.{IsPrincipal, IsVal}
 use Rattle.cl_events.specs.State.{holder, spot}
 use Rattle.cl_tables.specs.declared.place.Place.{Place}
 use Rattle.cl_tables.specs.Variables.{IsPlace}
-use Rattle.cl_tables.specs.Spelled.{IsSpot}
 use Rattle.cl_tables.specs.RowParts.{BeginsWithPrincipal, principal_size}
 use Rattle.cl_tables.proofs.PlaceKeys.{first_part, second_part, keys_apart}
 
@@ -42,16 +41,6 @@ cut_back bytes back xs ys n is at whole = is ∙ (λ i. drop (at i) (whole i)) �
 pub cut_within : (bytes xs ys : List ℕ) (n : ℕ) → n ≡ length xs → bytes ≡ xs ++ ys → n ≤ length bytes
 cut_within bytes xs ys n at whole = let sum = ap length whole ∙ length-append xs ys in omega (arith, sum, at)
 
-long_parts : (version : ℕ) (hash : List ℕ) (c : Option (List ℕ)) → length hash ≡ 20 → 22 ≤ length (parts version hash c)
-long_parts version hash c long = let sum = length-append hash (contract_wire c) in omega (arith, sum, long)
-
--- a principal takes 22 bytes at least
-pub has_first : (bytes : List ℕ) → BeginsWithPrincipal bytes → 22 ≤ length bytes
-has_first bytes h =
-    let sum = ap length h.3 ∙ length-append (holder h.0) h.1 in
-    let long = long_parts h.0.address.version h.0.address.hash h.0.contract h.2.0.size in
-    omega (arith, sum, long)
-
 longer_parts : (version : ℕ) (hash : List ℕ) (c : Option (List ℕ)) (rest : List ℕ) → length hash ≡ 20 → (get_or (parts version hash c ++ rest) 0 0 ≡ 5 → ⊥) → 22 < length (parts version hash c)
 longer_parts version hash None rest long other = absurd (other refl)
 longer_parts version hash (Some name) rest long other = let sum = length-append hash (length name ∷ name) in omega (arith, sum, long)
@@ -67,9 +56,6 @@ has_length bytes h other =
 
 pub spot_split : (at : Place) (key : Tree) → spot at.contract at.name key ≡ holder at.contract ++ (name_wire at.name ++ wire key)
 spot_split at key = append_assoc (holder at.contract) (name_wire at.name) (wire key)
-
-pub spot_begins : (bytes : List ℕ) → IsSpot bytes → BeginsWithPrincipal bytes
-spot_begins bytes h = (h.0.contract, name_wire h.0.name ++ wire h.1, h.2.0, h.4 ∙ spot_split h.0 h.1)
 
 abbrev pub OwnSpelling : Type 0
 OwnSpelling = (v w : Tree) → IsVal v → IsVal w → wire v ≡ wire w → v ≡ w

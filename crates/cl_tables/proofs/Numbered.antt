@@ -1,7 +1,7 @@
 -- Tokens by number: what look-ups by place find, and what a change of one is to the map of them.
 use Rattle.std.proofs.Common.{◌≡◌, refl, sym, ap, subst, ◌∙◌, ℕ, zero, suc, ◌<◌, ◌≤◌, ◌+◌, List, [], ◌∷◌, ◌++◌, length, arith, take, Bor}
 use Rattle.std.specs.Prelude.{T, Bool, true, false, not, cond, Option, None, Some, is_some, IsSome, map, nat_lt, option_copied, slice_get}
-use Rattle.std.specs.List.{AllByRecursion as ByRecursion, position, position_or_len}
+use Rattle.std.specs.List.{position, position_or_len}
 use Rattle.std.specs.Option.{option_map}
 use Rattle.std.specs.Map.{lookup, keys_of, values_of}
 use Rattle.std.proofs.lemmas.Bool.Decides.{nat_tests}
@@ -165,20 +165,6 @@ module _ {A : Type 0} where
   placed_more [] at a all real = (real, tt)
   placed_more (e ∷ es) at a all real = (all.0, placed_more es at a all.1 real)
 
-  pub each_set : (P : A → Type 0) (a : A) (es : List (Place × A)) (i : ℕ) → P a → ByRecursion (λ e. P e.1) es → ByRecursion (λ e. P e.1) (set_value_at es i a)
-  each_set P a [] i new all = tt
-  each_set P a (e ∷ es) zero new all = (new, all.1)
-  each_set P a (e ∷ es) (suc i) new all = (all.0, each_set P a es i new all.1)
-
-  pub each_more : (P : A → Type 0) (es : List (Place × A)) (at : Place) (a : A) → ByRecursion (λ e. P e.1) es → P a → ByRecursion (λ e. P e.1) (es ++ (at, a) ∷ [])
-  each_more P [] at a all new = (new, tt)
-  each_more P (e ∷ es) at a all new = (all.0, each_more P es at a all.1 new)
-
-  pub each_at : (P : A → Type 0) (none : A) (es : List (Place × A)) (i : ℕ) → P none → ByRecursion (λ e. P e.1) es → P (value_at none es i)
-  each_at P none [] i last all = last
-  each_at P none (e ∷ es) zero last all = all.0
-  each_at P none (e ∷ es) (suc i) last all = each_at P none es i last all.1
-
   -- a changed token is as it was, once it is changed back
   pub changed_back : (none a : A) (f : A → A) (es new : List (Place × A)) (i : ℕ) → i < length es → new ≡ set_value_at es i a → f a ≡ value_at none es i → set_value_at new i (f (value_at none new i)) ≡ es
   changed_back none a f es new i low is back =
@@ -189,14 +175,6 @@ module _ {A : Type 0} where
   has_step : (P : A → Type 0) (b : Bool) (x a : A) (o : Option A) → P x → (o ≡ Some a → P a) → cond b (Some x) o ≡ Some a → P a
   has_step P true x a o here rest is = subst P (cc) here
   has_step P false x a o here rest is = rest is
-
-  found_has : (P : A → Type 0) (key : List ℕ) (es : List (Place × A)) (a : A) → ByRecursion (λ e. P e.1) es → find key_cmp key (keyed es) ≡ Some a → P a
-  found_has P key [] a all is = absurd (none-some a is)
-  found_has P key (e ∷ es) a all is = has_step P (is_key key (key_of e.0)) e.1 a (find key_cmp key (keyed es)) all.0 (λ h. found_has P key es a all.1 h) is
-
-  -- what holds of each token holds of the one at a place
-  pub each_get : (P : A → Type 0) (key : List ℕ) (es : List (Place × A)) (a : A) → ByRecursion (λ e. P e.1) es → get key (by_place es) ≡ Some a → P a
-  each_get P key es a all is = found_has P key es a all (sym (get-by_place es key) ∙ is)
 
   pub value_got : (none x : A) (es : List (Place × A)) (i : ℕ) → Some x ≡ slice_get (values_of es) i → x ≡ value_at none es i
   value_got none x [] i is = absurd (none-some x (sym is))

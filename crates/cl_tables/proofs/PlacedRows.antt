@@ -19,7 +19,7 @@ use Rattle.cl_tables.specs.RowParts.{Adds, OfPlaced}
 use Rattle.cl_tables.proofs.PlaceKeys.{keys_apart}
 use Rattle.cl_tables.proofs.SamePlaces.{equal_is}
 use Rattle.cl_tables.proofs.Numbered.{parts_of, parts_nowhere, parts_placed}
-use Rattle.cl_tables.proofs.RowLists.{adds_so, adds_more, adds_none}
+use Rattle.cl_tables.proofs.RowLists.{adds_so, adds_more}
 use Rattle.cl_tables.proofs.MadeRows.{place_of_row}
 
 -- of each token of a list
@@ -132,9 +132,6 @@ module _ {A B : Type 0} (part : A → B) (P : Place → B → StateRow → Type 
       let front = sym at in
       let split : drop (i - 1) es ≡ e ∷ drop i es = drop_more es (i - 1) e (omega (arith, some, fits)) ∙ (λ j. front j ∷ drop (next j) es) in
       told_before (drop (i - 1) es) (drop i es) e a b c split (apart_drop es (i - 1) (places_apart es (parts_placed part es placed) distinct)) told more
-
-  pub told_none : (es : List (Place × A)) (i : ℕ) (a : List StateRow) → drop i es ≡ [] → Told es i a a
-  told_none es i a is = adds_none (OfTokens P (parts_of part (drop i es))) a a refl (λ r h. subst (λ (xs : List (Place × A)). OfTokens P (parts_of part xs) r) is h)
 
   pub told_all : (es : List (Place × A)) (i : ℕ) (a b : List StateRow) → ArePlaced (parts_of part es) → IsDistinct eq-value.it (keys_of es) → i ≤ 0 → Told es i a b → Adds (OfPlaced P (by_place (parts_of part es))) a b
   told_all es i a b placed distinct none told =

@@ -54,9 +54,6 @@ turned P Q xs a to from = record { sound = weaker P Q xs to a.sound; whole = λ 
 pub adds_so : (P Q : StateRow → Type 0) (a b : List StateRow) → Adds P a b → ((r : StateRow) → P r → Q r) → ((r : StateRow) → Q r → P r) → Adds Q a b
 adds_so P Q a b adds to from = (adds.0, adds.1, turned P Q adds.0 adds.2 to from)
 
-pub adds_none : (P : StateRow → Type 0) (a b : List StateRow) → b ≡ a → ((r : StateRow) → P r → ⊥) → Adds P a b
-adds_none P a b is never = ([], is ∙ sym (append-nil a), record { sound = tt; whole = λ r h. absurd (never r h); once = tt })
-
 pub adds_one : (a b : List StateRow) (row : StateRow) → b ≡ a ++ row ∷ [] → Adds (λ r. r ≡ row) a b
 adds_one a b row is = (row ∷ [], is, record { sound = (refl, tt); whole = λ r same. (0, omega arith, sym same); once = (tt, tt) })
 
@@ -196,16 +193,9 @@ module _ {A : Type 0} where
   abbrev pub Underway : (List ℕ × A → StateRow → Type 0) → List (List ℕ × A) → List (List ℕ × A) → List StateRow → List StateRow → Type 0
   Underway R whole rest a b = (front : List (List ℕ × A)) × (front ++ rest ≡ whole) × Lists R front a b
 
-  pub underway_first : (R : List ℕ × A → StateRow → Type 0) (whole rest : List (List ℕ × A)) (a : List StateRow) → rest ≡ whole → Underway R whole rest a a
-  underway_first R whole rest a is = ([], is, listed_none R a a refl)
-
   pub underway_more : (R : List ℕ × A → StateRow → Type 0) (whole rest next : List (List ℕ × A)) (e : List ℕ × A) (a b c : List StateRow) (row : StateRow) → Underway R whole rest a b → rest ≡ e ∷ next → R e row → c ≡ b ++ row ∷ [] → Underway R whole next a c
   underway_more R whole rest next e a b c row so_far split is more =
       (so_far.0 ++ e ∷ [], append_assoc so_far.0 (e ∷ []) next ∙ ap (λ xs. so_far.0 ++ xs) (sym split) ∙ so_far.1, listed_more R so_far.0 e a b c row so_far.2 is more)
-
-  pub underway_all : (R : List ℕ × A → StateRow → Type 0) (whole rest : List (List ℕ × A)) (a b : List StateRow) → Underway R whole rest a b → rest ≡ [] → Lists R whole a b
-  underway_all R whole rest a b so_far none =
-      subst (λ xs. Lists R xs a b) (sym (append-nil so_far.0) ∙ ap (λ xs. so_far.0 ++ xs) (sym none) ∙ so_far.1) so_far.2
 
   module _ (m : Map A) (R : List ℕ × A → StateRow → Type 0) (key_of_row : StateRow → List ℕ) (same : (e : List ℕ × A) (r : StateRow) → R e r → e.0 ≡ key_of_row r) (one : (e : List ℕ × A) (r q : StateRow) → R e r → R e q → r ≡ q) where
     abbrev pub OfMap : StateRow → Type 0

@@ -167,9 +167,6 @@ made_sorted t s h e =
       within : everywhere is_within t ≡ everywhere is_within s
       within = sym (everywhere_sorted is_within within_sorted t) ∙ ap (everywhere is_within) (sym e)
 
-pub made_empty : (t : PlainType) → everywhere has_key t ≡ false → made t ≡ Err EmptyTuple
-made_empty t h = ap (λ (b : Bool). answered b (everywhere keys_differ t) (nat_lt 32 (depth_of t)) (everywhere is_within t) (sorted t)) h
-
 module _ (t s : PlainType) (keyed : everywhere has_key t ≡ true) (is : s ≡ sorted t) where
   pub made_twice : everywhere keys_rise s ≡ false → made t ≡ Err KeyTwice
   made_twice rise =

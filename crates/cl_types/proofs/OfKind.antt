@@ -1,8 +1,8 @@
 -- What a type of some kind is: a fact on all types of the kind is one on the type.
 use Rattle.std.proofs.Common.{◌≡◌, ℕ, true, false}
 use Rattle.std.proofs.lemmas.Bool.{false≢true}
-use Rattle.cl_types.specs.Types.{PlainType, IntType, UintType, BoolType, PrincipalType, BuffType, AsciiType, Utf8Type, ListType, OptionalType, ResponseType}
-use Rattle.cl_types.specs.TypeKinds.{is_int, is_uint, is_bool, is_principal, is_optional, is_response, is_sequence, is_hashed}
+use Rattle.cl_types.specs.Types.{PlainType, IntType, UintType, BoolType, BuffType, AsciiType, Utf8Type, ListType, OptionalType, ResponseType}
+use Rattle.cl_types.specs.TypeKinds.{is_int, is_uint, is_bool, is_optional, is_response, is_sequence, is_hashed}
 
 pub int_type : (P : PlainType → Type 0) (t : PlainType) → is_int t ≡ true → P IntType → P t
 int_type P IntType h p = p
@@ -15,10 +15,6 @@ uint_type P t h p = absurd (false≢true h)
 pub bool_type : (P : PlainType → Type 0) (t : PlainType) → is_bool t ≡ true → P BoolType → P t
 bool_type P BoolType h p = p
 bool_type P t h p = absurd (false≢true h)
-
-pub principal_type : (P : PlainType → Type 0) (t : PlainType) → is_principal t ≡ true → P PrincipalType → P t
-principal_type P PrincipalType h p = p
-principal_type P t h p = absurd (false≢true h)
 
 pub optional_type : (P : PlainType → Type 0) (t : PlainType) → is_optional t ≡ true → ((u : PlainType) → P (OptionalType u)) → P t
 optional_type P (OptionalType u) h p = p u

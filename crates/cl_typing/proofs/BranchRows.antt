@@ -1,5 +1,5 @@
 -- Rows of match and try.
-use Rattle.std.proofs.Common.{◌≡◌, Bool, true, false, List, [], ◌∷◌, length, map, get_or, Result, Ok, Err, refl, sym, ap, subst, arith}
+use Rattle.std.proofs.Common.{◌≡◌, Bool, true, List, [], ◌∷◌, length, map, get_or, Result, Ok, Err, refl, sym, subst, arith}
 use Rattle.std.specs.Prelude.{nat_le, ◌&&◌}
 use Rattle.std.proofs.lemmas.Bool.{and_parts, and_from, leb-true, le-leb}
 use Rattle.cl_types.specs.Types.{PlainType, NoType, OptionalType, ResponseType, size_of}
@@ -11,12 +11,10 @@ use Rattle.cl_types.specs.declared.sized.TyRefusal.{TyRefusal}
 use Rattle.cl_types.specs.declared.sized.TyRefusal.TheVariants.{Differ, TooLarge as LargeTy, TooDeep as DeepTy, EmptyTuple, KeyTwice}
 use Rattle.cl_sexpr.specs.declared.rule.Rule.{Rule}
 use Rattle.cl_sexpr.specs.declared.rule.Rule.TheVariants.{ArgumentKind}
-use Rattle.cl_rules.specs.NativeTypes.{Ruled, fine, wrong_kind, and_lub, one, part_row}
-use Rattle.cl_rules.specs.Bills.{Bill, Both, Greater}
-use Rattle.cl_rules.specs.Verdicts.{Found, types_of, sum_of, summed, concluded}
-use Rattle.cl_rules.specs.ControlShapes.{if_determined, tried, try_row, match_verdict, optional_verdict, response_verdict, bound_branch}
-use Rattle.cl_typing.specs.Verdicts.{Rules, RulesWith}
-use Rattle.cl_typing.specs.Branches.{optional_row, response_row, tried_of}
+use Rattle.cl_rules.specs.NativeTypes.{Ruled, fine, wrong_kind, and_lub, one}
+use Rattle.cl_rules.specs.ControlShapes.{if_determined}
+use Rattle.cl_typing.specs.Verdicts.{Rules}
+use Rattle.cl_typing.specs.Branches.{optional_row, response_row}
 
 -- ---- branches
 
@@ -76,31 +74,6 @@ pub response_else : (ts : List PlainType) → (length ts ≡ 3 → ⊥) → Rule
 response_else [] h = (refl, refl)
 response_else (t ∷ ts) h = wrong (response_row (t ∷ ts)) (far_response t ts (unlike_three t ts h))
 
-optional_by : (own : Bill) (i a b : Found) (t : PlainType) → (bound : Bill) × (optional_verdict own i a b t ≡ concluded (optional_row (t ∷ a.type ∷ b.type ∷ [])) 0 bound (i ∷ a ∷ b ∷ []))
-optional_by own i a b (OptionalType t) = (Both own (Both i.bound (Greater (bound_branch t a) b.bound)), refl)
-optional_by own i a b t = (Both own (sum_of (i ∷ a ∷ b ∷ [])), refl)
-
-response_by : (own : Bill) (i a b : Found) (t : PlainType) → (bound : Bill) × (response_verdict own i a b t ≡ concluded (response_row (t ∷ a.type ∷ b.type ∷ [])) 0 bound (i ∷ a ∷ b ∷ []))
-response_by own i a b (ResponseType t e) = (Both own (Both i.bound (Greater (bound_branch t a) (bound_branch e b))), refl)
-response_by own i a b t = (Both own (sum_of (i ∷ a ∷ b ∷ [])), refl)
-
-at_row : (own : Bill) (fs : List Found) (R : Ruled) → R ≡ wrong_kind → summed wrong_kind own fs ≡ concluded R 0 (Both own (sum_of fs)) fs
-at_row own fs R is = ap (λ (S : Ruled). concluded S 0 (Both own (sum_of fs)) fs) (sym is)
-
-pub optional_is : (own : Bill) (fs : List Found) → (bound : Bill) × (match_verdict true own fs ≡ concluded (optional_row (types_of fs)) 0 bound fs)
-optional_is own [] = (Both own (sum_of []), refl)
-optional_is own (i ∷ []) = (Both own (sum_of (i ∷ [])), at_row own (i ∷ []) (optional_row (types_of (i ∷ []))) (far_optional i.type [] (λ e. absurd (omega (arith, e)))))
-optional_is own (i ∷ a ∷ []) = (Both own (sum_of (i ∷ a ∷ [])), at_row own (i ∷ a ∷ []) (optional_row (types_of (i ∷ a ∷ []))) (far_optional i.type (a.type ∷ []) (λ e. absurd (omega (arith, e)))))
-optional_is own (i ∷ a ∷ b ∷ []) = optional_by own i a b i.type
-optional_is own (i ∷ a ∷ b ∷ c ∷ fs) = (Both own (sum_of (i ∷ a ∷ b ∷ c ∷ fs)), at_row own (i ∷ a ∷ b ∷ c ∷ fs) (optional_row (types_of (i ∷ a ∷ b ∷ c ∷ fs))) (far_optional i.type (a.type ∷ b.type ∷ c.type ∷ types_of fs) (λ e. absurd (omega (arith, e)))))
-
-pub response_is : (own : Bill) (fs : List Found) → (bound : Bill) × (match_verdict false own fs ≡ concluded (response_row (types_of fs)) 0 bound fs)
-response_is own [] = (Both own (sum_of []), refl)
-response_is own (i ∷ []) = (Both own (sum_of (i ∷ [])), at_row own (i ∷ []) (response_row (types_of (i ∷ []))) (far_response i.type [] (λ e. absurd (omega (arith, e)))))
-response_is own (i ∷ a ∷ []) = (Both own (sum_of (i ∷ a ∷ [])), at_row own (i ∷ a ∷ []) (response_row (types_of (i ∷ a ∷ []))) (far_response i.type (a.type ∷ []) (λ e. absurd (omega (arith, e)))))
-response_is own (i ∷ a ∷ b ∷ []) = response_by own i a b i.type
-response_is own (i ∷ a ∷ b ∷ c ∷ fs) = (Both own (sum_of (i ∷ a ∷ b ∷ c ∷ fs)), at_row own (i ∷ a ∷ b ∷ c ∷ fs) (response_row (types_of (i ∷ a ∷ b ∷ c ∷ fs))) (far_response i.type (a.type ∷ b.type ∷ c.type ∷ types_of fs) (λ e. absurd (omega (arith, e)))))
-
 -- ---- try
 
 pub err_alone_sized : (t e : PlainType) → IsSized (ResponseType t e) → IsSized (ResponseType NoType e)
@@ -115,10 +88,3 @@ err_alone_sized t e h =
       depth = omega (arith, h.depth);
       sizes = and_from (is_within (ResponseType NoType e) && true) (everywhere is_within e) (and_from (is_within (ResponseType NoType e)) true (and_from (nat_le (size_of (ResponseType NoType e)) 1048576) true (le-leb (size_of (ResponseType NoType e)) 1048576 (omega (arith, leb-true (size_of (ResponseType t e)) 1048576 sizes.0))) refl) refl) part.sizes;
     }
-
-pub tried_one : (ts : List PlainType) (t : PlainType) (r : Result PlainType (Fault Rule)) → ts ≡ t ∷ [] → Rules (part_row t) r → RulesWith (tried_of ts) (one try_row ts) r
-tried_one ts t r is h = subst (λ (us : List PlainType). RulesWith (tried_of us) (one try_row us) r) (sym is) (with_thrown r h) where
-  with_thrown : (s : Result PlainType (Fault Rule)) → Rules (part_row t) s → RulesWith (tried t) (try_row t) s
-  with_thrown (Ok u) k = (k.0, k.1, refl)
-  with_thrown (Err (Refused q)) k = (k.0, refl)
-  with_thrown (Err NoMemory) k = tt

@@ -15,16 +15,9 @@ abbrev pub behind : List Tree → Arguments → Arguments
 behind vs (Ok ws) = Ok (vs ++ ws)
 behind vs (Err o) = Err o
 
-behind_none : (args : Arguments) → args ≡ behind [] args
-behind_none (Ok ws) = refl
-behind_none (Err o) = refl
-
 behind_one : (vs : List Tree) (v : Tree) (args : Arguments) → behind vs (before v args) ≡ behind (vs ++ v ∷ []) args
 behind_one vs v (Ok ws) = λ i. Ok (sym (append_assoc vs (v ∷ []) ws) i)
 behind_one vs v (Err o) = refl
-
-pub spell_first : (words : List (List ℕ)) (args : Arguments) → Spell words args → Spell words (behind [] args)
-spell_first words args s = subst (Spell words) (behind_none args) s
 
 -- all words so far are values, and this is one more
 pub spell_next : (words rest more : List (List ℕ)) (word : List ℕ) (vs : List Tree) (v : Tree) → ((args : Arguments) → Spell rest args → Spell words (behind vs args)) → rest ≡ word ∷ more → Parses word (Stands v) → (args : Arguments) → Spell more args → Spell words (behind (vs ++ v ∷ []) args)

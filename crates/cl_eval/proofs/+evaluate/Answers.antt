@@ -42,7 +42,7 @@ use Rattle.cl_meaning.specs.Sequences.{each, folded}
 use Rattle.cl_meaning.specs.Scope.{sizes}
 use Rattle.cl_meaning.specs.Answers.{stop, outcome_of}
 use Rattle.cl_frames.specs.Applying.{callee_seen}
-use Rattle.cl_frames.specs.Rows.{rows_from, entries_from}
+use Rattle.cl_frames.specs.Rows.{rows_from}
 use Rattle.cl_frames.proofs.Parts.{onto, onto-nil}
 use Rattle.cl_frames.proofs.Binding.{given_as}
 use Rattle.cl_frames.proofs.IterateLaws

@@ -1,4 +1,4 @@
-use Rattle.std.proofs.Common.{map, take, ap, ◌∙◌}
+use Rattle.std.proofs.Common.{map, ap, ◌∙◌}
 use Rattle.std.specs.Borrow.{Bor}
 use Rattle.cl_types.specs.declared.sized.SizedTy.{SizedTy}
 use Rattle.cl_code.specs.Typed.{type_of}
