@@ -163,9 +163,8 @@ fn run_over(
     rt: &HostRuntime,
     case: Case,
     words: &[String],
-    files: MemoryFiles,
+    mut files: MemoryFiles,
 ) -> Result<Ended, BadCase> {
-    let mut files = files;
     let mut out = sink_of(rt.alloc(), case)?;
     let (status, heard) = told(rt, case, words, &mut files, &mut out)?;
     let is_as_wanted = heard && is_wanted(rt, case, status, &out, &files)?;

@@ -108,7 +108,6 @@ fn fits_joined(first: &Val, second: &Val) -> bool
 }
 
 /// `concat`
-#[tactic(auto, using(crate::proofs::DefinedLaws::concat_lists_is, crate::proofs::DefinedLaws::concat_characters_is))]
 fn concats(first: &Val, second: &Val) -> bool
     ensures { result ≡ is_defined (kept (concat (first.now ∷ second.now ∷ []))) }
 {
@@ -242,7 +241,6 @@ fn has_key_inside(key: &Name, inner: &Value) -> bool
 }
 
 /// `get`, with the key.
-#[tactic(auto, using(crate::proofs::PartLaws::part_is))]
 fn has_key(key: &Name, value: &Val) -> bool
     ensures { result ≡ is_defined (kept (part_at key.now value.now)) }
 {

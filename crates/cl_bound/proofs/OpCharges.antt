@@ -8,7 +8,7 @@ use Rattle.cl_types.specs.Types.{PlainType, NoType, IntType, UintType, BoolType,
 use Rattle.cl_shapes.specs.declared.name.CostName.TheVariants.{Control, Lookup, ContractCall as ContractCallCost}
 use Rattle.cl_sexpr.specs.declared.sexpr.Span.{Span}
 use Rattle.cl_sexpr.specs.declared.rule.Rule.{Rule}
-use Rattle.cl_sexpr.specs.declared.rule.Rule.TheVariants.{ArgumentCount}
+use Rattle.cl_sexpr.specs.declared.rule.Rule.TheVariants.{ArgumentCount, UnknownName, NotAValue}
 use Rattle.cl_sexpr.specs.Tree.{Tree, LeafAt, ListAt, Standing, Local, Unsigned, forest}
 use Rattle.cl_forms.specs.Heads.{Row, native, row_of}
 use Rattle.cl_forms.specs.declared.head.Head.{Head}
@@ -17,9 +17,10 @@ use Rattle.cl_forms.specs.HeadNames.{name_of}
 use Rattle.cl_forms.specs.Shapes.{trees_of}
 use Rattle.cl_c32.specs.declared.principal.Principal.{Principal}
 use Rattle.cl_rules.specs.Faults.{sound_shape, type_rules, when}
+use Rattle.cl_rules.specs.NativeTypes.{wrong_kind}
 use Rattle.cl_rules.specs.Bills.{Bill, Charge, Both, Greater}
 use Rattle.cl_rules.specs.Context.{Context, Names, Signature, Known, signature_in, if_callable, target_at, named_in, is_no_value}
-use Rattle.cl_rules.specs.Verdicts.{Found, type_at, types_of, sum_of}
+use Rattle.cl_rules.specs.Verdicts.{Found, type_at, types_of, sum_of, summed}
 use Rattle.cl_rules.specs.ControlShapes.{name_shape, keyword_or, value_or, no_value_shape, let_verdict, match_verdict, binds, bound_branch, optional_verdict, response_verdict}
 use Rattle.cl_rules.specs.CallShapes.{call_shape, target_or_not, contract_literal, call_verdict, is_unlike_function, length_at, function_of}
 use Rattle.cl_rules.specs.Shapes.{Shape, First, There, there_or_not, is_no_such, is_no_name, at_first, parts, is_miscounted}
@@ -49,6 +50,14 @@ use Rattle.cl_bound.proofs.NamedCharges.{named_charges, applied_charges}
 by_head : (h : Head) (head at : Span) (args : List Tree) (G : Context) (B : Names) (n : ℕ) (own : PlainType → List PlainType → Bill) (inside : List Found → Bill) → Charges (head_shape h (row_of h) G B args) n own inside → Charges (shape G B (headed (name_of h) head args at)) n own inside
 by_head h head at args G B n own inside law = subst (λ (s : Shape). Charges s n own inside) (sym (headed_shape h head at args G B)) law
 
+-- ---- rules that are broken
+
+some_rule : (r : Rule) (rs : List Rule) → r ∷ rs ≡ [] → ⊥
+some_rule r rs h = cc
+
+kind_rule : (own : Bill) (fs : List Found) → type_rules (summed wrong_kind own fs).faults ≡ [] → ⊥
+kind_rule own fs fine = some_rule _ _ fine
+
 -- ---- let
 
 bound_length : (bs : List Binding) (es : List Tree) → length bs ≤ length es → length (bound_items bs es) ≡ length bs
@@ -77,50 +86,50 @@ not_true true h = absurd cc
 not_true false h = refl
 
 found_charges : (n : ℕ) (o p : Option PlainType) (known : Bool) → Charges (value_or o (value_or p (no_value_shape known))) n (λ t ts. Charge Lookup (size_of t)) sum_of
-found_charges n None None true fs sound count fine = absurd cc
-found_charges n None None false fs sound count fine = absurd cc
+found_charges n None None true fs sound count fine = absurd (some_rule NotAValue [] sound)
+found_charges n None None false fs sound count fine = absurd (some_rule UnknownName [] sound)
 found_charges n None (Some t) known fs sound count fine = refl
 found_charges n (Some t) p known fs sound count fine = refl
 
 -- ---- match
 
 odd_match : (b : Bool) (own : Bill) (fs : List Found) → length fs ≢ 3 → type_rules (match_verdict b own fs).faults ≡ [] → ⊥
-odd_match true own [] odd fine = cc
-odd_match false own [] odd fine = cc
-odd_match true own (i ∷ []) odd fine = cc
-odd_match false own (i ∷ []) odd fine = cc
-odd_match true own (i ∷ a ∷ []) odd fine = cc
-odd_match false own (i ∷ a ∷ []) odd fine = cc
+odd_match true own [] odd fine = kind_rule own [] fine
+odd_match false own [] odd fine = kind_rule own [] fine
+odd_match true own (i ∷ []) odd fine = kind_rule own (i ∷ []) fine
+odd_match false own (i ∷ []) odd fine = kind_rule own (i ∷ []) fine
+odd_match true own (i ∷ a ∷ []) odd fine = kind_rule own (i ∷ a ∷ []) fine
+odd_match false own (i ∷ a ∷ []) odd fine = kind_rule own (i ∷ a ∷ []) fine
 odd_match b own (i ∷ a ∷ c ∷ []) odd fine = odd refl
-odd_match true own (i ∷ a ∷ c ∷ d ∷ fs) odd fine = cc
-odd_match false own (i ∷ a ∷ c ∷ d ∷ fs) odd fine = cc
+odd_match true own (i ∷ a ∷ c ∷ d ∷ fs) odd fine = kind_rule own (i ∷ a ∷ c ∷ d ∷ fs) fine
+odd_match false own (i ∷ a ∷ c ∷ d ∷ fs) odd fine = kind_rule own (i ∷ a ∷ c ∷ d ∷ fs) fine
 
 optional_bound : (own : Bill) (i a b : Found) (t : PlainType) → type_rules (optional_verdict own i a b t).faults ≡ [] → (optional_verdict own i a b t).found.bound ≡ Both own (Both i.bound (Greater (bound_branch (good_part t) a) b.bound))
-optional_bound own i a b NoType fine = absurd cc
-optional_bound own i a b IntType fine = absurd cc
-optional_bound own i a b UintType fine = absurd cc
-optional_bound own i a b BoolType fine = absurd cc
-optional_bound own i a b PrincipalType fine = absurd cc
-optional_bound own i a b (BuffType n) fine = absurd cc
-optional_bound own i a b (AsciiType n) fine = absurd cc
-optional_bound own i a b (Utf8Type n) fine = absurd cc
-optional_bound own i a b (ListType n t) fine = absurd cc
-optional_bound own i a b (TupleType ks) fine = absurd cc
+optional_bound own i a b NoType fine = absurd (kind_rule own (i ∷ a ∷ b ∷ []) fine)
+optional_bound own i a b IntType fine = absurd (kind_rule own (i ∷ a ∷ b ∷ []) fine)
+optional_bound own i a b UintType fine = absurd (kind_rule own (i ∷ a ∷ b ∷ []) fine)
+optional_bound own i a b BoolType fine = absurd (kind_rule own (i ∷ a ∷ b ∷ []) fine)
+optional_bound own i a b PrincipalType fine = absurd (kind_rule own (i ∷ a ∷ b ∷ []) fine)
+optional_bound own i a b (BuffType n) fine = absurd (kind_rule own (i ∷ a ∷ b ∷ []) fine)
+optional_bound own i a b (AsciiType n) fine = absurd (kind_rule own (i ∷ a ∷ b ∷ []) fine)
+optional_bound own i a b (Utf8Type n) fine = absurd (kind_rule own (i ∷ a ∷ b ∷ []) fine)
+optional_bound own i a b (ListType n t) fine = absurd (kind_rule own (i ∷ a ∷ b ∷ []) fine)
+optional_bound own i a b (TupleType ks) fine = absurd (kind_rule own (i ∷ a ∷ b ∷ []) fine)
 optional_bound own i a b (OptionalType t) fine = refl
-optional_bound own i a b (ResponseType t e) fine = absurd cc
+optional_bound own i a b (ResponseType t e) fine = absurd (kind_rule own (i ∷ a ∷ b ∷ []) fine)
 
 response_bound : (own : Bill) (i a b : Found) (t : PlainType) → type_rules (response_verdict own i a b t).faults ≡ [] → (response_verdict own i a b t).found.bound ≡ Both own (Both i.bound (Greater (bound_branch (good_part t) a) (bound_branch (bad_part t) b)))
-response_bound own i a b NoType fine = absurd cc
-response_bound own i a b IntType fine = absurd cc
-response_bound own i a b UintType fine = absurd cc
-response_bound own i a b BoolType fine = absurd cc
-response_bound own i a b PrincipalType fine = absurd cc
-response_bound own i a b (BuffType n) fine = absurd cc
-response_bound own i a b (AsciiType n) fine = absurd cc
-response_bound own i a b (Utf8Type n) fine = absurd cc
-response_bound own i a b (ListType n t) fine = absurd cc
-response_bound own i a b (TupleType ks) fine = absurd cc
-response_bound own i a b (OptionalType t) fine = absurd cc
+response_bound own i a b NoType fine = absurd (kind_rule own (i ∷ a ∷ b ∷ []) fine)
+response_bound own i a b IntType fine = absurd (kind_rule own (i ∷ a ∷ b ∷ []) fine)
+response_bound own i a b UintType fine = absurd (kind_rule own (i ∷ a ∷ b ∷ []) fine)
+response_bound own i a b BoolType fine = absurd (kind_rule own (i ∷ a ∷ b ∷ []) fine)
+response_bound own i a b PrincipalType fine = absurd (kind_rule own (i ∷ a ∷ b ∷ []) fine)
+response_bound own i a b (BuffType n) fine = absurd (kind_rule own (i ∷ a ∷ b ∷ []) fine)
+response_bound own i a b (AsciiType n) fine = absurd (kind_rule own (i ∷ a ∷ b ∷ []) fine)
+response_bound own i a b (Utf8Type n) fine = absurd (kind_rule own (i ∷ a ∷ b ∷ []) fine)
+response_bound own i a b (ListType n t) fine = absurd (kind_rule own (i ∷ a ∷ b ∷ []) fine)
+response_bound own i a b (TupleType ks) fine = absurd (kind_rule own (i ∷ a ∷ b ∷ []) fine)
+response_bound own i a b (OptionalType t) fine = absurd (kind_rule own (i ∷ a ∷ b ∷ []) fine)
 response_bound own i a b (ResponseType t e) fine = refl
 
 match_optional : (n : ℕ) (fs : List Found) → n ≡ length fs + 1 → type_rules (match_verdict (nat_eq n 4) (Charge Control n) fs).faults ≡ [] → (match_verdict (nat_eq n 4) (Charge Control n) fs).found.bound ≡ Both (Charge Control 4) (of_branches (branch_by Good) (branch_by Plain) fs)
@@ -175,13 +184,13 @@ module _ (G : Context) (B : Names) (es : List Tree) where
 module _ (G : Context) (B : Names) where
   optional_charges : (es : List Tree) (head : Span) (part : Word) → Charges (head_shape heads.Match (row_of heads.Match) G B (optional_branches part es)) (length es) (own G (ops.MatchOptional head part)) (inside (ops.MatchOptional head part))
   unfolding head_shape
-  optional_charges [] head part fs sound count fine = absurd cc
+  optional_charges [] head part fs sound count fine = absurd (some_rule ArgumentCount _ sound)
   optional_charges (e ∷ more) head part fs sound count fine = match_optional (length (e ∷ word part ∷ more)) fs (omega (arith, count)) fine
 
   response_charges : (es : List Tree) (head : Span) (good bad : Word) → Charges (head_shape heads.Match (row_of heads.Match) G B (response_branches good bad es)) (length es) (own G (ops.MatchResponse head good bad)) (inside (ops.MatchResponse head good bad))
   unfolding head_shape
-  response_charges [] head good bad fs sound count fine = absurd cc
-  response_charges (e ∷ []) head good bad fs sound count fine = absurd cc
+  response_charges [] head good bad fs sound count fine = absurd (some_rule ArgumentCount _ sound)
+  response_charges (e ∷ []) head good bad fs sound count fine = absurd (some_rule ArgumentCount _ sound)
   response_charges (e ∷ d ∷ last) head good bad fs sound count fine = match_response (length (e ∷ word good ∷ d ∷ word bad ∷ last)) fs (omega (arith, count)) fine
 
   pairs_charges : (es : List Tree) (head : Span) (pairs : Vec Binding) → Charges (head_shape heads.TupleOf (row_of heads.TupleOf) G B (bound_items pairs.items es)) (length es) (own G (ops.TupleOf head pairs)) sum_of
@@ -190,7 +199,7 @@ module _ (G : Context) (B : Names) where
 
   length_charges : (es : List Tree) (head at : Span) (most : ℕ) → Charges (head_shape heads.AsMaxLen (row_of heads.AsMaxLen) G B (behind_first (λ e more. e ∷ LeafAt (Unsigned most) at ∷ more) es)) (length es) (own G (ops.AsMaxLen head most at)) sum_of
   unfolding head_shape
-  length_charges [] head at most fs sound count fine = absurd cc
+  length_charges [] head at most fs sound count fine = absurd (some_rule ArgumentCount _ sound)
   length_charges (e ∷ more) head at most fs sound count fine = refl
 
 -- ---- calls

@@ -1,9 +1,10 @@
 -- What a walk through an expression finds.
-use Rattle.std.proofs.Common.{◌≡◌, refl, sym, ap, ◌∙◌, ℕ, suc, List, [], ◌∷◌, ◌++◌, length, append_assoc, arith, ◌==◌, ne_eqb, flat_map, OnOk, Result, Ok, Err, Some, None}
+use Rattle.std.proofs.Common.{◌≡◌, refl, sym, ap, ◌∙◌, ℕ, ◌+◌, ◌<◌, suc, List, [], ◌∷◌, ◌++◌, length, drop, get_or, append_assoc, arith, ◌==◌, ne_eqb, flat_map, OnOk, Result, Ok, Err, Some}
 use Rattle.std.proofs.lemmas.Grind.{flat_map-append}
-use Rattle.cl_sexpr.specs.Tree.{Tree, LeafAt, ListAt, TupleAt, Named, Signed, Unsigned, Bytes, Ascii, Unicode, Standing, Local, Forest, Then, forest}
+use Rattle.std.proofs.lemmas.List.{drop_more}
+use Rattle.cl_sexpr.specs.Tree.{Tree, LeafAt, ListAt, TupleAt, Named, Signed, Unsigned, Bytes, Ascii, Unicode, Standing, Local, Forest, Then, forest, pairs}
 use Rattle.cl_forms.specs.Items.{atom_of}
-use Rattle.cl_forms.specs.Names.{Place, Plain, place_behind, is_one, first_at, atoms_in, atoms_of_list, atoms_of}
+use Rattle.cl_forms.specs.Names.{Place, Plain, place_behind, next_place, is_one, first_at, atoms_in, atoms_of_list, atoms_of, atoms_of_pairs}
 
 pub one_behind : (ts : List Tree) → is_one (forest ts) ≡ (length ts == 1)
 one_behind [] = refl
@@ -21,18 +22,6 @@ named_first place (LeafAt (Standing z) at) es x is = cc
 named_first place (LeafAt (Local z) at) es x is = cc
 named_first place (ListAt items at) es x is = cc
 named_first place (TupleAt parts at) es x is = cc
-
-other_first : (place : Place) (e : Tree) (es : Forest) → None ≡ atom_of e → atoms_of_list place (Then e es) ≡ atoms_in Plain e ++ atoms_of Plain es
-other_first place (LeafAt (Named y) at) es is = cc
-other_first place (LeafAt (Signed z) at) es is = refl
-other_first place (LeafAt (Unsigned z) at) es is = refl
-other_first place (LeafAt (Bytes z) at) es is = refl
-other_first place (LeafAt (Ascii z) at) es is = refl
-other_first place (LeafAt (Unicode z) at) es is = refl
-other_first place (LeafAt (Standing z) at) es is = refl
-other_first place (LeafAt (Local z) at) es is = refl
-other_first place (ListAt items at) es is = refl
-other_first place (TupleAt parts at) es is = refl
 
 module _ (f : List ℕ → List ℕ) where
   -- one part is found, then another
@@ -52,3 +41,23 @@ module _ (f : List ℕ → List ℕ) where
       ∙ ap (λ b. first_at place b x ++ atoms_of (place_behind x) (forest es)) (one_behind es ∙ ap (λ (n : ℕ). n == 1) (sym counted))
       ∙ ap (λ p. first_at place (count == 1) x ++ atoms_of p (forest es)) (sym placed))
       first rest
+
+  -- one item more is walked through, or one pair
+  pub item_found : (ts : List Tree) (i : ℕ) (t : Tree) (here next : Place) (old mid all : List ℕ) → i < length ts → t ≡ get_or ts i t → next ≡ next_place here → mid ≡ old ++ flat_map f (atoms_in here t) → old ++ flat_map f (atoms_of here (forest (drop i ts))) ≡ all → mid ++ flat_map f (atoms_of next (forest (drop (i + 1) ts))) ≡ all
+  item_found ts i t here next old mid all inside at placed first so_far =
+      let rest : Forest = forest (drop (i + 1) ts) in
+      found_both (atoms_in here t) (atoms_of next rest) (atoms_of here (forest (drop i ts))) old mid (mid ++ flat_map f (atoms_of next rest))
+      (ap (λ (us : List Tree). atoms_of here (forest us)) (drop_more ts i t inside)
+      ∙ ap (λ (u : Tree). atoms_in here u ++ atoms_of (next_place here) rest) (sym at)
+      ∙ ap (λ (p : Place). atoms_in here t ++ atoms_of p rest) (sym placed))
+      first refl
+      ∙ so_far
+
+  pub pair_found : (ps : List (List ℕ × Tree)) (i : ℕ) (p : List ℕ × Tree) (old mid all : List ℕ) → i < length ps → p ≡ get_or ps i p → mid ≡ old ++ flat_map f (atoms_in Plain p.1) → old ++ flat_map f (atoms_of_pairs (pairs (drop i ps))) ≡ all → mid ++ flat_map f (atoms_of_pairs (pairs (drop (i + 1) ps))) ≡ all
+  pair_found ps i p old mid all inside at first so_far =
+      let rest : List (List ℕ) = atoms_of_pairs (pairs (drop (i + 1) ps)) in
+      found_both (atoms_in Plain p.1) rest (atoms_of_pairs (pairs (drop i ps))) old mid (mid ++ flat_map f rest)
+      (ap (λ (qs : List (List ℕ × Tree)). atoms_of_pairs (pairs qs)) (drop_more ps i p inside)
+      ∙ ap (λ (q : List ℕ × Tree). atoms_in Plain q.1 ++ rest) (sym at))
+      first refl
+      ∙ so_far

@@ -164,7 +164,6 @@ fn walk_list(
 }
 
 #[cycle(walk)]
-#[tactic(auto, using(cl_sexpr::specs::ViewFalls::part_falls))]
 fn walk_items(
     index: &Index,
     first: Site,
@@ -182,7 +181,6 @@ fn walk_items(
 }
 
 #[cycle(walk)]
-#[tactic(auto, using(cl_sexpr::specs::ViewFalls::pair_falls))]
 fn walk_pairs(
     index: &Index,
     parts: &[(Name, Sexpr)],

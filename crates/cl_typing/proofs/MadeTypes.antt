@@ -57,3 +57,6 @@ pub made_deep : (t : PlainType) (f : TyRefusal) → everywhere keys_are_names t 
 made_deep t f n k s m =
     let d : nat_lt most_depth (depth_of t) ≡ true = deep_by t f n k s m (nat_lt most_depth (depth_of t)) refl in
     (λ i. first_rule (when (not (s i)) TooLarge (when (d i) TooDeep [])), refl)
+
+pub made_large : (t : PlainType) → everywhere is_within t ≡ false → Rules (ruled_made t) (Err (Refused TooLarge))
+made_large t s = (λ i. first_rule (when (not (s i)) TooLarge (when (nat_lt most_depth (depth_of t)) TooDeep [])), refl)
