@@ -10,6 +10,7 @@ import shutil
 import subprocess
 import sys
 import tempfile
+import threading
 import time
 
 KINDS = ("proof", "edits", "tests", "programs")
@@ -136,6 +137,30 @@ def machine():
     return f"{len(os.sched_getaffinity(0))} processors ({names[0] if names else 'unknown'}), {memory:.0f} GiB"
 
 
+class Pace(threading.Thread):
+    """How fast the processors are while something runs: what one and the same loop takes of a processor, every ten seconds.
+    A machine that shares its cores with others may be twice as slow in one run as in the next, and processor seconds with it."""
+
+    def __init__(self):
+        super().__init__(daemon=True)
+        self.took, self.ended = [], threading.Event()
+
+    def run(self):
+        while not self.ended.wait(10):
+            began = time.thread_time()
+            sum(turn * turn % 7 for turn in range(100_000))
+            self.took.append(1000 * (time.thread_time() - began))
+
+    def line(self):
+        """Ends it, and gives the milliseconds of the loop, the quickest and the slowest tenth left out."""
+        self.ended.set()
+        self.join()
+        took = sorted(self.took) or [0.0]
+        tenth = len(took) // 10
+        low, middle, high = took[tenth], took[len(took) // 2], took[-1 - tenth]
+        return f"a loop of 100,000 turns took {middle:.1f} ms of a processor meanwhile ({low:.1f} to {high:.1f})"
+
+
 def spent():
     """What all processes have used that this one has waited for."""
     usage = resource.getrusage(resource.RUSAGE_CHILDREN)
@@ -159,14 +184,15 @@ def gate(root, names):
             keep_alone(f"{room}/clone", names)
         os.chdir(f"{room}/clone")
         rt = load(file)
-        before, began = spent(), time.time()
+        before, began, pace = spent(), time.time(), Pace()
+        pace.start()
         status, figures = measured(lambda: rt.main(["ci"]))
         used, wall = spent() - before, time.time() - began
         os.chdir(root)
     with open(f"{rt.KIT}/KIT-ID") as it:
         kit = it.read().strip()
     print(f"\n{time.strftime('%Y-%m-%d')}, {machine()}; commit {commit}; {kit}")
-    print(f"processor seconds; by the clock {wall / 60:.1f} minutes")
+    print(f"processor seconds; by the clock {wall / 60:.1f} minutes; {pace.line()}")
     for line in figures.lines():
         print(line)
     if not add_up(figures, used):
