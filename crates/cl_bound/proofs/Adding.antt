@@ -1,10 +1,11 @@
 -- Sums that are added up one by one.
-use Rattle.std.proofs.Common.{◌≡◌, ℕ, zero, suc, ◌+◌, ◌<◌, ◌≤◌, List, [], ◌∷◌, length, map, drop, get_or, drop-cons, refl, ap, sym, subst, ◌∙◌, arith}
+use Rattle.std.proofs.Common.{◌≡◌, ℕ, suc, ◌+◌, ◌<◌, ◌≤◌, List, length, map, drop, get_or, refl, ap, sym, subst, ◌∙◌, arith}
 use Rattle.std.proofs.lemmas.List.{drop_all, length-map, take-map}
 use Rattle.std.specs.Prelude.{◌-◌, take}
 use Rattle.cl_shapes.specs.declared.name.CostName.TheVariants.{Control}
 use Rattle.cl_rules.specs.Bills.{Charge, Both, cost_under}
 use Rattle.cl_types.specs.Types.{PlainType, size_of}
+use Rattle.cl_values.proofs.Lists.{rest_of}
 use Rattle.cl_shapes.specs.declared.cost.Cost5.{Cost5}
 use Rattle.cl_shapes.specs.declared.name.CostName.TheVariants.{Bind}
 use Rattle.cl_shapes.specs.Costs.{plus, zero_cost}
@@ -39,11 +40,6 @@ adds_end whole s adds = adds.1 ∙ ap told (sym (plus_zero adds.0) ∙ adds.2)
 
 -- ---- parts one by one
 
-pub rest_of : {A : Type 0} (xs : List A) (i : ℕ) (x : A) → i < length xs → get_or xs i x ≡ x → drop i xs ≡ x ∷ drop (i + 1) xs
-rest_of xs i x lt at =
-    let next : i + 1 ≡ suc i = omega arith in
-    rw next (drop-cons xs i x lt ∙ ap (λ y. y ∷ drop (suc i) xs) at)
-
 pub binds_turn : (table : CostTable) (whole : Cost5) (parts : List Typed) (i : ℕ) (p : Typed) (ty : PlainType) (s u : Sum) → i < length parts → get_or parts i p ≡ p → type_of p ≡ ty → Increases s u (cost_under table (Charge Bind (size_of ty))) → Adds whole (cost_under table (binds (map type_of (drop i parts)))) s → Adds whole (cost_under table (binds (map type_of (drop (i + 1) parts)))) u
 binds_turn table whole parts i p ty s u lt at type more adds =
     adds_more whole (cost_under table (Charge Bind (size_of (type_of p)))) (cost_under table (binds (map type_of (drop (i + 1) parts)))) s u
@@ -74,8 +70,3 @@ params_turn table whole ps i n p s u lt at size more adds =
 
 pub params_end : (table : CostTable) (whole : Cost5) (ps : List (List ℕ × PlainType)) (i : ℕ) (s : Sum) → length ps ≤ i → Adds whole (cost_under table (binds (types_at (drop i ps)))) s → s ≡ told whole
 params_end table whole ps i s far adds = adds_end whole s (subst (λ (qs : List (List ℕ × PlainType)). Adds whole (cost_under table (binds (types_at qs))) s) (drop_all i ps far) adds)
-
-pub again : {A : Type 0} (xs : List A) (i : ℕ) (d : A) → i < length xs → get_or xs i (get_or xs i d) ≡ get_or xs i d
-again [] i d lt = absurd (omega (arith, lt))
-again (x ∷ xs) zero d lt = refl
-again (x ∷ xs) (suc i) d lt = again xs i d (omega (arith, lt))

@@ -1,8 +1,7 @@
 -- What definitions add to the context, and what they are charged, one after another.
-use Rattle.std.proofs.Common.{◌≡◌, ℕ, ◌+◌, ◌<◌, ◌≤◌, Bool, true, false, List, [], ◌∷◌, ◌++◌, length, drop, get_or, filter_map, slice_get, Option, Some, None, Result, Ok, Err, refl, sym, ap, subst, ◌∙◌}
-use Rattle.std.specs.Prelude.{nat_eq, option_map, if◌then◌else◌, OnOk}
+use Rattle.std.proofs.Common.{◌≡◌, ℕ, ◌+◌, ◌<◌, ◌≤◌, Bool, true, false, List, [], ◌∷◌, ◌++◌, length, drop, get_or, slice_get, Option, Some, None, refl, sym, ap, subst, ◌∙◌}
+use Rattle.std.specs.Prelude.{nat_eq, option_map, if◌then◌else◌}
 use Rattle.std.specs.Option.{option_or}
-use Rattle.std.specs.List.{cons_option}
 use Rattle.std.specs.Map.{lookup}
 use Rattle.std.specs.Cmp.Lexicographic.{pointwise}
 use Rattle.std.proofs.lemmas.List.{drop_all}
@@ -10,20 +9,17 @@ use Rattle.cl_c32.specs.declared.principal.Principal.{Principal}
 use Rattle.cl_shapes.specs.declared.cost.Cost5.{Cost5}
 use Rattle.cl_shapes.specs.Costs.{plus}
 use Rattle.cl_costs.specs.Tables.{function_of}
-use Rattle.cl_sexpr.specs.Tree.{Tree}
-use Rattle.cl_code.specs.Typed.{Typed, typeds}
 use Rattle.cl_code.specs.Definitions.{form_defined, function_form}
 use Rattle.cl_code.specs.declared.definition.Function.{Function}
 use Rattle.cl_code.specs.declared.definition.Definition.{Definition}
 use Rattle.cl_code.specs.declared.definition.Definition.TheVariants.{Function as AFunction}
 use Rattle.cl_rules.specs.Bills.{cost_under}
-use Rattle.cl_rules.specs.Context.{Context, Names, CostTable, Known, Signature, same, signature_in}
+use Rattle.cl_rules.specs.Context.{CostTable, Known, Signature, same, signature_in}
 use Rattle.cl_rules.specs.Verdicts.{Found}
-use Rattle.cl_rules.specs.Shapes.{Ends, Part}
 use Rattle.cl_rules.specs.FormRules.{Defined, application, signature_of, form_charges, defined_after, nothing_defined}
 use Rattle.cl_contracts.specs.declared.checked.Checked.{Checked}
 use Rattle.cl_contracts.specs.Seen.{kind_at}
-use Rattle.cl_contracts.specs.Standing.{Stands, StandAll}
+use Rattle.cl_contracts.specs.Standing.{Stands}
 use Rattle.cl_contracts.specs.Standings.{StandsAs, AllStand, definitions_in_order}
 use Rattle.cl_sums.specs.declared.sum.Sum.{Sum}
 use Rattle.cl_bound.specs.declared.prices.Application.{Application}
@@ -32,19 +28,9 @@ use Rattle.cl_sums.specs.Sums.{told}
 use Rattle.cl_bound.specs.Seen.{ShowsPrices, ShowFunctions, application_of}
 use Rattle.cl_forms.proofs.SameNames.{same_turned}
 use Rattle.cl_contracts.proofs.Places.{under_name}
-use Rattle.cl_bound.proofs.Adding.{rest_of}
-
-pub on_ok : {A E P Q : Type 0} (r : Result A E) → (P → Q) → OnOk r P → OnOk r Q
-on_ok (Ok a) f h = f h
-on_ok (Err e) f h = tt
+use Rattle.cl_contracts.proofs.InOrder.{one_part, at_places, next_place}
 
 -- ---- one more function
-
--- the tree of a plan with one part
-one_part : (G : Context) (B : Names) (e : Tree) (q : Typed) (fs : List Found) → StandAll G (Part B e Ends) (typeds (q ∷ [])) fs → (f : Found) × (fs ≡ f ∷ []) × Stands G B q f
-one_part G B e q [] stand = absurd stand
-one_part G B e q (f ∷ []) stand = (f, refl, stand.1)
-one_part G B e q (f ∷ g ∷ fs) stand = absurd stand.2
 
 signature_last : (x : List ℕ) (fs : List Signature) (s : Signature) → signature_in x (fs ++ s ∷ []) ≡ option_or (signature_in x fs) (if same s.name x then Some s else None)
 signature_last x [] s = refl
@@ -84,10 +70,6 @@ defined_shows c n D fs f a kept access bound shows stands =
 
 -- ---- one definition after another
 
--- the definitions at these places
-abbrev pub at_places : Checked → List ℕ → List Definition
-at_places checked places = filter_map (slice_get checked.definitions.items) places
-
 -- After the definitions before these, whatever the contract stands for: their context is shown, and this is charged.
 abbrev pub Walked : Prices → Checked → List Definition → Prices → Sum → Type 0
 Walked c checked rest n sum =
@@ -107,11 +89,6 @@ AsWalked c checked i n sum = record {
   costs : n.costs ≡ c.costs;
   walked : Walked c checked (at_places checked (drop (i + 1) checked.order.items)) n sum;
 }
-
--- the next place
-next_place : (checked : Checked) (i place : ℕ) (o : Option Definition) → i < length checked.order.items → get_or checked.order.items i place ≡ place → slice_get checked.definitions.items place ≡ o → at_places checked (drop i checked.order.items) ≡ cons_option o (at_places checked (drop (i + 1) checked.order.items))
-next_place checked i place o lt at is =
-    ap (at_places checked) (rest_of checked.order.items i place lt at) ∙ ap (λ (p : Option Definition). cons_option p (at_places checked (drop (i + 1) checked.order.items))) is
 
 pub walked_past : (c n : Prices) (checked : Checked) (i place : ℕ) (sum : Sum) → i < length checked.order.items → get_or checked.order.items i place ≡ place → slice_get checked.definitions.items place ≡ None → Walked c checked (at_places checked (drop i checked.order.items)) n sum → Walked c checked (at_places checked (drop (i + 1) checked.order.items)) n sum
 walked_past c n checked i place sum lt at is walked = subst (λ (ds : List Definition). Walked c checked ds n sum) (next_place checked i place None lt at is) walked

@@ -4,6 +4,7 @@ use Rattle.std.specs.Prelude.{option_map}
 use Rattle.std.specs.List.{cons_option}
 use Rattle.std.proofs.lemmas.List.{length-map}
 use Rattle.std.proofs.lemmas.List.Elements.{Contains-get_or}
+use Rattle.cl_values.proofs.Lists.{rest_of}
 use Rattle.cl_shapes.specs.declared.cost.Cost5.{Cost5}
 use Rattle.cl_shapes.specs.Costs.{first_above}
 use Rattle.cl_code.specs.Definitions.{form_defined}
@@ -18,7 +19,6 @@ use Rattle.cl_tx.specs.Step.{bound_line}
 use Rattle.cl_bound.specs.declared.prices.Application.{Application}
 use Rattle.cl_sums.specs.Sums.{told}
 use Rattle.cl_bound.specs.Seen.{IsWithin, application_of}
-use Rattle.cl_bound.proofs.Adding.{rest_of}
 
 -- ---- one line
 

@@ -4,6 +4,7 @@ use Rattle.std.specs.Prelude.{option_map}
 use Rattle.std.specs.List.{cons_option}
 use Rattle.std.proofs.lemmas.List.{drop_all}
 use Rattle.std.proofs.lemmas.Option.{slice_get-map}
+use Rattle.cl_values.proofs.Lists.{rest_of}
 use Rattle.cl_sexpr.specs.declared.sexpr.Span.{Span}
 use Rattle.cl_shapes.specs.declared.cost.Cost5.{Cost5}
 use Rattle.cl_shapes.specs.declared.cost.Dimension.{Dimension}
@@ -21,7 +22,6 @@ use Rattle.cl_contracts.specs.Seen.{forms_of}
 use Rattle.cl_bound.specs.declared.prices.Application.{Application}
 use Rattle.cl_sums.specs.Sums.{told}
 use Rattle.cl_bound.specs.Seen.{application_of}
-use Rattle.cl_bound.proofs.Adding.{rest_of}
 
 -- ---- one function
 

@@ -1,5 +1,5 @@
 -- Bounds of typed trees from those of their parts.
-use Rattle.std.proofs.Common.{◌≡◌, ◌≢◌, ℕ, zero, suc, arith, ◌+◌, ◌<◌, ◌≤◌, true, List, [], ◌∷◌, length, map, drop, get_or, refl, ap, sym, subst, ◌∙◌}
+use Rattle.std.proofs.Common.{◌≡◌, ◌≢◌, ℕ, arith, ◌+◌, ◌<◌, ◌≤◌, true, List, [], ◌∷◌, length, map, drop, get_or, refl, ap, sym, subst, ◌∙◌}
 use Rattle.std.proofs.lemmas.List.{length-map, drop_all}
 use Rattle.cl_types.specs.Types.{PlainType}
 use Rattle.cl_shapes.specs.Costs.{plus, greater, zero_cost}
@@ -15,14 +15,15 @@ use Rattle.cl_rules.specs.Shapes.{Plan, Ends, Part, Gives}
 use Rattle.cl_code.specs.declared.op.Op.{Op}
 use Rattle.cl_code.specs.Nodes.{has_own_name}
 use Rattle.cl_code.specs.Expression.{expression}
-use Rattle.cl_code.specs.Typed.{Typed, TypedAs, typeds, expression_of, type_of, weight_of, weights_of}
+use Rattle.cl_code.specs.Typed.{Typed, TypedAs, typeds, expression_of, type_of}
 use Rattle.cl_contracts.specs.Standing.{Stands, StandAll}
 use Rattle.cl_types.specs.Types.{size_of}
+use Rattle.cl_values.proofs.Lists.{rest_of}
 use Rattle.cl_shapes.specs.declared.name.CostName.TheVariants.{Bind, Define}
 use Rattle.cl_bound.specs.declared.branches.Branch.{Branch}
 use Rattle.cl_bound.specs.declared.branches.Branch.TheVariants.{Good, Bad}
 use Rattle.cl_bound.specs.Own.{own, inside, good_part, bad_part, branch_by, of_branches}
-use Rattle.cl_bound.proofs.Adding.{Adds, adds_more, adds_end, rest_of, both_more, all_more}
+use Rattle.cl_bound.proofs.Adding.{Adds, adds_more, adds_end, both_more, all_more}
 use Rattle.cl_bound.proofs.OpCharges.{op_charges}
 
 type_stands : (G : Context) (B : Names) (q : Typed) (f : Found) → Stands G B q f → f.type ≡ type_of q
@@ -101,11 +102,6 @@ good_sum table f t b n s i u b_is n_is s_is i_is add = add (cost_under table (Ch
 
 pub bad_sum : (table : CostTable) (f : Found) (t : PlainType) (b : Branch) (n : ℕ) (s i u : Sum) → b ≡ Bad → n ≡ size_of (bad_part t) → s ≡ told (cost_under table (Charge Bind n)) → i ≡ told (cost_under table f.bound) → ((x y : Cost5) → s ≡ told x → i ≡ told y → u ≡ told (plus x y)) → u ≡ told (cost_under table (branch_by b t f))
 bad_sum table f t b n s i u b_is n_is s_is i_is add = add (cost_under table (Charge Bind (size_of (bad_part t)))) (cost_under table f.bound) (s_is ∙ ap (λ (m : ℕ). told (cost_under table (Charge Bind m))) n_is) i_is ∙ ap (λ (c : Branch). told (cost_under table (branch_by c t f))) (sym b_is)
-
-pub part_falls : (qs : List Typed) (i : ℕ) (q : Typed) → i < length qs → get_or qs i q ≡ q → weight_of q < weights_of (typeds qs)
-part_falls [] i q lt at = absurd (omega (arith, lt))
-part_falls (p ∷ qs) zero q lt at = let same : weight_of p ≡ weight_of q = ap weight_of at in omega (arith, same)
-part_falls (p ∷ qs) (suc i) q lt at = omega (arith, part_falls qs i q (omega (arith, lt)) at)
 
 next_stands : (G : Context) (p : Plan) (q : Typed) (rest : List Typed) (fs : List Found) → StandAll G p (typeds (q ∷ rest)) fs → (r : Plan) × (gs : List Found) × (f : Found) × (B : Names) × (fs ≡ f ∷ gs) × Stands G B q f × StandAll G r (typeds rest) gs
 next_stands G Ends q rest fs s = absurd s

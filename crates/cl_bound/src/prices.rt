@@ -2,7 +2,6 @@
 ghost use Rattle.std.specs.Prelude.{◌≡◌, ℕ, ◌<◌, ◌^◌, List};
 ghost use Rattle.cl_costs.specs.Tables.{function_of};
 ghost use Rattle.cl_code.specs.Expression.{target_leaf};
-ghost use Rattle.cl_shapes.specs.Functions.{cost_at, shape_at, log2};
 ghost use Rattle.cl_rules.specs.Bills.{Charge, cost_under};
 ghost use Rattle.cl_rules.specs.Context.{Context, Known, Signature, CostTable as Table, signature_in, if_callable, target_at};
 ghost use Rattle.cl_rules.specs.FormRules.{nothing_defined};
@@ -17,7 +16,7 @@ use cl_c32::Principal;
 use cl_code::Target;
 use cl_contracts::contract_of_literal;
 use cl_costs::CostTable;
-use cl_shapes::{Cost5, CostFn, CostName, Shape};
+use cl_shapes::CostName;
 use cl_sums::Sum;
 use cl_types::{Access, Name};
 use indexmap::IndexMap;
@@ -49,40 +48,6 @@ fn callable(functions: &IndexMap<Name, Application>, name: &Name) -> Sum
             _ => application.bound,
         },
         None => Sum::ZERO,
-    }
-}
-
-/// The logarithm to base 2, rounded down, and 0 at 0.
-fn log2(n: u64) -> u32
-    ensures value { result ≡ log2 n }
-    ensures small { result < 64 }
-{
-    if n == 0 { 0 } else { n.ilog2() }
-}
-
-fn shape_at(shape: Shape, n: u64) -> u128
-    ensures { result ≡ shape_at shape n }
-{
-    let logarithm = u128::from(log2(n));
-    let n = u128::from(n);
-    match shape {
-        Shape::Constant(b) => u128::from(b),
-        Shape::Linear(a, b) => u128::from(a) * n + u128::from(b),
-        Shape::Logn(a, b) => u128::from(a) * logarithm + u128::from(b),
-        Shape::Nlogn(a, b) => u128::from(a) * n * logarithm + u128::from(b),
-    }
-}
-
-/// The cost at any number; `CostFn::at` takes those that a `Meter` may be charged with.
-fn cost_at(function: CostFn, n: u64) -> Cost5
-    ensures { result ≡ cost_at function n }
-{
-    Cost5 {
-        runtime: shape_at(function.runtime, n),
-        read_count: shape_at(function.read_count, n),
-        read_length: shape_at(function.read_length, n),
-        write_count: shape_at(function.write_count, n),
-        write_length: shape_at(function.write_length, n),
     }
 }
 
@@ -132,7 +97,7 @@ impl<'a> Prices<'a> {
     pub(crate) fn charge_count(&self, name: CostName, count: usize) -> Sum
         ensures { result ≡ told (cost_under (function_of self.now.costs) (Charge name count)) }
     {
-        Sum::of(cost_at(self.costs.of(name), count as u64))
+        Sum::of(self.costs.of(name).at_any(count as u64))
     }
 
     /// The bound of one application of a function of the contract.

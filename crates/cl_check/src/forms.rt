@@ -17,7 +17,7 @@ use cl_code::{
     Code, Constant, Definition, Function, Fungible, MapOf, NonFungible, TopLevel, Variable,
 };
 use cl_forms::{Form, FormKind};
-use cl_judging::{Context, Signature};
+use cl_judging::{Context, Signature, params_copied};
 use cl_sexpr::{Break, Sexpr, Span};
 use cl_types::{Access, Fault, Name, NoMemory, SizedTy, TyKind};
 use cl_typing::{Checked, of};
@@ -161,17 +161,6 @@ fn nonfungible(
     }))
 }
 
-fn copied(alloc: Global, params: &[(Name, SizedTy)]) -> Result<Vec<(Name, SizedTy)>, NoMemory>
-    ensures { IfOk result (λ copies. copies.items ≡ params.now) }
-{
-    let mut copies = Vec::new(alloc);
-    for param in params {
-        let ty = param.1.copy(alloc)?;
-        copies.push((param.0, ty))?;
-    }
-    Ok(copies)
-}
-
 fn signature(
     alloc: Global,
     access: Access,
@@ -180,7 +169,7 @@ fn signature(
 ) -> Result<Signature, NoMemory>
     ensures { IfOk result (λ f. shown f ≡ record { access = access; params = params.now; returns = body.now.returns; height = body.now.height }) }
 {
-    let params = copied(alloc, params)?;
+    let params = params_copied(alloc, params)?;
     let returns = body.returns.copy(alloc)?;
     Ok(Signature {
         access,
@@ -212,7 +201,7 @@ fn function(
     };
     let kept = signature(alloc, access, params, &body)?;
     add_function(ctx, *name, kept)?;
-    let params = copied(alloc, params)?;
+    let params = params_copied(alloc, params)?;
     Ok(defined(*name, access, params, body, span))
 }
 

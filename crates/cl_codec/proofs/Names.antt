@@ -4,7 +4,7 @@ use Rattle.std.specs.Prelude.{Ok, Err, if◌then◌else◌}
 use Rattle.std.proofs.lemmas.Bool.{leb-true}
 use Rattle.cl_values.specs.declared.fault.DecodeRefusal.TheVariants.{BadName}
 use Rattle.cl_values.specs.Reading.{Read, and_then, part, place, read_name}
-use Rattle.cl_codec.proofs.Levels.{if_false}
+use Rattle.cl_values.proofs.Back.{if_false}
 
 not_both : (a b : Bool) → (a ≡ true → b ≡ true → ⊥) → (a && b) ≡ false
 not_both true true never = absurd (never refl refl)

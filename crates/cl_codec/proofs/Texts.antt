@@ -1,17 +1,13 @@
 -- A UTF-8 string that is read whole.
-use Rattle.std.proofs.Common.{◌≡◌, ℕ, ◌==◌, true, List, ◌++◌, length, drop, arith, ap, sym, ◌∙◌}
+use Rattle.std.proofs.Common.{◌≡◌, ℕ, ◌==◌, List, ◌++◌, length, drop, ap, sym, ◌∙◌}
 use Rattle.std.specs.Prelude.{Ok, Err}
 use Rattle.std.specs.Str.{chars, IsUtf8}
 use Rattle.std.specs.Str.Lossy.{utf8_valid_len}
-use Rattle.std.proofs.lemmas.Bool.Decides.{nat_tests}
 use Rattle.std.proofs.lemmas.Str.{utf8_valid_len-IsUtf8}
 use Rattle.cl_values.specs.declared.fault.DecodeRefusal.TheVariants.{BadText}
 use Rattle.cl_values.specs.Tree.{Utf8V}
 use Rattle.cl_values.specs.Reading.{Read, and_then, place, read_counted, read_utf8, as_text}
-use Rattle.cl_values.proofs.Back.{if_true}
-
-eq_test : (n m : ℕ) → n ≡ m → (n == m) ≡ true
-eq_test n m h = grind (arith, nat_tests)
+use Rattle.cl_values.proofs.Back.{if_true, eq_test}
 
 pub utf8_read : (total : ℕ) (bytes text rest items : List ℕ) → read_counted total bytes ≡ Ok (text, rest) → IsUtf8 text → items ≡ chars text → read_utf8 total bytes ≡ Ok (Utf8V items, rest)
 utf8_read total bytes text rest items e u same =

@@ -5,3 +5,4 @@ pub mod Among
 pub mod KnownLaws
 pub mod Constants
 pub mod Once
+pub mod InOrder

@@ -1,5 +1,5 @@
 -- The contract of a principal.
-use Rattle.std.proofs.Common.{◌≡◌, ℕ, ◌≤◌, Bool, true, false, cond, List, [], ◌∷◌, ◌++◌, length, map, Option, Some, None, refl, sym, ap, subst, ◌∙◌, lit≤, arith, Bor}
+use Rattle.std.proofs.Common.{◌≡◌, Bool, true, false, cond, List, [], ◌∷◌, ◌++◌, map, Option, Some, None, refl, sym, ap, subst, ◌∙◌, Bor}
 use Rattle.std.specs.Prelude.{if◌then◌else◌, option_map, option_copied, IfSome}
 use Rattle.std.specs.Cmp.{both_ways}
 use Rattle.std.specs.Map.{lookup}
@@ -9,8 +9,9 @@ use Rattle.cl_c32.proofs.Principals.{principal_itself, principals_turned, same_i
 pub use Rattle.cl_c32.proofs.Principals.{principals_equal, principals_turned as same_principal_turned}
 use Rattle.cl_maps.proofs.MapLaws.{same_keys, self_equal}
 use Rattle.cl_values.specs.Tree.{Tree, PrincipalV}
-use Rattle.cl_values.specs.Wire.{wire, contract_size}
-use Rattle.cl_values.specs.Valid.{IsVal, IsPrincipal, IsContractPart}
+use Rattle.cl_values.specs.Wire.{wire}
+use Rattle.cl_values.specs.Valid.{IsVal, IsPrincipal}
+use Rattle.cl_values.proofs.Parts.{principal_is_val}
 use Rattle.cl_events.specs.State.{holder, is_principal}
 use Rattle.cl_meaning.specs.Deployed.{contract_at}
 use Rattle.cl_rules.specs.Context.{same_principal}
@@ -21,16 +22,6 @@ use Rattle.cl_contracts.specs.Seen.{contract_seen, contract_under, IsEntry, AreE
 
 abbrev pub OwnSpelling : Type 0
 OwnSpelling = (v w : Tree) → IsVal v → IsVal w → wire v ≡ wire w → v ≡ w
-
-part_small : (part : Option (List ℕ)) → IsContractPart part → contract_size part ≤ 129
-part_small None h = lit≤ tt
-part_small (Some name) h = let low : length name ≤ 128 = h.within in omega arith
-
-principal_is_val : (p : Principal) → IsPrincipal p → IsVal (PrincipalV p)
-principal_is_val p h =
-    let hash : length p.address.hash ≡ 20 = h.0.size in
-    let part : contract_size p.contract ≤ 129 = part_small p.contract h.1 in
-    record { ranges = h; keys = refl; texts = refl; depth = lit≤ tt; size = omega arith }
 
 -- principals with one key are one
 pub one_principal : OwnSpelling → (p q : Principal) → IsPrincipal p → IsPrincipal q → is_principal p q ≡ true → p ≡ q

@@ -1,25 +1,15 @@
 -- Two principals have one key where they are one.
-use Rattle.std.proofs.Common.{◌≡◌, ℕ, ◌≤◌, true, List, length, Option, Some, None, refl, sym, ap, ◌∙◌, lit≤, arith}
+use Rattle.std.proofs.Common.{◌≡◌, true, sym, ap, ◌∙◌}
 use Rattle.std.specs.Cmp.{both_ways}
 use Rattle.cl_c32.specs.declared.principal.Principal.{Principal}
 use Rattle.cl_c32.specs.Principals.{same_principal}
 use Rattle.cl_c32.proofs.Principals.{principals_equal, principal_itself}
 use Rattle.cl_maps.proofs.MapLaws.{same_keys, self_equal}
 use Rattle.cl_values.specs.Tree.{PrincipalV}
-use Rattle.cl_values.specs.Wire.{contract_size}
-use Rattle.cl_values.specs.Valid.{IsVal, IsPrincipal, IsContractPart}
+use Rattle.cl_values.specs.Valid.{IsPrincipal}
 use Rattle.cl_values.proofs.Spellings.{own_wire}
+use Rattle.cl_values.proofs.Parts.{principal_is_val}
 use Rattle.cl_events.specs.State.{holder, is_principal}
-
-part_small : (part : Option (List ℕ)) → IsContractPart part → contract_size part ≤ 129
-part_small None h = lit≤ tt
-part_small (Some name) h = let low : length name ≤ 128 = h.within in omega arith
-
-principal_is_val : (p : Principal) → IsPrincipal p → IsVal (PrincipalV p)
-principal_is_val p h =
-    let hash : length p.address.hash ≡ 20 = h.0.size in
-    let part : contract_size p.contract ≤ 129 = part_small p.contract h.1 in
-    record { ranges = h; keys = refl; texts = refl; depth = lit≤ tt; size = omega arith }
 
 pub holders_apart : (p q : Principal) → IsPrincipal p → IsPrincipal q → is_principal p q ≡ true → p ≡ q
 holders_apart p q vp vq e =

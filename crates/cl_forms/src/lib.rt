@@ -22,6 +22,7 @@ pub use form::{Form, FormKind};
 pub use head::{Head, TokenNative};
 pub use keyword::Keyword;
 pub use laws::{natives_have_one_name, rows_are_of_heads};
+pub use names::is_one_of;
 pub use placed::{
     expressions_are_placed, expressions_are_within_limits, expressions_nest_as_items,
 };

@@ -12,8 +12,8 @@ pub(crate) fn is(name: &Name, word: &str) -> bool
     name.bytes() == word.as_bytes()
 }
 
-// Whether a name is one of these words.
-fn is_one_of(words: &[&str], name: &Name) -> bool
+/// Whether a name is one of these words.
+pub fn is_one_of(words: &[&str], name: &Name) -> bool
     ensures { result ≡ is_one_of (map (λ word. word.now) words.now) name.now }
 {
     for word in words {

@@ -2,6 +2,7 @@
 use Rattle.std.proofs.Common.{◌≡◌, ℕ, suc, ◌+◌, ◌<◌, ◌≤◌, List, [], ◌∷◌, ◌++◌, length, get_or, take, drop, Result, Ok, Err, refl, sym, ap, ◌∙◌, subst, arith}
 use Rattle.std.proofs.lemmas.List.{drop_all, take_all, length-drop}
 use Rattle.cl_types.specs.Types.{PlainType}
+use Rattle.cl_values.proofs.Lists.{next_part}
 use Rattle.cl_shapes.specs.Limits.{Purse, spend}
 use Rattle.cl_shapes.specs.declared.name.CostName.TheVariants.{Bind}
 use Rattle.cl_values.specs.Tree.{Tree as Val}
@@ -17,7 +18,6 @@ use Rattle.cl_frames.proofs.WatchLaws.{watched-stop}
 use Rattle.cl_frames.specs.declared.stop.Stop.{Stop}
 use Rattle.cl_frames.specs.Runs.{Pays}
 use Rattle.cl_frames.proofs.WatchSteps.{stops_eq, charge_spent, charge_refused}
-use Rattle.cl_frames.proofs.Parts.{next_part}
 use Rattle.cl_frames.proofs.Pairing.{Params, paired-nil, none_taken, there, more_pairs}
 
 -- from this place on, whatever follows

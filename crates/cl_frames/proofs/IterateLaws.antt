@@ -1,6 +1,6 @@
 -- map, filter and fold, as equations over the expressions of their parts; and what is given by name.
 use Rattle.std.proofs.Common.{◌≡◌, ◌<◌, ℕ, suc, List, [], ◌∷◌, length, get_or, map, true, false, Bool, Option, Some, None, refl, sym, ap, ◌∙◌, arith}
-use Rattle.std.specs.Prelude.{if◌then◌else◌, not, is_some}
+use Rattle.std.specs.Prelude.{if◌then◌else◌}
 use Rattle.cl_shapes.specs.Limits.{Purse}
 use Rattle.cl_shapes.specs.declared.name.CostName.TheVariants.{Iterate}
 use Rattle.cl_sexpr.specs.declared.sexpr.Span.{Span}
@@ -39,6 +39,7 @@ use Rattle.cl_frames.specs.declared.applied.ByName.TheVariants as code
 use Rattle.cl_frames.specs.Applying.{name_of_applied, place_of_applied, by_name, join, joined}
 use Rattle.cl_frames.proofs.Forms.{one_of, two_of, applied_native}
 use Rattle.cl_frames.proofs.Heads.{row_by_name, row_head, exactly}
+use Rattle.cl_frames.proofs.Nodes.{no_row}
 
 -- ---- what is given by name
 
@@ -47,10 +48,6 @@ named (given.Function f) = refl
 named (given.OnValues native at) = refl
 named (given.And at) = refl
 named (given.Or at) = refl
-
-no_row : (o : Option Row) → not (is_some o) ≡ true → o ≡ None
-no_row None h = refl
-no_row (Some row) h = absurd cc
 
 own_called : (S : Scope) (w : Word) (f : Option Function) → has_own_applied (given.Function w) ≡ true → f ≡ function_of w.name (home S) → callee_of S w.name w.span ≡ own f
 unfolding has_own_applied

@@ -2,6 +2,7 @@
 use Rattle.std.proofs.Common.{◌≡◌, ℕ, ◌+◌, ◌-◌, ◌<◌, ◌≤◌, zero, suc, List, [], ◌∷◌, ◌++◌, length, map, take, drop, get_or, append_assoc, true, false, Result, Err, refl, sym, ap, ◌∙◌, subst, arith}
 use Rattle.std.proofs.lemmas.List.{length-map, length-drop, drop_all, append-nil}
 use Rattle.std.proofs.Common.{Vec, Global}
+use Rattle.cl_values.proofs.Lists.{next_part}
 use Rattle.cl_shapes.specs.Limits.{Purse}
 use Rattle.cl_shapes.specs.declared.name.CostName.TheVariants.{Control, Bind}
 use Rattle.cl_sexpr.specs.declared.sexpr.Span.{Span}
@@ -27,7 +28,6 @@ use Rattle.cl_frames.specs.declared.way.Way.TheVariants.{Good, Bad, Neither}
 use Rattle.cl_frames.specs.Runs.{optional_way_of, response_way_of, content}
 use Rattle.cl_frames.proofs.Steps.{Handed}
 use Rattle.cl_frames.proofs.WatchSteps.{stops_eq}
-use Rattle.cl_frames.proofs.Parts.{next_part}
 use Rattle.cl_frames.proofs.Forms.{three_of}
 
 pub optional_at : (take : Take) (S : Scope) (x : Word) (xs : List Typed) (s : State) → length xs ≡ 3 → (a : Typed) → a ≡ get_or xs 0 a → (b : Typed) → b ≡ get_or xs 1 b → (c : Typed) → c ≡ get_or xs 2 c → match_form take S (optional_branches x (map expression_of xs)) s ≡ charged Control 4 (and_then (take S (expression_of a) s) (match_optional take S x.name (expression_of b) (expression_of c)))

@@ -13,8 +13,8 @@ use Rattle.cl_meaning.specs.Control.{choice, and_on, or_on}
 use Rattle.cl_meaning.specs.Limits.{Costs}
 use Rattle.cl_frames.specs.Watching.{Seen, watched}
 use Rattle.std.specs.Prelude.{true, false}
-use Rattle.cl_frames.proofs.Parts.{next_part}
 use Rattle.std.specs.Prelude.{Option}
+use Rattle.cl_values.proofs.Lists.{next_part}
 use Rattle.cl_c32.specs.declared.principal.Principal.{Principal}
 use Rattle.cl_contracts.specs.declared.deployed.Deployed.{Deployed}
 use Rattle.cl_contracts.specs.Seen.{deployed_seen}

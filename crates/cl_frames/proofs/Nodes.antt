@@ -35,7 +35,7 @@ not_true : (b : Bool) → not b ≡ true → b ≡ false
 not_true true h = cc
 not_true false h = refl
 
-no_row : (o : Option Row) → not (is_some o) ≡ true → o ≡ None
+pub no_row : (o : Option Row) → not (is_some o) ≡ true → o ≡ None
 no_row None h = refl
 no_row (Some row) h = absurd cc
 

@@ -4,11 +4,11 @@ use Rattle.std.specs.Prelude.{if◌then◌else◌}
 use Rattle.std.specs.Str.{bytes_eq}
 use Rattle.std.proofs.lemmas.List.{drop_all}
 use Rattle.cl_types.specs.Types.{PlainType}
+use Rattle.cl_values.proofs.Lists.{next_part}
 use Rattle.cl_values.specs.Tree.{Tree as Val}
 use Rattle.cl_meaning.specs.Deployed.{value_of}
 use Rattle.cl_meaning.specs.Scope.{BoundValues}
 use Rattle.cl_frames.specs.Named.{paired}
-use Rattle.cl_frames.proofs.Parts.{next_part}
 
 abbrev pub Params : Type 0
 Params = List (List ℕ × PlainType)

@@ -1,8 +1,8 @@
 -- The parts of a node, one after another.
-use Rattle.std.proofs.Common.{◌≡◌, ℕ, suc, ◌+◌, ◌<◌, ◌≤◌, List, [], ◌∷◌, ◌++◌, length, get_or, drop, map, Result, Err, add-one, append_assoc, refl, sym, ap, ◌∙◌, subst}
+use Rattle.std.proofs.Common.{◌≡◌, ℕ, ◌+◌, ◌<◌, ◌≤◌, List, [], ◌∷◌, ◌++◌, length, get_or, drop, map, Result, Err, append_assoc, refl, sym, ap, ◌∙◌, subst}
 use Rattle.std.proofs.Common.{Vec, Global}
-use Rattle.std.proofs.Math.Seq.{drop-cons}
 use Rattle.std.proofs.lemmas.List.{append-nil, drop_all}
+use Rattle.cl_values.proofs.Lists.{next_part}
 use Rattle.cl_shapes.specs.Limits.{Purse}
 use Rattle.cl_sexpr.specs.Tree.{Tree}
 use Rattle.cl_values.specs.Tree.{Tree as Val}
@@ -53,9 +53,6 @@ parts_stop : (costs : Costs) (p q : Purse) (sp sq : Seen) (take : Take) (S : Sco
 unfolding parts
 parts_stop costs p q sp sq take S e es s vs x u h =
     stops_after (watched costs p sp (parts take S (e ∷ es) s)) (λ ws t r sr. Gave (vs ++ ws) t r sr) x q sq u (λ ws t r sr. start_here sr) (stops_then costs p q sp sq (take S e s) _ x u h)
-
-pub next_part : {A : Type 0} (xs : List A) (i : ℕ) (x : A) → i < length xs → x ≡ get_or xs i x → drop i xs ≡ x ∷ drop (i + 1) xs
-next_part xs i x h k = rw (add-one, drop-cons xs i x) (ap (λ y. y ∷ drop (suc i) xs) (sym k))
 
 -- a turn of the loop over the parts
 pub parts_turn : (costs : Costs) (p q : Purse) (sp sq : Seen) (take : Take) (S : Scope) (xs : List Typed) (i : ℕ) (x : Typed) (s t : State) (vs us : List Val) (v : Val) → i < length xs → x ≡ get_or xs i x → us ≡ vs ++ v ∷ [] → watched costs p sp (take S (expression_of x) s) ≡ Gave v t q sq → onto vs (watched costs p sp (parts take S (map expression_of (drop i xs)) s)) ≡ onto us (watched costs q sq (parts take S (map expression_of (drop (i + 1) xs)) t))

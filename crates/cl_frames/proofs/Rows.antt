@@ -3,11 +3,11 @@ use Rattle.std.proofs.Common.{◌≡◌, ℕ, zero, suc, ◌+◌, ◌<◌, ◌�
 use Rattle.std.proofs.Common.{Vec, Global}
 use Rattle.std.specs.Prelude.{is_some, IfSome}
 use Rattle.std.proofs.lemmas.List.{append-nil, drop_all}
+use Rattle.cl_values.proofs.Lists.{next_part}
 use Rattle.cl_values.specs.Tree.{Tree as Val}
 use Rattle.cl_values.specs.Sequences.{entries_of}
 use Rattle.cl_meaning.specs.Sequences.{and_head, heads, tails, and_more, side_by_side, and_entries, all_entries, rows_of}
 use Rattle.cl_frames.specs.Rows.{list_in, entries_from, entry_in, and_entry, row_at, width_of, beside_first, rows_in, rows_from}
-use Rattle.cl_frames.proofs.Parts.{next_part}
 
 -- ---- one sequence
 

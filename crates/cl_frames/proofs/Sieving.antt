@@ -12,14 +12,13 @@ use Rattle.cl_values.specs.Wire.{size_of}
 use Rattle.cl_values.specs.Valid.{IsVal, made, is_text_byte, has_rising_keys, has_good_texts, items_have_rising_keys, items_have_good_texts}
 use Rattle.cl_values.specs.Computed.{Gives, is_within}
 use Rattle.cl_values.specs.Sequences.{singles, contents, joined}
-use Rattle.cl_values.proofs.Lists.{values_of_items}
+use Rattle.cl_values.proofs.Lists.{values_of_items, next_part}
 use Rattle.cl_meaning.specs.Answers.{Given, Wrong, outcome_of}
 use Rattle.cl_meaning.specs.Calls.{and_truth, truths}
 use Rattle.cl_frames.specs.declared.stop.Stop.{Stop}
 use Rattle.cl_frames.specs.Runs.{Computes}
 use Rattle.cl_frames.specs.Applying.{truth_of, join}
 use Rattle.cl_frames.specs.Kept.{flags_of, chosen, sieved}
-use Rattle.cl_frames.proofs.Parts.{next_part}
 
 -- ---- truth values joined
 

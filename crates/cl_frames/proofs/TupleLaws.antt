@@ -4,6 +4,7 @@ use Rattle.std.specs.Prelude.{◌&&◌, ◌||◌, not, zip}
 use Rattle.std.specs.List.{list_any}
 use Rattle.std.specs.Str.{bytes_eq}
 use Rattle.std.proofs.lemmas.List.{append-nil, drop_all}
+use Rattle.cl_values.proofs.Lists.{next_part}
 use Rattle.cl_shapes.specs.Limits.{Purse}
 use Rattle.cl_sexpr.specs.Tree.{Tree}
 use Rattle.cl_values.specs.Tree.{Tree as Val, entries_of}
@@ -22,7 +23,6 @@ use Rattle.cl_meaning.specs.Limits.{Costs}
 use Rattle.cl_frames.specs.Watching.{Seen, Lost, watched}
 use Rattle.cl_frames.proofs.WatchLaws.{watched-stop}
 use Rattle.cl_frames.specs.Tails.{tuple_made}
-use Rattle.cl_frames.proofs.Parts.{next_part}
 
 -- ---- keys and values side by side
 

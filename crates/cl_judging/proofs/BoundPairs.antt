@@ -41,7 +41,7 @@ taken_bind c B x y = ap (λ (b : Bool). (is_reserved y || top_level_in c y) || b
 pub pair_taken : (c : CodeContext) (B : Names) (x y : List ℕ) (b d : Bool) → b ≡ taken_in c B x → d ≡ taken_in c (bind x NoType B) y → (b || d) ≡ shadowed_in c B (x ∷ y ∷ [])
 pair_taken c B x y b d h k = (λ i. h i || (k ∙ sym (or_none (taken_in c (bind x NoType B) y))) i)
 
-both_false : (a b : Bool) → (a || b) ≡ false → (a ≡ false) × (b ≡ false)
+pub both_false : (a b : Bool) → (a || b) ≡ false → (a ≡ false) × (b ≡ false)
 both_false false b h = (refl, h)
 both_false true b h = absurd cc
 

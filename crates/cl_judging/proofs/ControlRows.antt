@@ -8,7 +8,7 @@ use Rattle.cl_types.specs.declared.sized.TyRefusal.{TyRefusal}
 use Rattle.cl_types.specs.declared.sized.TyRefusal.TheVariants.{Differ, TooLarge as LargeTy, TooDeep as DeepTy, EmptyTuple, KeyTwice}
 use Rattle.cl_sexpr.specs.declared.rule.Rule.{Rule}
 use Rattle.cl_sexpr.specs.declared.rule.Rule.TheVariants.{ArgumentKind}
-use Rattle.cl_rules.specs.NativeTypes.{Ruled, fine, if_kind, and_lub, lubbed, one, two}
+use Rattle.cl_rules.specs.NativeTypes.{Ruled, fine, if_kind, and_lub, lubbed, two}
 use Rattle.cl_types.specs.TypeKinds.{is_bool}
 use Rattle.cl_rules.specs.Bills.{Bill, Free, Charge, Both, Greater}
 use Rattle.cl_rules.specs.Verdicts.{Found, Verdict, types_of, sum_of, concluded}
@@ -35,9 +35,6 @@ quiet (Err KeyTwice) = refl
 pub kind_fails : (b : Bool) (t u : PlainType) → b ≡ false → Rules (if_kind b (lubbed t u)) (Err (Refused ArgumentKind))
 kind_fails true t u h = absurd cc
 kind_fails false t u h = (refl, quiet (least_supertype t u))
-
-pub one_at : (row : PlainType → Ruled) (ts : List PlainType) (t : PlainType) (r : Result PlainType (Fault Rule)) → ts ≡ t ∷ [] → Rules (row t) r → Rules (one row ts) r
-one_at row ts t r is h = subst (λ (us : List PlainType). Rules (one row us) r) (sym is) h
 
 pub if_else : (ts : List PlainType) (r : Result PlainType (Fault Rule)) → (length ts ≡ 3 → ⊥) → Rules (fine NoType) r → Rules (if_row ts) r
 if_else [] r h k = k

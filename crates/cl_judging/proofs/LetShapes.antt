@@ -34,7 +34,7 @@ use Rattle.cl_typing.specs.Verdicts.{texts_of, first_rule}
 use Rattle.cl_judging.specs.Walking.{Finds, judged_as, ChecksHead, Finishes}
 use Rattle.cl_judging.specs.LetWalk.{exprs_of, plan_of, ChecksBindings, ChecksMore, JudgesLet, ChecksLetWith, ChecksLet}
 use Rattle.cl_judging.proofs.Lets.{shadowed_is}
-use Rattle.cl_judging.proofs.Lists.{shape_fails, parts_fail, parts_finish, twice}
+use Rattle.cl_judging.proofs.Lists.{shape_fails, parts_fail, parts_finish, twice, texts_length}
 use Rattle.cl_judging.proofs.Plans.{walked_end}
 
 module _ (c : CodeContext) (B : Names) (items body : List Tree) (at : Span) (some : nat_eq (length body) 0 ≡ false) where
@@ -126,10 +126,6 @@ let_text items body es bs head at span sound all text count =
 append_length : (xs ys : List Tree) → length (xs ++ ys) ≡ length xs + length ys
 append_length [] ys = omega arith
 append_length (x ∷ xs) ys = omega (arith, append_length xs ys)
-
-texts_length : (cs : List Checked) → length (texts_of cs) ≡ length cs
-texts_length [] = refl
-texts_length (c ∷ cs) = ap suc (texts_length cs)
 
 let_length : (items body : List Tree) (cs : List Checked) → is_some (bindings_of items) ≡ true → texts_of cs ≡ exprs_of items ++ body → length cs ≡ length items + length body
 let_length items body cs sound all =

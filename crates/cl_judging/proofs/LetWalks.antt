@@ -1,10 +1,10 @@
 -- The walk over a let.
 use Rattle.std.proofs.Common.{◌≡◌, ℕ, ◌+◌, ◌<◌, ◌≤◌, Bool, true, false, List, [], ◌∷◌, ◌++◌, map, length, drop, take, get_or, filter_map, Option, Some, None, Ok, Err, refl, ap, sym, subst, ◌∙◌, arith, append_assoc}
 use Rattle.std.specs.Prelude.{◌||◌, is_some, if◌then◌else◌}
-use Rattle.std.proofs.lemmas.List.{drop_all, take_all, take_more, map-append}
-use Rattle.std.proofs.lemmas.List.Elements.{filter_map-append}
+use Rattle.std.proofs.lemmas.List.{drop_all, take_all, take_more}
 use Rattle.cl_types.specs.Types.{PlainType, NoType}
 use Rattle.cl_types.specs.declared.fault.Fault.{Fault}
+use Rattle.cl_values.proofs.Lists.{rest_of}
 use Rattle.cl_sexpr.specs.declared.rule.Break.{Break}
 use Rattle.cl_sexpr.specs.Tree.{Tree, forest, tree_depth, forest_depth, tree_size, forest_size}
 use Rattle.cl_forms.specs.Shapes.{binding_of, bindings_of, and_binding}
@@ -22,7 +22,9 @@ use Rattle.cl_typing.specs.Verdicts.{Facts, texts_of}
 use Rattle.cl_judging.specs.Walking.{Checks, ChecksAll, Walked}
 use Rattle.cl_judging.specs.LetWalk.{exprs_of, plan_of}
 use Rattle.cl_judging.proofs.Lets.{not_taken}
-use Rattle.cl_judging.proofs.Plans.{rest_of, walked_part, part_fails, walked_gives, given_fails, depth_falls, part_less}
+use Rattle.cl_judging.proofs.Plans.{walked_part, part_fails, walked_gives, given_fails, depth_falls, part_less, texts_more}
+use Rattle.cl_judging.proofs.BoundPairs.{both_false}
+use Rattle.cl_judging.proofs.TupleShapes.{exprs_more}
 
 append_none : {A : Type 0} (xs : List A) → xs ++ [] ≡ xs
 append_none [] = refl
@@ -95,10 +97,6 @@ shadowed_same : (c : CodeContext) (xs : List (List ℕ)) (S T : Names) → map (
 shadowed_same c [] S T h = refl
 shadowed_same c (x ∷ xs) S T h = λ i. (is_reserved x || top_level_in c x || named_same x S T h i) || shadowed_same c xs (bind x NoType S) (bind x NoType T) (keys_bind S T x NoType NoType h) i
 
-both_false : (a b : Bool) → (a || b) ≡ false → (a ≡ false) × (b ≡ false)
-both_false false b h = (refl, h)
-both_false true b h = absurd cc
-
 pub free_next : (c : CodeContext) (S T : Names) (t : PlainType) (items : List Tree) (i : ℕ) (item : Tree) (b : Binding) (e : Tree) → i < length items → get_or items i item ≡ item → item ≡ binding b e → T ≡ bind b.word.name t S → shadowed_in c S (filter_map bound_name (drop i items)) ≡ false → shadowed_in c T (filter_map bound_name (drop (i + 1) items)) ≡ false
 free_next c S T t items i item b e lt at is grown h =
     ap (λ (U : Names). shadowed_in c U (filter_map bound_name (drop (i + 1) items))) grown
@@ -151,17 +149,10 @@ more_stop c B S items i e start cs f lt at kept h so_far whole deep enough begun
 pub more_end : (c : CodeContext) (B : Names) (items : List Tree) (i : ℕ) (start cs : List Checked) → length items ≤ i → ((whole : Plan) (deep : ℕ) → forest_depth (forest items) + 1 ≤ deep → Walked c whole (parts B items) deep start → Walked c whole (parts B (drop i items)) deep cs) → (whole : Plan) (deep : ℕ) → forest_depth (forest items) + 1 ≤ deep → Walked c whole (parts B items) deep start → Walked c whole Ends deep cs
 more_end c B items i start cs far so_far whole deep enough begun = subst (λ (ts : List Tree). Walked c whole (parts B ts) deep cs) (drop_all i items far) (so_far whole deep enough begun)
 
-texts_more : (cs : List Checked) (x : Checked) → texts_of (cs ++ x ∷ []) ≡ texts_of cs ++ expression_of x.code ∷ []
-texts_more [] x = refl
-texts_more (c ∷ cs) x = ap (λ (ts : List Tree). expression_of c.code ∷ ts) (texts_more cs x)
-
 pub more_text : (items front : List Tree) (i : ℕ) (e : Tree) (cs ds : List Checked) (x : Checked) → i < length items → get_or items i e ≡ e → expression_of x.code ≡ e → ds ≡ cs ++ x ∷ [] → texts_of cs ≡ front ++ take i items → texts_of ds ≡ front ++ take (i + 1) items
 more_text items front i e cs ds x lt at text grown so_far =
     ap texts_of grown ∙ texts_more cs x ∙ (λ j. so_far j ++ text j ∷ []) ∙ append_assoc front (take i items) (e ∷ [])
     ∙ ap (λ (ts : List Tree). front ++ ts) (ap (λ (y : Tree). take i items ++ y ∷ []) (sym at) ∙ sym (take_more items i e lt))
-
-exprs_more : (ts : List Tree) (b : Binding) (e : Tree) → exprs_of (ts ++ binding b e ∷ []) ≡ exprs_of ts ++ e ∷ []
-exprs_more ts b e = ap (map (λ (p : List ℕ × Tree). p.1)) (filter_map-append binding_of ts (binding b e ∷ [])) ∙ map-append (λ (p : List ℕ × Tree). p.1) (filter_map binding_of ts) ((b.word.name, e) ∷ [])
 
 pub let_text : (items : List Tree) (i : ℕ) (item : Tree) (b : Binding) (e : Tree) (cs ds : List Checked) (x : Checked) → i < length items → get_or items i item ≡ item → item ≡ binding b e → expression_of x.code ≡ e → ds ≡ cs ++ x ∷ [] → texts_of cs ≡ exprs_of (take i items) → texts_of ds ≡ exprs_of (take (i + 1) items)
 let_text items i item b e cs ds x lt at is text grown so_far =

@@ -1,4 +1,3 @@
-pub mod Lookups
 pub mod Finishing
 pub mod Plans
 pub mod NativeNames

@@ -40,7 +40,7 @@ use Rattle.cl_judging.proofs.Plans.{walked_all}
 use Rattle.cl_judging.proofs.Finishing.{first_fails}
 use Rattle.cl_judging.proofs.Atoms.{checks_by}
 
-texts_length : (cs : List Checked) → length (texts_of cs) ≡ length cs
+pub texts_length : (cs : List Checked) → length (texts_of cs) ≡ length cs
 texts_length [] = refl
 texts_length (c ∷ cs) = ap suc (texts_length cs)
 

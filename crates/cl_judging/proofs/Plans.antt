@@ -1,11 +1,12 @@
 -- Walks over plans.
-use Rattle.std.proofs.Common.{◌≡◌, ℕ, zero, suc, ◌+◌, ◌<◌, ◌≤◌, List, [], ◌∷◌, ◌++◌, map, length, drop, take, get_or, drop-cons, Ok, Err, refl, ap, sym, subst, ◌∙◌, arith, append_assoc}
+use Rattle.std.proofs.Common.{◌≡◌, ℕ, zero, suc, ◌+◌, ◌<◌, ◌≤◌, List, [], ◌∷◌, ◌++◌, map, length, drop, take, get_or, Ok, Err, refl, ap, sym, subst, ◌∙◌, arith, append_assoc}
 use Rattle.std.proofs.lemmas.List.{drop_all, take_more, take_all}
 use Rattle.cl_sexpr.specs.ViewFalls.{part_falls}
 use Rattle.cl_code.specs.Typed.{Typed, Typeds, TypedAs, NoTyped, MoreTyped, typeds, expression_of}
 use Rattle.std.specs.Global.{Vec}
 use Rattle.cl_types.specs.declared.fault.Fault.{Fault}
 use Rattle.cl_types.specs.declared.fault.Fault.TheVariants.{Refused, NoMemory}
+use Rattle.cl_values.proofs.Lists.{rest_of}
 use Rattle.cl_sexpr.specs.declared.rule.Break.{Break}
 use Rattle.cl_sexpr.specs.Tree.{Tree, forest, tree_depth, forest_depth, tree_size, forest_size}
 use Rattle.cl_rules.specs.Context.{Context, Names}
@@ -124,11 +125,6 @@ depth_falls [] i e lt at = absurd (omega (arith, lt))
 depth_falls (t ∷ ts) zero e lt at = let same : tree_depth t ≡ tree_depth e = ap tree_depth at in omega (arith, same)
 depth_falls (t ∷ ts) (suc i) e lt at = omega (arith, depth_falls ts i e (omega (arith, lt)) at)
 
-pub rest_of : {A : Type 0} (xs : List A) (i : ℕ) (x : A) → i < length xs → get_or xs i x ≡ x → drop i xs ≡ x ∷ drop (i + 1) xs
-rest_of xs i x lt at =
-    let next : i + 1 ≡ suc i = omega arith in
-    rw next (drop-cons xs i x lt ∙ ap (λ y. y ∷ drop (suc i) xs) at)
-
 pub parts_stop : (c : CodeContext) (B S : Names) (items : List Tree) (i : ℕ) (e : Tree) (cs : List Checked) (f : Fault Break) → i < length items → get_or items i e ≡ e → S ≡ B → Checks c S e (Err f) → Walked c (parts B items) (parts B (drop i items)) (forest_depth (forest items) + 1) cs → ChecksAll c (parts B items) (forest_depth (forest items) + 1) (Err f)
 parts_stop c B S items i e cs f lt at same h so_far =
     part_fails c (parts B items) (parts B (drop (i + 1) items)) B e (forest_depth (forest items) + 1) cs f (depth_falls items i e lt at) (subst (λ (N : Names). Checks c N e (Err f)) same h)
@@ -144,7 +140,7 @@ pub parts_end : (c : CodeContext) (B : Names) (items : List Tree) (i : ℕ) (v :
 parts_end c B items i v far so_far =
     walked_end c (parts B items) (forest_depth (forest items) + 1) v (subst (λ (ts : List Tree). Walked c (parts B items) (parts B ts) (forest_depth (forest items) + 1) v.items) (drop_all i items far) so_far)
 
-texts_more : (cs : List Checked) (x : Checked) → texts_of (cs ++ x ∷ []) ≡ texts_of cs ++ expression_of x.code ∷ []
+pub texts_more : (cs : List Checked) (x : Checked) → texts_of (cs ++ x ∷ []) ≡ texts_of cs ++ expression_of x.code ∷ []
 texts_more [] x = refl
 texts_more (c ∷ cs) x = ap (λ (ts : List Tree). expression_of c.code ∷ ts) (texts_more cs x)
 

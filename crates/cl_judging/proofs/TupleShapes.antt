@@ -141,7 +141,7 @@ module _ (c : CodeContext) (B : Names) (args : List Tree) (at : Span) (enough : 
 keys_more : (ts : List Tree) (b : Binding) (e : Tree) → keys_of (filter_map binding_of (ts ++ binding b e ∷ [])) ≡ keys_of (filter_map binding_of ts) ++ b.word.name ∷ []
 keys_more ts b e = ap keys_of (filter_map-append binding_of ts (binding b e ∷ [])) ∙ map-append (λ (p : List ℕ × Tree). p.0) (filter_map binding_of ts) ((b.word.name, e) ∷ [])
 
-exprs_more : (ts : List Tree) (b : Binding) (e : Tree) → exprs_of (ts ++ binding b e ∷ []) ≡ exprs_of ts ++ e ∷ []
+pub exprs_more : (ts : List Tree) (b : Binding) (e : Tree) → exprs_of (ts ++ binding b e ∷ []) ≡ exprs_of ts ++ e ∷ []
 exprs_more ts b e = ap (map (λ (p : List ℕ × Tree). p.1)) (filter_map-append binding_of ts (binding b e ∷ [])) ∙ map-append (λ (p : List ℕ × Tree). p.1) (filter_map binding_of ts) ((b.word.name, e) ∷ [])
 
 next_item : (items : List Tree) (i : ℕ) (item : Tree) (b : Binding) (e : Tree) → i < length items → get_or items i item ≡ item → item ≡ binding b e → take i items ++ binding b e ∷ [] ≡ take (i + 1) items

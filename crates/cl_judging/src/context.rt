@@ -63,7 +63,7 @@ impl<'a> Drop for Context<'a> {
 }
 
 /// The type under a name.
-#[tactic(auto, using(crate::proofs::Lookups::under_name))]
+#[tactic(auto, using(cl_contracts::proofs::Places::under_name))]
 pub(crate) fn type_under<'a>(types: &'a IndexMap<Name, SizedTy>, name: &Name) -> Option<&'a SizedTy>
     ensures { option_copied result ≡ named_in name.now types.now.entries }
 {
@@ -71,7 +71,7 @@ pub(crate) fn type_under<'a>(types: &'a IndexMap<Name, SizedTy>, name: &Name) ->
 }
 
 /// The types of keys and values under a name.
-#[tactic(auto, using(crate::proofs::Lookups::under_name))]
+#[tactic(auto, using(cl_contracts::proofs::Places::under_name))]
 pub(crate) fn map_under<'a>(
     maps: &'a IndexMap<Name, (SizedTy, SizedTy)>,
     name: &Name,
@@ -89,7 +89,7 @@ pub(crate) fn is_in(names: &IndexSet<Name>, name: &Name) -> bool
 }
 
 /// The function under a name.
-#[tactic(auto, using(crate::proofs::Lookups::under_name))]
+#[tactic(auto, using(cl_contracts::proofs::Places::under_name))]
 pub(crate) fn function_under<'a>(
     functions: &'a IndexMap<Name, Signature>,
     name: &Name,

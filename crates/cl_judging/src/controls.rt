@@ -45,7 +45,7 @@ fn if_type(alloc: Global, types: &[&SizedTy]) -> Result<SizedTy, Fault<Rule>>
 }
 
 /// The one type.
-#[tactic(auto, using(crate::proofs::ControlRows::one_at, cl_typing::proofs::NativeRows::one_else))]
+#[tactic(auto, using(cl_typing::proofs::NativeRows::one_at, cl_typing::proofs::NativeRows::one_else))]
 fn one_fine(alloc: Global, types: &[&SizedTy]) -> Result<SizedTy, Fault<Rule>>
     ensures { Rules (one fine (map (λ t. t.now) types.now)) result }
 {

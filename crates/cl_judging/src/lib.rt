@@ -25,3 +25,4 @@ mod walk;
 
 pub use context::{Context, Signature};
 pub use judging::judge;
+pub use targets::params_copied;

@@ -1,6 +1,5 @@
 //! What match takes apart.
 ghost use Rattle.std.specs.Prelude.{◌≡◌, ◌≢◌, ◌∷◌, [], length, IfNone, IfOk, IfSome};
-ghost use Rattle.cl_types.specs.Sized.{IsSized};
 ghost use Rattle.cl_code.specs.Typed.{type_of};
 ghost use Rattle.cl_typing.specs.Branches.{optional_row, response_row};
 ghost use Rattle.cl_typing.specs.Verdicts.{ConcludesRow};
@@ -8,17 +7,9 @@ ghost use Rattle.cl_judging.specs.Branching.{optional_part, refusal, response_pa
 
 use crate::node::broken;
 use cl_sexpr::{Break, Rule, Sexpr, Span};
-use cl_types::{Fault, NoMemory, SizedTy, Ty, TyKind};
-use cl_typing::{Checked, Concluded, conclude, fit, match_optional, match_response, types_of};
+use cl_types::{Fault, NoMemory, SizedTy, TyKind};
+use cl_typing::{Checked, Concluded, conclude, inner, match_optional, match_response, types_of};
 use std::alloc::Global;
-
-fn sized(alloc: Global, part: &Ty) -> Result<SizedTy, NoMemory>
-    requires { IsSized part.now }
-    ensures { IfOk result (λ t. t ≡ part.now) }
-{
-    let copy = part.copy(alloc)?;
-    fit(alloc, copy)
-}
 
 /// The part of what was found, where it is an optional.
 pub(crate) fn part_of(alloc: Global, found: &Checked) -> Result<Option<SizedTy>, NoMemory>
@@ -32,7 +23,7 @@ fn optional_part(alloc: Global, ty: &SizedTy) -> Result<Option<SizedTy>, NoMemor
 {
     match &ty.ty().kind {
         TyKind::Optional(part) => {
-            let part = sized(alloc, part)?;
+            let part = inner(alloc, part)?;
             Ok(Some(part))
         }
         _ => Ok(None),
@@ -54,8 +45,8 @@ fn response_parts(alloc: Global, ty: &SizedTy) -> Result<Option<(SizedTy, SizedT
 {
     match &ty.ty().kind {
         TyKind::Response(good, bad) => {
-            let good = sized(alloc, good)?;
-            let bad = sized(alloc, bad)?;
+            let good = inner(alloc, good)?;
+            let bad = inner(alloc, bad)?;
             Ok(Some((good, bad)))
         }
         _ => Ok(None),

@@ -1,5 +1,5 @@
 //! What names stand for.
-ghost use Rattle.std.specs.Prelude.{◌≡◌, map, is_some, IfOk, IfSome};
+ghost use Rattle.std.specs.Prelude.{◌≡◌, is_some, IfOk, IfSome};
 ghost use Rattle.cl_forms.specs.Names.{is_one_of};
 ghost use Rattle.cl_forms.specs.Keywords.{keyword_name, keyword_of};
 ghost use Rattle.cl_forms.specs.Heads.{native, define_words};
@@ -8,7 +8,7 @@ ghost use Rattle.cl_judging.specs.Seen.{no_value_in, top_level_in, taken_in};
 
 use crate::context::{Context, Signature, function_under, is_in, map_under, type_under};
 use crate::natives::native;
-use cl_forms::{Keyword, is_reserved};
+use cl_forms::{Keyword, is_one_of, is_reserved};
 use cl_types::{Name, NoMemory, SizedTy, TyKind};
 use cl_typing::{none_type, of};
 use indexmap::IndexMap;
@@ -59,18 +59,6 @@ pub(crate) fn keyword_type(alloc: Global, keyword: Keyword) -> Result<SizedTy, N
         Keyword::TxSender | Keyword::ContractCaller => of(alloc, TyKind::Principal),
         Keyword::BlockHeight => of(alloc, TyKind::Uint),
     }
-}
-
-/// Whether a name is one of these words.
-fn is_one_of(words: &[&str], name: &Name) -> bool
-    ensures { result ≡ is_one_of (map (λ word. word.now) words.now) name.now }
-{
-    for word in words {
-        if name.bytes() == word.as_bytes() {
-            return true;
-        }
-    }
-    false
 }
 
 fn is_define_word(name: &Name) -> bool

@@ -12,7 +12,7 @@ ghost use Rattle.cl_judging.specs.Walking.{Judges, head_at, is_headed};
 
 use crate::controls::on_parts;
 use crate::node::Evaluated;
-use crate::scope::{Scope, bind, name_at};
+use crate::scope::{Scope, bind, name_in};
 use crate::verdicts::on_native;
 use cl_code::{Op, Word};
 use cl_sexpr::{Rule, Sexpr, Span};
@@ -26,7 +26,7 @@ pub(crate) fn headed(items: &[Sexpr]) -> Option<(Word, &[Sexpr])>
     ensures none { IfNone result (is_headed items.now ≡ false) }
 {
     let (head, parts) = items.split_first()?;
-    let head = name_at(head)?;
+    let head = name_in(head)?;
     Some((head, parts))
 }
 

@@ -50,9 +50,11 @@ pub(crate) fn count(scope: &Scope) -> usize
     scope.len()
 }
 
+/// The name that an item is.
 pub(crate) fn name_in(e: &Sexpr) -> Option<Word>
     ensures some { IfSome result (λ w. e.now ≡ word w) }
     ensures none { IfNone result (atom_of e.now ≡ None) }
+    ensures headless { IfNone result (is_headed (e.now ∷ []) ≡ false) }
 {
     match &e.node {
         Node::Atom(name) => Some(Word {
@@ -137,20 +139,6 @@ pub(crate) fn is_shadowed(
     let taken = binds_taken(alloc, ctx, scope, items)?;
     unbind(scope, bound);
     Ok(taken)
-}
-
-/// The name that an item is.
-pub(crate) fn name_at(e: &Sexpr) -> Option<Word>
-    ensures some { IfSome result (λ w. e.now ≡ word w) }
-    ensures none { IfNone result (is_headed (e.now ∷ []) ≡ false) }
-{
-    match &e.node {
-        Node::Atom(name) => Some(Word {
-            name: *name,
-            span: e.span,
-        }),
-        _ => None,
-    }
 }
 
 /// The items of an item that is a list, and its place.

@@ -77,7 +77,8 @@ pub(crate) fn has_as_many(args: &[Sexpr], f: &Function) -> bool
     args.len() == f.params.len()
 }
 
-fn params_copied(
+/// A copy of parameters with their types.
+pub fn params_copied(
     alloc: Global,
     params: &[(Name, SizedTy)],
 ) -> Result<Vec<(Name, SizedTy)>, NoMemory>

@@ -5,8 +5,8 @@ use Rattle.std.specs.List.{IsDistinct}
 use Rattle.std.proofs.lemmas.Bool.{false≢true, or_left, or_right}
 use Rattle.std.proofs.lemmas.Grind.{get_or_default_zero}
 use Rattle.cl_types.specs.declared.fault.Fault.{Fault}
-use Rattle.cl_types.specs.declared.fault.Fault.TheVariants.{Refused, NoMemory}
-use Rattle.cl_types.specs.Fault.{IsRefusal, IfRefused}
+use Rattle.cl_types.specs.Fault.{IfRefused}
+use Rattle.cl_types.proofs.Faults.{refused_so as refusal_so}
 use Rattle.cl_forms.specs.Forms.{Form}
 use Rattle.cl_forms.specs.Order.{is_in, Visited, and_then, visit_each, part_from, visit, places_of, ordered}
 use Rattle.cl_order.specs.declared.search.State.{State}
@@ -21,10 +21,6 @@ use Rattle.cl_order.proofs.Going.{Left, going_ended, going_one, going_done, goin
 use Rattle.cl_order.proofs.States.{told_new, told_on_path, told_done, weighs_nothing, states_on_path, states_done, distinct_front, places_pushed, left_pushed, places_left, length_left, named_pushed, named_front, named_last, work_pushed, work_set}
 
 -- ---- answers of calls
-
-pub refusal_so : {R : Type 0} (fault : Fault R) (P Q : R → Type 0) → ((r : R) → P r → Q r) → IsRefusal fault P → IsRefusal fault Q
-refusal_so (Refused r) P Q so h = so r h
-refusal_so NoMemory P Q so h = tt
 
 pub refused_so : {T R : Type 0} (result : Result T (Fault R)) (P Q : R → Type 0) → ((r : R) → P r → Q r) → IfRefused result P → IfRefused result Q
 refused_so (Ok x) P Q so h = tt

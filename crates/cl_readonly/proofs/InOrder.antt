@@ -1,39 +1,34 @@
 -- The definitions of a contract, one after another in the order of evaluation.
-use Rattle.std.proofs.Common.{◌≡◌, ℕ, zero, suc, ◌+◌, ◌<◌, ◌≤◌, Bool, true, false, List, [], ◌∷◌, ◌++◌, length, take, drop, get_or, filter_map, slice_get, Option, Some, None, Result, Ok, Err, refl, sym, ap, subst, ◌∙◌, arith}
-use Rattle.std.specs.Prelude.{option_map, if◌then◌else◌, OnOk}
-use Rattle.std.specs.List.{cons_option}
+use Rattle.std.proofs.Common.{◌≡◌, ℕ, zero, suc, ◌+◌, ◌<◌, ◌≤◌, Bool, true, false, List, [], ◌∷◌, ◌++◌, length, take, drop, get_or, slice_get, Option, Some, None, refl, sym, ap, subst, ◌∙◌, arith}
+use Rattle.std.specs.Prelude.{option_map, if◌then◌else◌}
 use Rattle.std.proofs.lemmas.List.{take_all, take_more, take-append-drop}
 use Rattle.std.proofs.lemmas.Option.{slice_get-map}
 use Rattle.indexmap.specs.IndexSet.{insert_key}
 use Rattle.cl_types.specs.Types.{PlainType}
 use Rattle.cl_types.specs.declared.sized.Access.{Access}
+use Rattle.cl_values.proofs.Lists.{rest_of}
 use Rattle.cl_sexpr.specs.Tree.{Tree, Leaf}
 use Rattle.cl_forms.specs.Forms.{Form, FunctionForm}
 use Rattle.cl_forms.specs.Names.{same, name_at, Names as NamesAt, is_one_of}
 use Rattle.cl_forms.specs.Order.{is_in}
 use Rattle.cl_forms.specs.Writes.{Writes, has_writing_body, has_write}
-use Rattle.cl_code.specs.Typed.{Typed, typeds, expression_of}
+use Rattle.cl_code.specs.Typed.{expression_of}
 use Rattle.cl_code.specs.Definitions.{form_defined, function_form}
 use Rattle.cl_code.specs.declared.definition.Function.{Function}
 use Rattle.cl_code.specs.declared.definition.Definition.{Definition}
 use Rattle.cl_code.specs.declared.definition.Definition.TheVariants.{Constant, Variable, MapOf, Fungible, NonFungible, Function as AFunction, TopLevel}
-use Rattle.cl_rules.specs.Context.{Context, Names, Known, Signature}
+use Rattle.cl_rules.specs.Context.{Names, Known, Signature}
 use Rattle.cl_rules.specs.Verdicts.{Found}
-use Rattle.cl_rules.specs.Shapes.{Ends, Part}
 use Rattle.cl_rules.specs.FormRules.{Defined, nothing_defined, signature_of, defined_after}
 use Rattle.cl_contracts.specs.declared.checked.Checked.{Checked}
 use Rattle.cl_contracts.specs.Seen.{IsIndexed, forms_of, kind_at}
-use Rattle.cl_contracts.specs.Standing.{Stands, StandAll}
+use Rattle.cl_contracts.specs.Standing.{Stands}
 use Rattle.cl_contracts.specs.Standings.{StandsAs, AllStand, StandsAfter}
+use Rattle.cl_contracts.proofs.InOrder.{one_part, at_places, next_place}
 use Rattle.cl_readonly.specs.Writing.{AreFunctions}
 use Rattle.cl_readonly.specs.Functions.{HaveOwnNames, AreThoseThatWrite, BodyNames, with_form}
-use Rattle.cl_readonly.proofs.Walking.{Tells, rest_of}
+use Rattle.cl_readonly.proofs.Walking.{Tells}
 use Rattle.cl_readonly.proofs.Noting.{Noted, noted_past, noted_more, place_in, same_form, within}
-
-pub again : {A : Type 0} (xs : List A) (i : ℕ) (d : A) → i < length xs → get_or xs i (get_or xs i d) ≡ get_or xs i d
-again [] i d lt = absurd (omega (arith, lt))
-again (x ∷ xs) zero d lt = refl
-again (x ∷ xs) (suc i) d lt = again xs i d (omega (arith, lt))
 
 pub there_at : {A : Type 0} (xs : List A) (i : ℕ) (x : A) → i < length xs → x ≡ get_or xs i x → slice_get xs i ≡ Some x
 there_at [] i x lt at = absurd (omega (arith, lt))
@@ -48,19 +43,9 @@ not_none d h = cc
 
 -- ---- one definition
 
--- the tree of a plan with one part
-one_part : (G : Context) (B : Names) (e : Tree) (q : Typed) (fs : List Found) → StandAll G (Part B e Ends) (typeds (q ∷ [])) fs → (f : Found) × (fs ≡ f ∷ []) × Stands G B q f
-one_part G B e q [] stand = absurd stand
-one_part G B e q (f ∷ []) stand = (f, refl, stand.1)
-one_part G B e q (f ∷ g ∷ fs) stand = absurd stand.2
-
 -- what becomes of the functions so far at a definition
 abbrev pub IsWith : (Leaf → List ℕ → Bool) → Defined → Definition → List (List ℕ) → List (List ℕ) → Type 0
 IsWith is_public D d fs gs = (gs ≡ with_form is_public fs (form_defined d)) × BodyNames D.context is_public fs (kind_at d)
-
-pub on_ok : {A E P Q : Type 0} (r : Result A E) → (P → Q) → OnOk r P → OnOk r Q
-on_ok (Ok a) f h = f h
-on_ok (Err e) f h = tt
 
 chosen : (b c : Bool) (xs ys zs : List (List ℕ)) → b ≡ c → zs ≡ (if b then xs else ys) → zs ≡ (if c then xs else ys)
 chosen b c xs ys zs e h = h ∙ ap (λ (d : Bool). if d then xs else ys) e
@@ -116,10 +101,6 @@ no_function (TopLevel e) access params body h k = cc
 
 -- ---- one place after another
 
--- the definitions at these places
-abbrev pub at_places : Checked → List ℕ → List Definition
-at_places checked places = filter_map (slice_get checked.definitions.items) places
-
 module _ (checked : Checked) (is_public : Leaf → List ℕ → Bool) (names : IsIndexed checked) (own : HaveOwnNames (forms_of checked)) where
   form_there : (n : ℕ) (d : Definition) → slice_get checked.definitions.items n ≡ Some d → slice_get (forms_of checked) n ≡ Some (form_defined d)
   form_there n d at = slice_get-map form_defined checked.definitions.items n ∙ ap (option_map form_defined) at
@@ -163,11 +144,6 @@ walked_none checked is_public known fs none E stand = (nothing_defined known che
       complete = λ x w h. absurd cc;
       known = λ m form x access params body h. absurd cc;
     }
-
--- the next place
-next_place : (checked : Checked) (i place : ℕ) (o : Option Definition) → i < length checked.order.items → get_or checked.order.items i place ≡ place → slice_get checked.definitions.items place ≡ o → at_places checked (drop i checked.order.items) ≡ cons_option o (at_places checked (drop (i + 1) checked.order.items))
-next_place checked i place o lt at is =
-    ap (at_places checked) (rest_of checked.order.items i place lt at) ∙ ap (λ (p : Option Definition). cons_option p (at_places checked (drop (i + 1) checked.order.items))) is
 
 one_more : (xs : List ℕ) (i n : ℕ) → i < length xs → get_or xs i n ≡ n → take i xs ++ n ∷ [] ≡ take (i + 1) xs
 one_more xs i n lt at = sym (take_more xs i n lt ∙ ap (λ m. take i xs ++ m ∷ []) at)

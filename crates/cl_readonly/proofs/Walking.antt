@@ -1,10 +1,11 @@
 -- The parts of a tree, one by one.
-use Rattle.std.proofs.Common.{◌≡◌, ℕ, zero, suc, ◌+◌, ◌<◌, ◌≤◌, Bool, true, false, List, [], ◌∷◌, length, map, drop, get_or, refl, sym, ap, subst, ◌∙◌, arith, drop-cons}
+use Rattle.std.proofs.Common.{◌≡◌, ℕ, ◌+◌, ◌<◌, ◌≤◌, Bool, true, false, List, [], ◌∷◌, length, map, drop, get_or, refl, sym, ap, subst, ◌∙◌}
 use Rattle.std.specs.Prelude.{◌||◌}
 use Rattle.std.specs.List.{list_any}
 use Rattle.std.proofs.lemmas.List.{drop_all, length-map}
 use Rattle.std.proofs.lemmas.Bool.{or_parts}
 use Rattle.cl_types.specs.Types.{PlainType}
+use Rattle.cl_values.proofs.Lists.{rest_of}
 use Rattle.cl_sexpr.specs.declared.sexpr.Span.{Span}
 use Rattle.cl_sexpr.specs.Tree.{Leaf}
 use Rattle.cl_rules.specs.Context.{Context, Names}
@@ -14,7 +15,7 @@ use Rattle.cl_rules.specs.Table.{shape}
 use Rattle.cl_code.specs.declared.op.Op.{Op}
 use Rattle.cl_code.specs.Nodes.{has_own_name, has_parts}
 use Rattle.cl_code.specs.Expression.{expression}
-use Rattle.cl_code.specs.Typed.{Typed, TypedAs, typeds, expression_of, weight_of, weights_of}
+use Rattle.cl_code.specs.Typed.{Typed, TypedAs, typeds, expression_of}
 use Rattle.cl_contracts.specs.Standing.{Stands, StandAll}
 use Rattle.cl_forms.specs.Names.{is_one_of}
 use Rattle.cl_forms.specs.Writes.{has_write}
@@ -22,16 +23,6 @@ use Rattle.cl_readonly.specs.Writing.{node_writes, AreFunctions}
 use Rattle.cl_readonly.specs.Naming.{NamesUnknown, AllNameUnknown}
 use Rattle.cl_readonly.proofs.WritesOfParts.{node_has}
 use Rattle.cl_readonly.proofs.NodeNames.{node_named, all_named}
-
-pub part_falls : (qs : List Typed) (i : ℕ) (q : Typed) → i < length qs → get_or qs i q ≡ q → weight_of q < weights_of (typeds qs)
-part_falls [] i q lt at = absurd (omega (arith, lt))
-part_falls (p ∷ qs) zero q lt at = let same : weight_of p ≡ weight_of q = ap weight_of at in omega (arith, same)
-part_falls (p ∷ qs) (suc i) q lt at = omega (arith, part_falls qs i q (omega (arith, lt)) at)
-
-pub rest_of : {A : Type 0} (xs : List A) (i : ℕ) (x : A) → i < length xs → get_or xs i x ≡ x → drop i xs ≡ x ∷ drop (i + 1) xs
-rest_of xs i x lt at =
-    let next : i + 1 ≡ suc i = omega arith in
-    rw next (drop-cons xs i x lt ∙ ap (λ y. y ∷ drop (suc i) xs) at)
 
 module _ (fs : List (List ℕ)) (is_public : Leaf → List ℕ → Bool) (G : Context) where
   abbrev pub any_of : List Typed → Bool

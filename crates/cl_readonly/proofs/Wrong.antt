@@ -7,6 +7,7 @@ use Rattle.std.proofs.lemmas.List.{drop_all}
 use Rattle.std.proofs.lemmas.Option.{slice_get-map}
 use Rattle.cl_types.specs.declared.sized.Access.{Access}
 use Rattle.cl_types.specs.declared.sized.Access.TheVariants.{ReadOnly}
+use Rattle.cl_values.proofs.Lists.{rest_of}
 use Rattle.cl_c32.specs.declared.principal.Principal.{Principal}
 use Rattle.cl_sexpr.specs.declared.sexpr.Span.{Span}
 use Rattle.cl_forms.specs.Forms.{Form, FunctionForm}
@@ -22,11 +23,10 @@ use Rattle.cl_contracts.specs.declared.checked.Checked.{Checked}
 use Rattle.cl_contracts.specs.Seen.{forms_of, IsIndexed}
 use Rattle.cl_contracts.specs.declared.deployed.Deployed.{Deployed}
 use Rattle.cl_contracts.specs.Standings.{Knows, StandsAfter, definitions_in_order}
+use Rattle.cl_contracts.proofs.InOrder.{at_places}
 use Rattle.cl_rules.specs.FormRules.{Defined}
 use Rattle.cl_readonly.specs.Functions.{AreThoseThatWrite, is_read_only, is_wrong, first_wrong}
-use Rattle.cl_readonly.proofs.InOrder.{at_places}
 use Rattle.cl_readonly.proofs.Noting.{place_in, within}
-use Rattle.cl_readonly.proofs.Walking.{rest_of}
 
 -- ---- one place after another
 

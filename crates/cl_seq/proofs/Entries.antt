@@ -4,7 +4,7 @@ use Rattle.std.proofs.lemmas.Bool.{and_parts, and_from}
 use Rattle.std.proofs.lemmas.List.{append-nil}
 use Rattle.cl_values.specs.Tree.{Tree, ListV, items_of, depth_of, items_depth}
 use Rattle.cl_values.specs.Wire.{items_size, size_of}
-use Rattle.cl_values.specs.Sequences.{values_of, singles, append, concat}
+use Rattle.cl_values.specs.Sequences.{values_of, append, concat}
 use Rattle.cl_values.specs.Computed.{Gives, Undefined}
 use Rattle.cl_values.specs.Valid.{IsVal, ItemsInRange, has_rising_keys, has_good_texts, items_have_rising_keys, items_have_good_texts}
 use Rattle.cl_values.proofs.Lists.{values_of_items}
@@ -14,10 +14,6 @@ use Rattle.cl_values.specs.Computed.{kept}
 pub values_counted : (vs : List Tree) → length (values_of (items_of vs)) ≡ length vs
 values_counted [] = refl
 values_counted (v ∷ vs) = ap suc (values_counted vs)
-
-pub singles_counted : (make : List ℕ → Tree) (xs : List ℕ) → length (singles make xs) ≡ length xs
-singles_counted make [] = refl
-singles_counted make (x ∷ xs) = ap suc (singles_counted make xs)
 
 -- ---- lists one behind another
 

@@ -4,7 +4,7 @@ use Rattle.std.proofs.lemmas.List.{drop_all}
 use Rattle.cl_values.specs.Tree.{Tree}
 use Rattle.cl_values.specs.Sequences.{equal, place_of, singles}
 use Rattle.cl_values.proofs.Lists.{next_part}
-use Rattle.cl_seq.proofs.Entries.{singles_counted}
+use Rattle.cl_values.proofs.Entries.{singles_many}
 
 -- the place in the whole, of what is found from a place on
 abbrev pub found_from : ℕ → Tree → List Tree → Option ℕ
@@ -43,11 +43,11 @@ default_there (y ∷ xs) (suc i) h = default_there xs i (omega (arith, h))
 
 pub single_here : (item : Tree) (make : List ℕ → Tree) (xs : List ℕ) (i x : ℕ) → i < length xs → x ≡ get_or xs i x → true ≡ equal (make (x ∷ [])) item → found_from i item (singles make xs) ≡ Some i
 single_here item make xs i x h k e =
-    find_here item (singles make xs) i (make (x ∷ [])) (omega (arith, h, singles_counted make xs)) (single_there make xs i x h k) e
+    find_here item (singles make xs) i (make (x ∷ [])) (omega (arith, h, singles_many make xs)) (single_there make xs i x h k) e
 
 pub single_on : (item : Tree) (make : List ℕ → Tree) (xs : List ℕ) (i x : ℕ) → i < length xs → x ≡ get_or xs i x → false ≡ equal (make (x ∷ [])) item → found_from i item (singles make xs) ≡ found_from (i + 1) item (singles make xs)
 single_on item make xs i x h k e =
-    find_on item (singles make xs) i (make (x ∷ [])) (omega (arith, h, singles_counted make xs)) (single_there make xs i x h k) e
+    find_on item (singles make xs) i (make (x ∷ [])) (omega (arith, h, singles_many make xs)) (single_there make xs i x h k) e
 
 pub single_end : (item : Tree) (make : List ℕ → Tree) (xs : List ℕ) (i : ℕ) → length xs ≤ i → found_from i item (singles make xs) ≡ None
-single_end item make xs i h = find_end item (singles make xs) i (omega (arith, h, singles_counted make xs))
+single_end item make xs i h = find_end item (singles make xs) i (omega (arith, h, singles_many make xs))

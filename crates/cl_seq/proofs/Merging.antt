@@ -4,7 +4,6 @@ use Rattle.std.specs.Option.{is_some}
 use Rattle.std.specs.declared.cmp.Ordering.{Ordering}
 use Rattle.std.specs.declared.cmp.Ordering.TheVariants.{Less, Equal, Greater}
 use Rattle.std.specs.Ordering.{nat_cmp, is_lt, is_eq, match_ordering, ordering_reverse}
-use Rattle.std.specs.Cmp.{IsStrictWeakOrder}
 use Rattle.std.specs.Cmp.Lexicographic.{slice_cmp, nat_list_cmp_total, same_text}
 use Rattle.std.specs.Str.{bytes_eq}
 use Rattle.std.specs.Map.{lookup, keys_of}
@@ -12,7 +11,7 @@ use Rattle.std.specs.BTreeMap.{insert_entry, is_at}
 use Rattle.std.specs.List.Sorted.{IsStrictlySortedBy}
 use Rattle.std.proofs.lemmas.Bool.{and_parts, and_from, or_parts, or_from, true≢false, false_from_ne_true, true_from_ne_false}
 use Rattle.std.proofs.lemmas.Map.Text.{is_eq-slice_cmp}
-use Rattle.std.proofs.lemmas.List.Sorted.{ranks_by}
+use Rattle.cl_types.proofs.KeyOrder.{keys_ordered}
 use Rattle.cl_values.specs.Tree.{Tree, Entries, NoEntry, Entry, entries_of}
 use Rattle.cl_values.specs.Valid.{is_below, rises_from, rises}
 use Rattle.cl_values.specs.Tuples.{is_among, placed, merged, sorted_entries}
@@ -87,9 +86,6 @@ among_sorted q [] = refl
 among_sorted q (p ∷ ps) = among_placed q p.0 p.1 (sorted_entries ps) ∙ ap (λ x. bytes_eq q p.0 || x) (among_sorted q ps)
 
 -- ---- the order of keys
-
-keys_ordered : IsStrictWeakOrder is_below
-keys_ordered = ranks_by nat_list_cmp_total (λ (k : List ℕ). k)
 
 below_below : (i j k : List ℕ) → is_below i j ≡ true → is_below j k ≡ true → is_below i k ≡ true
 below_below i j k p q =

@@ -5,7 +5,7 @@ ghost use Rattle.cl_values.specs.Sequences.{entries_of};
 use cl_values::{Kind, Val};
 
 /// The number of entries of a sequence; None where the value is none.
-#[tactic(auto, using(crate::proofs::Entries::values_counted, crate::proofs::Entries::singles_counted))]
+#[tactic(auto, using(crate::proofs::Entries::values_counted, cl_values::proofs::Entries::singles_many))]
 pub fn try_len(sequence: &Val) -> Option<usize>
     ensures { result ≡ option_map length (entries_of sequence.now) }
 {

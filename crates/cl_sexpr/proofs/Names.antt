@@ -31,7 +31,7 @@ letter_below c k h far = grind (arith, nat_tests)
 letter_unspaced : (c : ℕ) → is_letter c ≡ true → is_separator c ≡ false
 letter_unspaced c h = grind (arith, nat_tests)
 
-letter_no_digit : (c : ℕ) → is_letter c ≡ true → is_digit c ≡ false
+pub letter_no_digit : (c : ℕ) → is_letter c ≡ true → is_digit c ≡ false
 letter_no_digit c h = grind (arith, nat_tests)
 
 begins_letter : (c : ℕ) (cs : List ℕ) → begins_name (c ∷ cs) ≡ true → is_letter c ≡ true

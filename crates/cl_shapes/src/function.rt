@@ -19,9 +19,8 @@ pub enum Shape {
 
 impl Shape {
     fn at(self, n: u64) -> u128
-        requires { n < 2 ^ 40 }
         ensures value { result ≡ shape_at self n }
-        ensures bound { result < 2 ^ 100 }
+        ensures bound { n < 2 ^ 40 → result < 2 ^ 100 }
     {
         let logarithm = u128::from(log2(n));
         let n = u128::from(n);
@@ -58,6 +57,14 @@ impl CostFn {
         requires { n < 2 ^ 40 }
         ensures value { result ≡ cost_at self.now n }
         ensures small { IsBelow (2 ^ 100) result }
+    {
+        self.at_any(n)
+    }
+
+    /// The cost at any `n`, for sums that have no limit.
+    pub fn at_any(&self, n: u64) -> Cost5
+        ensures value { result ≡ cost_at self.now n }
+        ensures small { n < 2 ^ 40 → IsBelow (2 ^ 100) result }
     {
         Cost5 {
             runtime: self.runtime.at(n),

@@ -6,6 +6,7 @@ use Rattle.cl_c32.specs.declared.principal.Principal.{Principal}
 use Rattle.cl_values.specs.Tree.{Tree, UintV, PrincipalV}
 use Rattle.cl_values.specs.Wire.{wire}
 use Rattle.cl_values.specs.Valid.{IsPrincipal}
+use Rattle.cl_values.proofs.Parts.{principal_is_val}
 use Rattle.cl_maps.specs.Maps.{Map, get, or_zero}
 use Rattle.cl_tokens.specs.Ledger.{balance}
 use Rattle.cl_tokens.specs.Owners.{Owners}
@@ -19,7 +20,6 @@ use Rattle.cl_tables.specs.StateRows.{variable_row, entry_row, owner_row, stx_ro
 use Rattle.cl_tables.specs.RowParts.{IsVariableRow, IsEntryRow, holding_row, IsHolding, IsOwnerRow, Lists, Adds, OfVariables, OfEntries, OfHoldings, OfNonFungible}
 use Rattle.cl_tables.proofs.PlaceKeys.{keys_apart}
 use Rattle.cl_tables.proofs.KeyReading.{OwnSpelling, spots_apart}
-use Rattle.cl_tables.proofs.OwnerKeys.{principal_is_val}
 use Rattle.cl_tables.proofs.RowLists.{OfMap, just_of_map, adds_so}
 
 -- ------------------------------------------------------------ what keys rows have

@@ -1,5 +1,5 @@
 -- What keys spell is read back: values, and the principals of holders.
-use Rattle.std.proofs.Common.{◌≡◌, ℕ, ◌≤◌, List, length, Option, Some, None, refl, sym, ap, subst, ◌∙◌, lit≤, arith}
+use Rattle.std.proofs.Common.{◌≡◌, ℕ, List, Option, Some, None, refl, sym, ap, subst, ◌∙◌}
 use Rattle.std.specs.Prelude.{T, Result, Ok, Err, is_ok}
 use Rattle.cl_types.specs.Fault.{IfRefused}
 use Rattle.cl_types.specs.declared.fault.Fault.{Fault}
@@ -10,25 +10,16 @@ use Rattle.cl_values.specs.declared.value.Kind.{Kind}
 use Rattle.cl_values.specs.declared.value.Kind.TheVariants.{Int, Uint, Bool, Buff, Ascii, Utf8, Principal as PrincipalK, List as ListK, Tuple, Optional, Response}
 use Rattle.cl_values.specs.View.{tree_of}
 use Rattle.cl_values.specs.Tree.{Tree, PrincipalV, NoneV}
-use Rattle.cl_values.specs.Wire.{wire, contract_size}
+use Rattle.cl_values.specs.Wire.{wire}
 use Rattle.cl_values.specs.Reading.{decoded}
-use Rattle.cl_values.specs.Valid.{IsVal, IsPrincipal, IsContractPart}
+use Rattle.cl_values.specs.Valid.{IsVal}
+use Rattle.cl_values.proofs.Parts.{principal_is_val}
 use Rattle.std.proofs.lemmas.Option.{none-some}
 use Rattle.cl_maps.specs.Maps.{Map, get}
 use Rattle.cl_tokens.specs.Owners.{Owners}
 use Rattle.cl_tables.specs.Amounts.{owner_in}
 use Rattle.cl_tables.specs.Spelled.{IsHolder, Each, AreOwned}
 use Rattle.cl_tables.specs.RowParts.{IsSpelling}
-
-part_small : (part : Option (List ℕ)) → IsContractPart part → contract_size part ≤ 129
-part_small None h = lit≤ tt
-part_small (Some name) h = let low : length name ≤ 128 = h.within in omega arith
-
-pub principal_is_val : (p : Principal) → IsPrincipal p → IsVal (PrincipalV p)
-principal_is_val p h =
-    let hash : length p.address.hash ≡ 20 = h.0.size in
-    let part : contract_size p.contract ≤ 129 = part_small p.contract h.1 in
-    record { ranges = h; keys = refl; texts = refl; depth = lit≤ tt; size = omega arith }
 
 abbrev pub holder_spells : (key : List ℕ) → IsHolder key → IsSpelling key
 holder_spells key h = (PrincipalV h.0, principal_is_val h.0 h.1, h.2)

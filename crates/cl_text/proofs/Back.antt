@@ -12,6 +12,7 @@ use Rattle.cl_sexpr.specs.Tree.{Leaf, Named, Signed, Unsigned, Bytes, Ascii, Uni
 use Rattle.cl_sexpr.specs.Token.{Token, Separator, Comment, Colon, Comma, Opens, Closes, OpensTuple, ClosesTuple, Key, Is, Faulty}
 use Rattle.cl_sexpr.specs.Grammar.{unspaced, IsItem, IsRow, AreMore}
 use Rattle.cl_sexpr.specs.Text.{token_at, Spells, Cuts, Reads}
+use Rattle.cl_sexpr.proofs.Steps.{cuts_cuts}
 use Rattle.cl_values.specs.Tree.{Tree, IntV, UintV, BoolV, BuffV, AsciiV, Utf8V, PrincipalV, ListV, TupleV, NoneV, SomeV, ResponseV, Items, NoItem, Item as Value, Entries, NoEntry, Entry, entries_of, items_of, depth_of, items_depth, entries_depth}
 use Rattle.cl_values.specs.Valid.{keys_in, rises, has_rising_keys, items_have_rising_keys, entries_have_rising_keys, has_good_texts, items_have_good_texts, entries_have_good_texts, InRange, ItemsInRange, EntriesInRange, IsVal}
 use Rattle.cl_values.specs.Wire.{size_of}
@@ -35,12 +36,6 @@ front_cut at text more t ts end rest some spells h = (
   spells,
   subst (λ (x : List ℕ). Cuts (at + length text) x ts end rest) (sym (drop-append_seam text more)) h,
 )
-
-joined_cut : (at : ℕ) (bytes : List ℕ) (ts : List Token) (mid : ℕ) (more : List ℕ) (us : List Token) (end : ℕ) (rest : List ℕ) → Cuts at bytes ts mid more → Cuts mid more us end rest → Cuts at bytes (ts ++ us) end rest
-joined_cut at bytes [] mid more us end rest a b =
-    subst (λ (n : ℕ). Cuts n bytes us end rest) a.0 (subst (λ (x : List ℕ). Cuts mid x us end rest) (sym a.1) b)
-joined_cut at bytes (t ∷ ts) mid more us end rest a b =
-    (a.0, a.1, a.2, a.3, joined_cut (at + a.0) (drop a.0 bytes) ts mid more us end rest a.4 b)
 
 -- a cut ends where its bytes end
 cut_place : (at : ℕ) (bytes : List ℕ) (ts : List Token) (end : ℕ) (rest : List ℕ) → Cuts at bytes ts end rest → at + length bytes ≡ end + length rest
@@ -195,7 +190,7 @@ wrapped w wrap v at rest m a =
     append_assoc w (32 ∷ (printed v ++ 41 ∷ [])) rest ∙ ap (λ (x : List ℕ). w ++ 32 ∷ x) (append_assoc (printed v) (41 ∷ []) rest) in
     let back : Cuts (at + 1 + length w) (32 ∷ (printed v ++ 41 ∷ rest)) (Separator ∷ (a.tokens ++ Closes (a.end + 1) ∷ [])) (a.end + 1) rest =
     space (at + 1 + length w) (printed v ++ 41 ∷ rest) (a.tokens ++ Closes (a.end + 1) ∷ []) (a.end + 1) rest
-    (joined_cut (at + 1 + length w + 1) (printed v ++ 41 ∷ rest) a.tokens a.end (41 ∷ rest) (Closes (a.end + 1) ∷ []) (a.end + 1) rest a.cut (closes a.end rest)) in
+    (cuts_cuts (at + 1 + length w + 1) (printed v ++ 41 ∷ rest) a.tokens a.end (41 ∷ rest) (Closes (a.end + 1) ∷ []) (a.end + 1) rest a.cut (closes a.end rest)) in
     let cut : Cuts at (40 ∷ (w ++ 32 ∷ (printed v ++ 41 ∷ rest))) (Opens at ∷ Is (Named w) inner ∷ Separator ∷ (a.tokens ++ Closes (a.end + 1) ∷ [])) (a.end + 1) rest =
     opens at (w ++ 32 ∷ (printed v ++ 41 ∷ rest)) (Is (Named w) inner ∷ Separator ∷ (a.tokens ++ Closes (a.end + 1) ∷ [])) (a.end + 1) rest
     (front_cut (at + 1) w (32 ∷ (printed v ++ 41 ∷ rest)) (Is (Named w) inner) (Separator ∷ (a.tokens ++ Closes (a.end + 1) ∷ [])) (a.end + 1) rest m.run.some (run_spells (at + 1) w (32 ∷ (printed v ++ 41 ∷ rest)) (Named w) m.run refl) back) in
@@ -254,7 +249,7 @@ more_stood v vs at rest a b =
       end = b.end;
       cut = subst (λ (x : List ℕ). Cuts at (32 ∷ x) (Separator ∷ (a.tokens ++ b.tokens)) b.end rest) (sym text)
           (space at (printed v ++ (items_text vs ++ rest)) (a.tokens ++ b.tokens) b.end rest
-          (joined_cut (at + 1) (printed v ++ (items_text vs ++ rest)) a.tokens a.end (items_text vs ++ rest) b.tokens b.end rest a.cut b.cut));
+          (cuts_cuts (at + 1) (printed v ++ (items_text vs ++ rest)) a.tokens a.end (items_text vs ++ rest) b.tokens b.end rest a.cut b.cut));
       is = (unspaced a.tokens, unspaced b.tokens, a.is, b.is, unspaced-append a.tokens b.tokens);
       values = ap (λ (r : Result Tree Span). in_front r (literals b.row)) a.value ∙ ap (in_front (Ok v)) b.values;
       depth = omega (arith, a.depth, b.depth);
@@ -267,7 +262,7 @@ list_stood vs at rest b =
     let head : Item = LeafAt (Named w) inner in
     let text : (items_text vs ++ 41 ∷ []) ++ rest ≡ items_text vs ++ 41 ∷ rest = append_assoc (items_text vs) (41 ∷ []) rest in
     let back : Cuts (at + 1 + 4) (items_text vs ++ 41 ∷ rest) (b.tokens ++ Closes (b.end + 1) ∷ []) (b.end + 1) rest =
-    joined_cut (at + 1 + 4) (items_text vs ++ 41 ∷ rest) b.tokens b.end (41 ∷ rest) (Closes (b.end + 1) ∷ []) (b.end + 1) rest b.cut (closes b.end rest) in
+    cuts_cuts (at + 1 + 4) (items_text vs ++ 41 ∷ rest) b.tokens b.end (41 ∷ rest) (Closes (b.end + 1) ∷ []) (b.end + 1) rest b.cut (closes b.end rest) in
     let cut : Cuts at (40 ∷ (w ++ (items_text vs ++ 41 ∷ rest))) (Opens at ∷ Is (Named w) inner ∷ (b.tokens ++ Closes (b.end + 1) ∷ [])) (b.end + 1) rest =
     opens at (w ++ (items_text vs ++ 41 ∷ rest)) (Is (Named w) inner ∷ (b.tokens ++ Closes (b.end + 1) ∷ [])) (b.end + 1) rest
     (front_cut (at + 1) w (items_text vs ++ 41 ∷ rest) (Is (Named w) inner) (b.tokens ++ Closes (b.end + 1) ∷ []) (b.end + 1) rest list_run.some (run_spells (at + 1) w (items_text vs ++ 41 ∷ rest) (Named w) list_run (stops_items vs (41 ∷ rest) refl)) back) in
@@ -327,7 +322,7 @@ entry_stood k v es at rest r a b =
     let value : Cuts (at + length k) (58 ∷ 32 ∷ (printed v ++ behind)) (Colon ∷ Separator ∷ (a.tokens ++ b.tokens)) b.end rest =
     colon (at + length k) (32 ∷ (printed v ++ behind)) (Separator ∷ (a.tokens ++ b.tokens)) b.end rest
     (space (at + length k + 1) (printed v ++ behind) (a.tokens ++ b.tokens) b.end rest
-    (joined_cut (at + length k + 1 + 1) (printed v ++ behind) a.tokens a.end behind b.tokens b.end rest a.cut b.cut)) in
+    (cuts_cuts (at + length k + 1 + 1) (printed v ++ behind) a.tokens a.end behind b.tokens b.end rest a.cut b.cut)) in
     let cut : Cuts at (k ++ 58 ∷ 32 ∷ (printed v ++ behind)) (Key k ∷ Colon ∷ Separator ∷ (a.tokens ++ b.tokens)) b.end rest =
     front_cut at k (58 ∷ 32 ∷ (printed v ++ behind)) (Key k) (Colon ∷ Separator ∷ (a.tokens ++ b.tokens)) b.end rest r.some (record { start = at; end = at + length k }, run_spells at k (58 ∷ 32 ∷ (printed v ++ behind)) (Named k) r refl) value in
     record {
@@ -366,7 +361,7 @@ tuple_stood k v es at rest h e =
     let text : (body ++ 125 ∷ []) ++ rest ≡ body ++ 125 ∷ rest = append_assoc body (125 ∷ []) rest in
     let cut : Cuts at (123 ∷ (body ++ 125 ∷ rest)) (OpensTuple at ∷ (tokens ++ ClosesTuple (e.end + 1) ∷ [])) (e.end + 1) rest =
     opens_tuple at (body ++ 125 ∷ rest) (tokens ++ ClosesTuple (e.end + 1) ∷ []) (e.end + 1) rest
-    (joined_cut (at + 1) (body ++ 125 ∷ rest) tokens e.end (125 ∷ rest) (ClosesTuple (e.end + 1) ∷ []) (e.end + 1) rest e.cut (closes_tuple e.end rest)) in
+    (cuts_cuts (at + 1) (body ++ 125 ∷ rest) tokens e.end (125 ∷ rest) (ClosesTuple (e.end + 1) ∷ []) (e.end + 1) rest e.cut (closes_tuple e.end rest)) in
     let test : are_tuple_keys (keys_of parts) ≡ true = ap are_tuple_keys e.keys ∙ rising_keys (Entry k v es) h in
     record {
       item = TupleAt parts span;

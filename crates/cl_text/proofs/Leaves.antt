@@ -23,6 +23,7 @@ use Rattle.cl_c32.specs.ContractName.{IsContractName, is_name_byte as is_contrac
 use Rattle.cl_c32.specs.declared.principal.Principal.{Principal}
 use Rattle.cl_sexpr.specs.Tree.{Named, Signed, Unsigned, Bytes, Standing}
 use Rattle.cl_sexpr.specs.Leaf.{are_digits, value_of, positive, negative, unsigned, begins, contract_name, buffer, contract_principal, standard_principal, principal_by, principal_of, principal_token, in_span}
+use Rattle.cl_sexpr.proofs.Names.{letter_no_digit}
 use Rattle.cl_values.specs.Valid.{IsPrincipal, IsContractPart}
 use Rattle.cl_text.specs.Printed.{contract_text, principal_text}
 use Rattle.cl_text.specs.Named.{is_number_name}
@@ -262,9 +263,6 @@ record NameParts (c : ℕ) (cs : List ℕ) : Type 0 where
 
 first_no : (c n : ℕ) → is_letter c ≡ true → n < 65 → (c == n) ≡ false
 first_no c n h m = grind (arith, nat_tests)
-
-letter_no_digit : (c : ℕ) → is_letter c ≡ true → is_digit c ≡ false
-letter_no_digit c h = grind (arith, nat_tests)
 
 operator_no : (c : ℕ) → is_operator_byte c ≡ true → (c == 39) ≡ false
 operator_no c h = grind (arith, nat_tests)

@@ -21,6 +21,7 @@ pub use lattice_laws::{admission_orders, least_supertype_is, one_least_supertype
 pub use laws::{keys_are_ordered, made_is_sized, parts_are_sized, placed_keys_rise, sized_is_made};
 pub use measure::measured;
 pub use name::{Name, fits_pattern, is_digit, is_letter};
+pub use order::sort_row;
 pub use sized::{Access, SizedTy, TyRefusal, size};
 pub use supertype::lub;
 pub use text::Text;

@@ -41,7 +41,8 @@ fn sort_parts(alloc: Global, row: &mut [(Name, Ty)]) -> Result<(), AllocError>
     Ok(())
 }
 
-fn sort_row(alloc: Global, row: &mut [(Name, Ty)]) -> Result<(), AllocError>
+/// Puts fields in the rising order of their keys; equal ones stay in their order.
+pub fn sort_row(alloc: Global, row: &mut [(Name, Ty)]) -> Result<(), AllocError>
     ensures { IfOk result (λ _. fields row.new ≡ in_order (fields row.old)) }
 {
     row.sort_by(alloc, |a, b| a.0.cmp(&b.0))

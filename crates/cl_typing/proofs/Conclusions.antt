@@ -1,11 +1,12 @@
 -- What is concluded of a node.
-use Rattle.std.proofs.Common.{◌≡◌, ℕ, suc, ◌+◌, ◌<◌, ◌≤◌, max, Bool, true, false, List, [], ◌∷◌, ◌++◌, map, length, drop, get_or, Option, Some, None, Result, Ok, Err, refl, ap, sym, subst, ◌∙◌, arith, drop-cons}
+use Rattle.std.proofs.Common.{◌≡◌, ℕ, suc, ◌+◌, ◌<◌, ◌≤◌, max, Bool, true, false, List, [], ◌∷◌, ◌++◌, map, length, drop, get_or, Option, Some, None, Result, Ok, Err, refl, ap, sym, subst, ◌∙◌, arith}
 use Rattle.std.proofs.lemmas.List.{drop_all}
 use Rattle.cl_types.specs.Types.{PlainType}
 use Rattle.cl_types.specs.declared.fault.Fault.{Fault}
 use Rattle.cl_types.specs.declared.fault.Fault.TheVariants.{Refused, NoMemory}
 use Rattle.cl_types.specs.declared.sized.TyRefusal.{TyRefusal}
 use Rattle.cl_types.specs.declared.sized.TyRefusal.TheVariants.{Differ, TooLarge as LargeTy, TooDeep as DeepTy, EmptyTuple, KeyTwice}
+use Rattle.cl_values.proofs.Lists.{rest_of}
 use Rattle.cl_sexpr.specs.declared.rule.Rule.{Rule}
 use Rattle.cl_sexpr.specs.declared.rule.Rule.TheVariants.{ArgumentKind, NotSame, TooLarge, TooDeep, Undetermined, ThrownDiffer, UnusedResponse, NoSuchKey}
 use Rattle.cl_rules.specs.Faults.{TypeFaults, type_rules}
@@ -14,11 +15,6 @@ use Rattle.cl_typing.specs.declared.concluding.Checked.{Checked}
 use Rattle.cl_typing.specs.Verdicts.{Facts, facts, facts_of, counted, heights, throws_of, first_rule, first_with, fault_with, before_large, before_differ, refused_throws, RulesWith, ConcludesAs, Throws, ThrowsOn}
 
 -- ---- what is thrown
-
-pub rest_of : {A : Type 0} (xs : List A) (i : ℕ) (x : A) → i < length xs → get_or xs i x ≡ x → drop i xs ≡ x ∷ drop (i + 1) xs
-rest_of xs i x lt at =
-    let next : i + 1 ≡ suc i = omega arith in
-    rw next (drop-cons xs i x lt ∙ ap (λ y. y ∷ drop (suc i) xs) at)
 
 thrown_last : (t own : Option PlainType) (whole : Thrown) (r : Result (Option PlainType) (Fault TyRefusal)) → ThrowsOn t own r → thrown_after t (own ∷ []) ≡ whole → Throws whole r
 thrown_last t own whole (Ok o) h k = sym k ∙ h []

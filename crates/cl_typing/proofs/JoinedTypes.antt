@@ -6,10 +6,10 @@ use Rattle.cl_types.specs.Lattice.{least_supertype}
 use Rattle.cl_types.specs.declared.fault.Fault.{Fault}
 use Rattle.cl_types.specs.declared.fault.Fault.TheVariants.{Refused, NoMemory}
 use Rattle.cl_types.specs.declared.sized.TyRefusal.{TyRefusal}
+use Rattle.cl_values.proofs.Lists.{rest_of}
 use Rattle.cl_sexpr.specs.declared.rule.Rule.{Rule}
 use Rattle.cl_rules.specs.NativeTypes.{Ruled, and_lub, lub_then}
 use Rattle.cl_typing.specs.Verdicts.{Rules, Lubs, Joins}
-use Rattle.cl_typing.proofs.Conclusions.{rest_of}
 
 -- what is made of several types, of which those from a place on are left
 module _ {A : Type 0} (type : A → PlainType) (others : List A) (first : PlainType) where

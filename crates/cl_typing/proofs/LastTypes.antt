@@ -6,13 +6,13 @@ use Rattle.cl_types.specs.Types.{PlainType}
 use Rattle.cl_types.specs.TypeKinds.{is_response}
 use Rattle.cl_types.specs.declared.fault.Fault.{Fault}
 use Rattle.cl_types.specs.declared.fault.Fault.TheVariants.{Refused}
+use Rattle.cl_values.proofs.Lists.{rest_of}
 use Rattle.cl_sexpr.specs.declared.rule.Rule.{Rule}
 use Rattle.cl_sexpr.specs.declared.rule.Rule.TheVariants.{UnusedResponse}
 use Rattle.cl_rules.specs.Faults.{sound_types, when}
 use Rattle.cl_rules.specs.NativeTypes.{fine}
 use Rattle.cl_rules.specs.ControlShapes.{last_row, is_unused, last_of}
 use Rattle.cl_typing.specs.Verdicts.{Rules, first_rule}
-use Rattle.cl_typing.proofs.Conclusions.{rest_of}
 
 module _ {A : Type 0} (type : A → PlainType) (last : A) where
   one_more : (x : A) (xs : List A) → is_unused (map type (x ∷ (xs ++ last ∷ []))) ≡ (is_response (type x) || is_unused (map type (xs ++ last ∷ [])))

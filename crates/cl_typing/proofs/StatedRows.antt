@@ -4,12 +4,12 @@ use Rattle.std.proofs.lemmas.List.{drop_all}
 use Rattle.cl_types.specs.Types.{PlainType}
 use Rattle.cl_types.specs.declared.fault.Fault.{Fault}
 use Rattle.cl_types.specs.declared.fault.Fault.TheVariants.{Refused}
+use Rattle.cl_values.proofs.Lists.{rest_of}
 use Rattle.cl_sexpr.specs.declared.rule.Rule.{Rule}
 use Rattle.cl_sexpr.specs.declared.rule.Rule.TheVariants.{ArgumentKind}
 use Rattle.cl_rules.specs.NativeTypes.{Ruled, if_kind}
 use Rattle.cl_rules.specs.Shapes.{Wanted, Admitted, is_wanted, are_wanted}
 use Rattle.cl_typing.specs.Verdicts.{Rules}
-use Rattle.cl_typing.proofs.Conclusions.{rest_of}
 
 abbrev choice : Bool → Bool → Bool
 choice first others = elim first [ true ↦ others | false ↦ false ]

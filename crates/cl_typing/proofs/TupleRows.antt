@@ -10,13 +10,13 @@ use Rattle.cl_types.specs.Sized.{everywhere, everywhere_in, keys_rise, has_key, 
 use Rattle.cl_types.proofs.Rising.{rises_differ, rising_again}
 use Rattle.cl_types.proofs.Made.{everywhere_ordered}
 use Rattle.cl_types.specs.declared.fault.Fault.{Fault}
+use Rattle.cl_values.proofs.Lists.{rest_of}
 use Rattle.cl_sexpr.specs.declared.rule.Rule.{Rule}
 use Rattle.cl_rules.specs.Context.{same}
 use Rattle.cl_rules.specs.NativeTypes.{made, merged, merge_row, type_of_key}
 use Rattle.cl_rules.specs.DataShapes.{stands_twice, fields_by, tuple_row}
 use Rattle.cl_typing.specs.Verdicts.{Rules}
 use Rattle.cl_typing.specs.Tuples.{paired, unlike}
-use Rattle.cl_typing.proofs.Conclusions.{rest_of}
 
 abbrev Row : Type 0
 Row = List (List ℕ × PlainType)

@@ -1,5 +1,4 @@
 pub mod Branches
-pub mod FormVerdicts
 pub mod Stated
 pub mod Tuples
 pub mod Uses

@@ -3,7 +3,6 @@
 
 mod branches;
 mod concluding;
-mod forms;
 mod iterations;
 mod joining;
 mod kinds;
@@ -18,16 +17,15 @@ mod verdicts;
 
 pub use branches::{match_optional, match_response, tried, tried_argument, try_type};
 pub use concluding::{Checked, Concluded, conclude};
-pub use forms::{MOST_HEIGHT, check_declared, check_function, check_height};
 pub use iterations::{filter_type, fold_type, map_type, on_filter, on_fold, on_map};
 pub use joining::{equal, joined, list};
 pub use kinds::{
     are_bools, are_numbers, is_bool, is_hashed, is_int, is_optional, is_principal, is_response,
     is_sequence, is_uint, is_undetermined,
 };
-pub use making::{copy_of_kind, fit, lubbed, none_type, of, of_kind, optional, where_kind};
+pub use making::{copy_of_kind, lubbed, none_type, of, of_kind, optional, where_kind};
 pub use native_types::{native_type, only, pair};
-pub use rows::{err_part, itself, last, nothing, part, some, truth};
+pub use rows::{err_part, inner, itself, last, nothing, part, some, truth};
 pub use sequences::{
     ascii_of, buffer_of, entry, greatest_length, list_of, max_len, max_len_type, utf8_of,
 };

@@ -25,7 +25,7 @@ pub fn lubbed(alloc: Global, a: &SizedTy, b: &SizedTy) -> Result<SizedTy, Fault<
 }
 
 /// A type that is within the limits as it stands.
-pub fn fit(alloc: Global, ty: Ty) -> Result<SizedTy, NoMemory>
+pub(crate) fn fit(alloc: Global, ty: Ty) -> Result<SizedTy, NoMemory>
     requires { IsSized ty }
     ensures { IfOk result (λ t. t ≡ ty) }
 {

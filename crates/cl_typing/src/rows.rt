@@ -75,7 +75,7 @@ pub fn long_hash(alloc: Global, t: &SizedTy) -> Result<SizedTy, Fault<Rule>>
 }
 
 /// A part of a type within the limits.
-pub(crate) fn inner(alloc: Global, part: &Ty) -> Result<SizedTy, NoMemory>
+pub fn inner(alloc: Global, part: &Ty) -> Result<SizedTy, NoMemory>
     requires { IsSized part.now }
     ensures { IfOk result (λ t. t ≡ part.now) }
 {

@@ -12,19 +12,13 @@ use crate::making::{made, optional};
 use crate::native_types::only;
 use crate::rows::{inner, nothing};
 use cl_sexpr::Rule;
-use cl_types::{Fault, Name, SizedTy, Ty, TyKind};
+use cl_types::{Fault, Name, SizedTy, Ty, TyKind, sort_row};
 use std::alloc::{AllocError, Global};
-
-fn sort(alloc: Global, row: &mut [(Name, Ty)]) -> Result<(), AllocError>
-    ensures { IfOk result (λ _. fields row.new ≡ in_order (fields row.old)) }
-{
-    row.sort_by(alloc, |a, b| a.0.cmp(&b.0))
-}
 
 fn sorted(alloc: Global, mut row: Vec<(Name, Ty)>) -> Result<Vec<(Name, Ty)>, AllocError>
     ensures { IfOk result (λ v. fields v.items ≡ in_order (fields row.items)) }
 {
-    sort(alloc, &mut row)?;
+    sort_row(alloc, &mut row)?;
     Ok(row)
 }
 

@@ -1,7 +1,7 @@
 use Rattle.std.proofs.Common.{◌≡◌, ℕ, ◌<◌, List, length, get_or, sym, ap, subst, ◌∙◌}
+use Rattle.cl_contracts.proofs.InOrder.{again}
 use Rattle.cl_sums.specs.declared.sum.Sum.{Sum}
 use Rattle.cl_bound.specs.declared.prices.Prices.{Prices}
-use Rattle.cl_bound.proofs.Adding.{again}
 use Rattle.cl_bound.proofs.Definitions.{walked_more, walked_past, ShowsAfter, AsWalked}
 use Rattle.cl_bound.proofs.contract.deployment.Goals as goal
 use Rattle.cl_bound.proofs.contract.deployment.Goals.{in-Some+in_ok-charge, in_default}

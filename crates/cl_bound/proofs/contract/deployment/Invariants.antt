@@ -1,5 +1,6 @@
 use Rattle.std.proofs.Common.{◌≡◌, drop}
-use Rattle.cl_bound.proofs.Definitions.{Walked, at_places}
+use Rattle.cl_contracts.proofs.InOrder.{at_places}
+use Rattle.cl_bound.proofs.Definitions.{Walked}
 use Rattle.cl_bound.proofs.contract.deployment.Given as goal
 
 abbrev pub invariant-loop-place : goal.invariant-loop-place

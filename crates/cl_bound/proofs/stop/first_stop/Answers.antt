@@ -1,6 +1,6 @@
 use Rattle.std.proofs.Common.{◌≡◌, ℕ, ◌<◌, ◌≤◌, List, Some, None, length, get_or, sym, subst}
+use Rattle.cl_contracts.proofs.InOrder.{again}
 use Rattle.cl_costs.specs.Tables.{function_of}
-use Rattle.cl_bound.proofs.Adding.{again}
 use Rattle.cl_bound.proofs.Stopping.{next_stop, last_stop}
 use Rattle.cl_bound.proofs.stop.first_stop.Goals as goal
 use Rattle.cl_rules.specs.Bills.{cost_under}

@@ -1,13 +1,14 @@
 use Rattle.std.proofs.Common.{◌<◌, List, sym, ap, subst, ◌∙◌, arith}
 use Rattle.cl_costs.specs.Tables.{function_of}
 use Rattle.cl_code.specs.Typed.{Typed, typeds, type_of, weight_of, weights_of}
+use Rattle.cl_code.proofs.Weights.{part_falls}
 use Rattle.cl_sums.specs.Sums.{told, Increases}
 use Rattle.cl_contracts.specs.Standing.{StandAll}
 use Rattle.std.proofs.Common.{Option, map}
 use Rattle.cl_bound.specs.declared.branches.Branch.{Branch}
 use Rattle.cl_bound.specs.Own.{own, inside, inside_by}
 use Rattle.cl_bound.proofs.Adding.{sum_more}
-use Rattle.cl_bound.proofs.TreeBounds.{bound_is, sums_none, sums_turn, sums_end, part_falls, three_sum, no_branches}
+use Rattle.cl_bound.proofs.TreeBounds.{bound_is, sums_none, sums_turn, sums_end, three_sum, no_branches}
 use Rattle.cl_bound.proofs.walk.+bound.Goals as goal
 use Rattle.cl_rules.specs.Bills.{cost_under}
 

@@ -1,11 +1,12 @@
 use Rattle.std.proofs.Common.{◌≡◌, ℕ, ◌-◌, List, arith, ap, sym, subst, ◌∙◌}
 use Rattle.std.specs.Prelude.{Err, Some, None}
 use Rattle.cl_types.specs.Fault.{IsRefusal}
+use Rattle.cl_types.proofs.Faults.{refused_so}
 use Rattle.cl_values.specs.Tree.{Tree, Items, Entries}
 use Rattle.cl_values.specs.Reading.{Read, read_value, read_if_prefix, prefix_at, read_items, read_entries}
 use Rattle.cl_codec.proofs.RowsRead.{with_items, items_start, items_step, items_end, with_entries, entries_start, entries_step, entries_fault, entries_end}
 use Rattle.cl_codec.specs.Entry.{read_entry}
-use Rattle.cl_codec.proofs.Levels.{value_at, refused_so}
+use Rattle.cl_codec.proofs.Levels.{value_at}
 use Rattle.cl_codec.proofs.decoder.+read.Goals as goal
 
 pub read_value-returns-in-Err-clause-broken : goal.read_value-returns-in-Err-clause-broken

@@ -4,5 +4,5 @@ use Rattle.cl_types.specs.Sized.{IsSized}
 use Rattle.cl_types.specs.SizedParts.{ok_part}
 use Rattle.cl_judging.proofs.matches.response_parts.Goals as goal
 
-pub sized-requires : goal.sized-requires
-sized-requires c = rw c.deref.ensures (ok_part c.in-Response.good.value _ (subst IsSized (sym (ap plain_of (sym c.in-Response.is) ∙ c.behind-ty.view_is)) c.ty.ensures.sized))
+pub inner-requires : goal.inner-requires
+inner-requires c = rw c.deref.ensures (ok_part c.in-Response.good.value _ (subst IsSized (sym (ap plain_of (sym c.in-Response.is) ∙ c.behind-ty.view_is)) c.ty.ensures.sized))

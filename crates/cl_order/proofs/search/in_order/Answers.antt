@@ -1,6 +1,7 @@
 use Rattle.std.proofs.Common.{◌≡◌, sym, ap, ◌∙◌, ◌+◌, [], length, Err}
+use Rattle.cl_types.proofs.Faults.{refused_so}
 use Rattle.cl_forms.specs.Order.{visit, ordered}
-use Rattle.cl_order.proofs.Stepping.{rest_of, all_left, one_visited, one_refused, refusal_so}
+use Rattle.cl_order.proofs.Stepping.{rest_of, all_left, one_visited, one_refused}
 use Rattle.cl_order.proofs.search.in_order.Goals as goal
 
 pub loop-place-init : goal.loop-place-init
@@ -12,7 +13,7 @@ loop-place-init c = record {
 
 pub returns-in-Err-clause-cycle : goal.returns-in-Err-clause-cycle
 returns-in-Err-clause-cycle c =
-    refusal_so c.in-Err.fault (λ cycle. visit (length c.args.forms.now + 1) c.args.forms.now [] c.loop-place.place c.loop-place.search.done.items ≡ Err cycle.items) (λ cycle. ordered c.args.forms.now ≡ Err cycle.items)
+    refused_so c.in-Err.fault (λ cycle. visit (length c.args.forms.now + 1) c.args.forms.now [] c.loop-place.place c.loop-place.search.done.items ≡ Err cycle.items) (λ cycle. ordered c.args.forms.now ≡ Err cycle.items)
     (λ cycle h. c.loop-place.invariant.same ∙ one_refused c.args.forms.now c.loop-place.place c.loop-place.search.done.items cycle.items c.loop-place-test.true h) c.in-Err.ensures.cycle
 
 pub loop-place-preserved : goal.loop-place-preserved

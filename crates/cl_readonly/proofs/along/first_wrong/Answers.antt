@@ -1,5 +1,5 @@
 use Rattle.std.proofs.Common.{◌≡◌, ℕ, ◌<◌, ◌≤◌, List, Some, None, length, get_or, sym, subst}
-use Rattle.cl_readonly.proofs.InOrder.{again}
+use Rattle.cl_contracts.proofs.InOrder.{again}
 use Rattle.cl_readonly.proofs.Wrong.{next_wrong, last_wrong}
 use Rattle.cl_readonly.proofs.along.first_wrong.Goals as goal
 

@@ -1,6 +1,7 @@
 use Rattle.std.proofs.Common.{◌≡◌, ℕ, ◌<◌, ◌≤◌, List, length, get_or, subst}
+use Rattle.cl_contracts.proofs.InOrder.{again}
 use Rattle.cl_rules.specs.Acceptance.{calls_public}
-use Rattle.cl_readonly.proofs.InOrder.{again, walked_none, walked_all, walked_next}
+use Rattle.cl_readonly.proofs.InOrder.{walked_none, walked_all, walked_next}
 use Rattle.cl_readonly.proofs.along.functions_that_write.Goals as goal
 
 pub loop-place-init : goal.loop-place-init

@@ -2,8 +2,9 @@ use Rattle.std.proofs.Common.{◌<◌, Bool, List, ap, sym, subst, arith}
 use Rattle.std.specs.Prelude.{◌||◌}
 use Rattle.cl_rules.specs.Acceptance.{calls_public}
 use Rattle.cl_code.specs.Typed.{Typed, typeds, weight_of, weights_of}
+use Rattle.cl_code.proofs.Weights.{part_falls}
 use Rattle.cl_contracts.specs.Standing.{StandAll}
-use Rattle.cl_readonly.proofs.Walking.{part_falls, Tells, TellsAll, one_gone, found_one, all_gone, none_gone, tree_tells, tree_writes_here}
+use Rattle.cl_readonly.proofs.Walking.{Tells, TellsAll, one_gone, found_one, all_gone, none_gone, tree_tells, tree_writes_here}
 use Rattle.cl_readonly.proofs.walk.+writing.Goals as goal
 
 pub tree_writes-returns-then-node_writes : goal.tree_writes-returns-then-node_writes

@@ -1,10 +1,11 @@
 use Rattle.std.proofs.Common.{◌≡◌, ◌∙◌, Some, sym, ap}
 use Rattle.std.specs.Prelude.{option_copied}
 use Rattle.cl_values.specs.Tree.{PrincipalV}
+use Rattle.cl_values.proofs.Parts.{principal_is_val}
 use Rattle.cl_tables.specs.declared.row.RowKind.TheVariants.{Balance}
 use Rattle.cl_tables.specs.StateRows.{placed_row}
 use Rattle.cl_tables.specs.RowParts.{holding_row}
-use Rattle.cl_tables.proofs.OwnerKeys.{principal_is_val, value_read}
+use Rattle.cl_tables.proofs.OwnerKeys.{value_read}
 use Rattle.cl_tables.proofs.MadeRows.{stx_made}
 use Rattle.cl_tables.proofs.listing.holding_row.Goals as goal
 

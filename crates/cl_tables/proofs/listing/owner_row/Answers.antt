@@ -1,8 +1,9 @@
 use Rattle.std.proofs.Common.{◌≡◌, ◌∙◌, Some}
 use Rattle.cl_values.specs.Tree.{PrincipalV}
+use Rattle.cl_values.proofs.Parts.{principal_is_val}
 use Rattle.cl_tables.specs.declared.row.RowKind.TheVariants.{Owner}
 use Rattle.cl_tables.specs.StateRows.{placed_row}
-use Rattle.cl_tables.proofs.OwnerKeys.{principal_is_val, value_read}
+use Rattle.cl_tables.proofs.OwnerKeys.{value_read}
 use Rattle.cl_tables.proofs.listing.owner_row.Goals as goal
 
 pub value_of-requires-2 : goal.value_of-requires-2

@@ -1,13 +1,9 @@
-use Rattle.std.proofs.Common.{◌≡◌, ◌+◌, ◌<◌, ℕ, List, [], ◌∷◌, ◌++◌, length, take, get_or, arith, ap, sym, ◌∙◌}
-use Rattle.std.proofs.lemmas.List.{take_more, take_all}
+use Rattle.std.proofs.Common.{arith, ap, ◌∙◌}
+use Rattle.std.proofs.lemmas.List.{take_all}
 use Rattle.cl_types.specs.Types.{PlainType}
 use Rattle.cl_types.specs.TypeFalls.{field_falls}
 use Rattle.cl_types.proofs.ty.+copy.Goals as goal
-
--- one more copy of a row
-copied : {X : Type 0} (xs copies : List X) (i : ℕ) (x copy : X) → i < length xs → x ≡ get_or xs i x → copies ≡ take i xs → copy ≡ x → copies ++ copy ∷ [] ≡ take (i + 1) xs
-copied {X = X} xs copies i x copy h at so_far same =
-    ap (λ (ys : List X). ys ++ copy ∷ []) so_far ∙ ap (λ (y : X). take i xs ++ y ∷ []) (same ∙ at) ∙ sym (take_more xs i x h)
+use Rattle.cl_types.proofs.Copies.{copied}
 
 pub copy_fields-copy-requires : goal.copy_fields-copy-requires
 copy_fields-copy-requires t c =

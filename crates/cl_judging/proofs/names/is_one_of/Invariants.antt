@@ -1,6 +1,0 @@
-use Rattle.std.proofs.Common.{◌≡◌, map, drop}
-use Rattle.cl_forms.specs.Names.{is_one_of}
-use Rattle.cl_judging.proofs.names.is_one_of.Given as goal
-
-abbrev pub invariant-loop-word : goal.invariant-loop-word
-invariant-loop-word l = is_one_of (map (λ word. word.now) (drop l.word-index l.words)) l.name ≡ is_one_of (map (λ word. word.now) l.words) l.name
