@@ -1,4 +1,4 @@
-use Rattle.std.proofs.Common.{◌≡◌, Bool, true, false, not, if◌then◌else◌, Result, Ok, Err, refl, ap, sym, ◌∙◌}
+use Rattle.std.proofs.Common.{rules, ◌≡◌, Bool, true, false, not, if◌then◌else◌, Result, Ok, Err, refl, ap, sym, ◌∙◌}
 use Rattle.std.specs.Prelude.{nat_lt}
 use Rattle.cl_sexpr.specs.declared.sexpr.Span.{Span}
 use Rattle.cl_values.specs.declared.refusal.ValueRefusal.{ValueRefusal}
@@ -25,3 +25,6 @@ returns-in-Ok-clause-found c =
     let v : Tree = c.args.value in
     stands (nat_lt 32 (depth_of v)) (nat_lt 1048576 (size_of v)) c.args.span v c.in-Ok.v
     (sym (limits_left (has_rising_keys v) (has_good_texts v) _ c.requires.keys c.requires.texts) ∙ sym c.in-Ok.ensures)
+
+pub returns-in-Err-TooDeep-clause-broken : goal.returns-in-Err-TooDeep-clause-broken
+returns-in-Err-TooDeep-clause-broken c = search rules
