@@ -161,9 +161,9 @@ class Pace(threading.Thread):
         return f"a loop of 100,000 turns took {middle:.1f} ms of a processor meanwhile ({low:.1f} to {high:.1f})"
 
 
-def spent():
-    """What all processes have used that this one has waited for."""
-    usage = resource.getrusage(resource.RUSAGE_CHILDREN)
+def spent(who=resource.RUSAGE_CHILDREN):
+    """What all processes have used that this one has waited for, or another of what the system tells apart."""
+    usage = resource.getrusage(who)
     return usage.ru_utime + usage.ru_stime
 
 
@@ -185,9 +185,11 @@ def gate(root, names):
         os.chdir(f"{room}/clone")
         rt = load(file)
         before, began, pace = spent(), time.time(), Pace()
+        own_before = spent(resource.RUSAGE_SELF)
         pace.start()
         status, figures = measured(lambda: rt.main(["ci"]))
         used, wall = spent() - before, time.time() - began
+        own = spent(resource.RUSAGE_SELF) - own_before
         os.chdir(root)
     with open(f"{rt.KIT}/KIT-ID") as it:
         kit = it.read().strip()
@@ -195,6 +197,7 @@ def gate(root, names):
     print(f"processor seconds; by the clock {wall / 60:.1f} minutes; {pace.line()}")
     for line in figures.lines():
         print(line)
+    print(f"beside the table, rt's own process took {own / 60:.1f} minutes of a processor")
     if not add_up(figures, used):
         print(f"the sums don't add up: the processes used {used:.1f} s")
         return status or 1
