@@ -3,6 +3,7 @@ use Rattle.std.proofs.Common.{◌≡◌, ◌-◌, ◌^◌, [], ◌∷◌, refl}
 use Rattle.std.specs.Prelude.{ℕ, ℤ, pos, negsuc, List, map, Result, Ok, Err}
 use Rattle.cl_arith.specs.Numbers.{Num, Int, Uint, ArithRefusal, Overflow, Underflow, DivideByZero, NegativeArgument, kind_of, whole, as_int, as_uint}
 use Rattle.cl_arith.specs.Operations.{Operation, sum, difference, product, quotient, remainder, power, tested, computed, exclusive_or}
+use Rattle.cl_arith.specs.Bits.{conjunction, disjunction, complement, shifted_left, shifted_right}
 use Rattle.cl_arith.specs.Roots.{greatest_from, square_root, log2, root_of, log2_of}
 
 abbrev least : ℤ
@@ -239,3 +240,28 @@ ints_as_uints = refl
 
 bits_of_minus_one : exclusive_or (Int (negsuc 0)) (Int (pos 5)) ≡ Int (negsuc 5)
 bits_of_minus_one = refl
+
+bits_of_small_numbers :
+    conjunction (Int (pos 12)) (Int (pos 10)) ∷ disjunction (Int (pos 12)) (Int (pos 10)) ∷ exclusive_or (Int (pos 12)) (Int (pos 10))
+    ∷ complement (Int (pos 0)) ∷ shifted_left (Int (pos 1)) 130 ∷ shifted_right (Int (negsuc 63)) 1 ∷ []
+    ≡ Int (pos 8) ∷ Int (pos 14) ∷ Int (pos 6) ∷ Int (negsuc 0) ∷ Int (pos 4) ∷ Int (negsuc 31) ∷ []
+bits_of_small_numbers = refl
+
+shifts_of_ints :
+    map (λ n. shifted_left (Int (negsuc 0)) n) (0 ∷ 1 ∷ 127 ∷ 128 ∷ (2 ^ 128 - 1) ∷ []) ∷ map (λ n. shifted_right (Int least) n) (0 ∷ 1 ∷ 127 ∷ 128 ∷ (2 ^ 128 - 1) ∷ [])
+    ∷ map (λ n. shifted_left (Int (pos 1)) n) (126 ∷ 127 ∷ []) ∷ map (λ n. shifted_right (Int greatest) n) (126 ∷ 127 ∷ []) ∷ []
+    ≡ (Int (negsuc 0) ∷ Int (negsuc 1) ∷ Int least ∷ Int (negsuc 0) ∷ Int least ∷ [])
+    ∷ (Int least ∷ Int (negsuc (2 ^ 126 - 1)) ∷ Int (negsuc 0) ∷ Int least ∷ Int (negsuc 0) ∷ [])
+    ∷ (Int (pos (2 ^ 126)) ∷ Int least ∷ []) ∷ (Int (pos 1) ∷ Int (pos 0) ∷ []) ∷ []
+shifts_of_ints = refl
+
+shifts_of_uints :
+    map (λ n. shifted_left (Uint (2 ^ 128 - 1)) n) (0 ∷ 1 ∷ 127 ∷ 128 ∷ []) ∷ map (λ n. shifted_right (Uint (2 ^ 128 - 1)) n) (0 ∷ 1 ∷ 127 ∷ 128 ∷ []) ∷ []
+    ≡ (Uint (2 ^ 128 - 1) ∷ Uint (2 ^ 128 - 2) ∷ Uint (2 ^ 127) ∷ Uint (2 ^ 128 - 1) ∷ []) ∷ (Uint (2 ^ 128 - 1) ∷ Uint (2 ^ 127 - 1) ∷ Uint 1 ∷ Uint (2 ^ 128 - 1) ∷ []) ∷ []
+shifts_of_uints = refl
+
+other_bits : map complement (Int least ∷ Int greatest ∷ Uint 0 ∷ Uint (2 ^ 128 - 1) ∷ []) ≡ Int greatest ∷ Int least ∷ Uint (2 ^ 128 - 1) ∷ Uint 0 ∷ []
+other_bits = refl
+
+bits_of_both_signs : conjunction (Int (negsuc 0)) (Int least) ∷ disjunction (Int greatest) (Int least) ∷ conjunction (Uint 6) (Uint 3) ∷ disjunction (Uint 6) (Uint 3) ∷ [] ≡ Int least ∷ Int (negsuc 0) ∷ Uint 2 ∷ Uint 7 ∷ []
+bits_of_both_signs = refl

@@ -3,3 +3,4 @@ pub mod Greatest
 pub mod Laws
 pub mod Powers
 pub mod Ranges
+pub mod Bits

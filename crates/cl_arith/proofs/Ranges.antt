@@ -44,7 +44,7 @@ pub tested_fits : (kind : Kind) (r : Result ℤ ArithRefusal) → IsInRange kind
 tested_fits kind (Ok z) = range_fits kind z
 tested_fits kind (Err why) = tt
 
-bits_below : (z : ℤ) → FitsSigned w128 z → cast_unsigned w128 z < 2 ^ 128
+pub bits_below : (z : ℤ) → FitsSigned w128 z → cast_unsigned w128 z < 2 ^ 128
 bits_below (pos n) h = omega (arith, h)
 bits_below (negsuc n) h = omega arith
 

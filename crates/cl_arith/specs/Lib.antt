@@ -1,4 +1,5 @@
 pub mod Numbers
 pub mod Operations
+pub mod Bits
 pub mod Roots
 pub mod Ranges

@@ -1,10 +1,11 @@
 // Arithmetic on 128-bit numbers, as the Clarity language has it (SIP-002): the exact result, or why there is none.
 #![tactic(auto)]
 
-ghost use Rattle.std.specs.Prelude.{◌≡◌, ◌≢◌, ℕ, ◌+◌, ◌^◌, ◌<◌, ℤ, pos, ◌+ℤ◌, ◌*ℤ◌, ◌≤ℤ◌, int_div, int_rem, unsigned_abs, Ok, Result};
+ghost use Rattle.std.specs.Prelude.{◌≡◌, ◌≢◌, ℕ, ◌+◌, ◌-◌, ◌%◌, ◌^◌, ◌<◌, ◌≤◌, min, max, ℤ, pos, ◌+ℤ◌, ◌*ℤ◌, ◌≤ℤ◌, int_div, int_rem, unsigned_abs, Ok, Result};
 ghost use Rattle.std.specs.Int.{int_pow};
 ghost use Rattle.cl_arith.specs.Numbers.{Num as Number, ArithRefusal as Refusal, Kind, kind_of, whole, as_int, as_uint};
 ghost use Rattle.cl_arith.specs.Operations.{sum, difference, product, quotient, remainder, power, tested, computed, exclusive_or};
+ghost use Rattle.cl_arith.specs.Bits.{bit, conjunction, disjunction, complement, distance, shifted_left, shifted_right, following};
 ghost use Rattle.cl_arith.specs.Ranges.{IsNumber, IsInRange};
 ghost use Rattle.cl_arith.specs.Roots.{root_of, log2_of, square_root, log2, IsSquareRoot, IsLog2};
 
@@ -116,6 +117,74 @@ pub fn xor(a: Num, b: Num) -> Result<Num, ArithRefusal>
     }
 }
 
+/// The bits that are set in both.
+pub fn bit_and(a: Num, b: Num) -> Num
+    requires { kind_of a ≡ kind_of b }
+    ensures { result ≡ conjunction a b }
+{
+    match (a, b) {
+        (Num::Int(x), Num::Int(y)) => Num::Int(x & y),
+        (Num::Uint(x), Num::Uint(y)) => Num::Uint(x & y),
+        _ => unreachable!(),
+    }
+}
+
+/// The bits that are set in one of the two, or in both.
+pub fn bit_or(a: Num, b: Num) -> Num
+    requires { kind_of a ≡ kind_of b }
+    ensures { result ≡ disjunction a b }
+{
+    match (a, b) {
+        (Num::Int(x), Num::Int(y)) => Num::Int(x | y),
+        (Num::Uint(x), Num::Uint(y)) => Num::Uint(x | y),
+        _ => unreachable!(),
+    }
+}
+
+/// The bits that are set in one of the two alone.
+pub fn bit_xor(a: Num, b: Num) -> Num
+    requires { kind_of a ≡ kind_of b }
+    ensures { result ≡ exclusive_or a b }
+{
+    match (a, b) {
+        (Num::Int(x), Num::Int(y)) => Num::Int(x ^ y),
+        (Num::Uint(x), Num::Uint(y)) => Num::Uint(x ^ y),
+        _ => unreachable!(),
+    }
+}
+
+/// The bits that are not set.
+pub fn bit_not(a: Num) -> Num
+    ensures { result ≡ complement a }
+{
+    match a {
+        Num::Int(x) => Num::Int(!x),
+        Num::Uint(x) => Num::Uint(!x),
+    }
+}
+
+/// The bits so many places further up, modulo 128; what goes above the highest is lost.
+pub fn shift_left(a: Num, places: u128) -> Num
+    ensures { result ≡ shifted_left a places }
+{
+    let distance = (places % 128) as u32;
+    match a {
+        Num::Int(x) => Num::Int(x << distance),
+        Num::Uint(x) => Num::Uint(x << distance),
+    }
+}
+
+/// The bits so many places further down, modulo 128; an int keeps its sign.
+pub fn shift_right(a: Num, places: u128) -> Num
+    ensures { result ≡ shifted_right a places }
+{
+    let distance = (places % 128) as u32;
+    match a {
+        Num::Int(x) => Num::Int(x >> distance),
+        Num::Uint(x) => Num::Uint(x >> distance),
+    }
+}
+
 /// The square root, rounded down.
 pub fn sqrti(a: Num) -> Result<Num, ArithRefusal>
     ensures { result ≡ tested (kind_of a) (root_of (whole a)) }
@@ -182,8 +251,35 @@ pub fn roots_round_down()
     ensures log2 { (n : ℕ) → 0 < n → n < 2 ^ 128 → IsLog2 n (log2 n) }
 {}
 
-/// What an operation gives is a number of its kind, in its range: results are tested for it, and an exclusive or needs no test.
+/// What an operation gives is a number of its kind, in its range: results are tested for it, and operations on bits need no test.
 pub fn results_are_in_range()
     ensures tested { (kind : Kind) (r : Result ℤ Refusal) → IsInRange kind (tested kind r) }
     ensures exclusive_or { (kind : Kind) (a b : Number) → IsNumber kind a → IsNumber kind b → IsNumber kind (exclusive_or a b) }
+    ensures conjunction { (kind : Kind) (a b : Number) → IsNumber kind a → IsNumber kind b → IsNumber kind (conjunction a b) }
+    ensures disjunction { (kind : Kind) (a b : Number) → IsNumber kind a → IsNumber kind b → IsNumber kind (disjunction a b) }
+    ensures complement { (kind : Kind) (a : Number) → IsNumber kind a → IsNumber kind (complement a) }
+    ensures left { (kind : Kind) (a : Number) (places : ℕ) → IsNumber kind a → IsNumber kind (shifted_left a places) }
+    ensures right { (kind : Kind) (a : Number) (places : ℕ) → IsNumber kind a → IsNumber kind (shifted_right a places) }
+{}
+
+/// Each of the 128 bits is what the operation says of the bits of the numbers, and a number is what its bits are.
+pub fn operations_go_bit_by_bit()
+    ensures same { (kind : Kind) (a b : Number) → IsNumber kind a → IsNumber kind b →
+        ((place : ℕ) → place < 128 → bit a place ≡ bit b place) → a ≡ b }
+    ensures both { (kind : Kind) (a b : Number) → IsNumber kind a → IsNumber kind b → (place : ℕ) →
+        bit (conjunction a b) place ≡ min (bit a place) (bit b place) }
+    ensures either { (kind : Kind) (a b : Number) → IsNumber kind a → IsNumber kind b → (place : ℕ) →
+        bit (disjunction a b) place ≡ max (bit a place) (bit b place) }
+    ensures one { (kind : Kind) (a b : Number) → IsNumber kind a → IsNumber kind b → (place : ℕ) →
+        bit (exclusive_or a b) place ≡ (bit a place + bit b place) % 2 }
+    ensures other { (kind : Kind) (a : Number) → IsNumber kind a → (place : ℕ) → place < 128 →
+        bit (complement a) place ≡ 1 - bit a place }
+    ensures left { (kind : Kind) (a : Number) → IsNumber kind a → (places place : ℕ) → place < 128 →
+        distance places ≤ place → bit (shifted_left a places) place ≡ bit a (place - distance places) }
+    ensures below { (kind : Kind) (a : Number) → IsNumber kind a → (places place : ℕ) →
+        place < distance places → bit (shifted_left a places) place ≡ 0 }
+    ensures right { (kind : Kind) (a : Number) → IsNumber kind a → (places place : ℕ) →
+        place + distance places < 128 → bit (shifted_right a places) place ≡ bit a (place + distance places) }
+    ensures above { (kind : Kind) (a : Number) → IsNumber kind a → (places place : ℕ) → place < 128 →
+        128 ≤ place + distance places → bit (shifted_right a places) place ≡ following a }
 {}

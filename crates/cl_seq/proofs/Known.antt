@@ -1,13 +1,15 @@
--- Two sequences of one kind are refused one behind the other only where they are beyond the limits, and so is a list with one more entry.
-use Rattle.std.proofs.Common.{◌≡◌, ◌≢◌, ◌++◌, Bool, true, false, [], ◌∷◌, Err, if◌then◌else◌}
+-- Two sequences of one kind are refused one behind the other only where they are beyond the limits, and so are a list with one more entry and a sequence with one
+-- entry replaced.
+use Rattle.std.proofs.Common.{◌≡◌, ◌≢◌, ◌++◌, ℕ, option_map, Bool, true, false, [], ◌∷◌, Err, if◌then◌else◌}
 use Rattle.cl_types.specs.declared.fault.Fault.TheVariants.{Refused}
 use Rattle.cl_values.specs.declared.no_value.NoValue.{NoValue}
 use Rattle.cl_values.specs.declared.no_value.NoValue.TheVariants.{Arith, Panic, Undefined as NotDefined}
 use Rattle.cl_arith.specs.declared.ArithRefusal.{ArithRefusal}
-use Rattle.cl_values.specs.Tree.{Tree, items_of, ListV, BuffV, AsciiV, Utf8V}
+use Rattle.cl_values.specs.Tree.{Tree, items_of, ListV, UintV, BuffV, AsciiV, Utf8V}
 use Rattle.cl_values.specs.Computed.{Computed, Gives, Fails, Panics, Undefined, kept, is_within}
 use Rattle.cl_values.specs.Applied.{Applied}
-use Rattle.cl_values.specs.Sequences.{append, concat, values_of}
+use Rattle.cl_values.specs.Sequences.{append, concat, values_of, optional}
+use Rattle.cl_values.specs.Contents.{replace_at, with_entry, with_single}
 
 -- refused only as undefined
 abbrev IsPlain : Computed → Type 0
@@ -41,6 +43,13 @@ concat_refused v w = undefined_plain
 pub append_refused : (v w : Tree) → IsPlain (append (v ∷ w ∷ []))
 append_refused (ListV vs) w = gives_plain (ListV (items_of (values_of vs ++ w ∷ [])))
 append_refused v w = undefined_plain
+
+pub replacing_refused : (v w : Tree) (n : ℕ) → IsPlain (replace_at (v ∷ UintV n ∷ w ∷ []))
+replacing_refused (ListV vs) w n = gives_plain (optional (option_map (λ ws. ListV (items_of ws)) (with_entry n w (values_of vs))))
+replacing_refused (BuffV xs) (BuffV ys) n = gives_plain (optional (option_map BuffV (with_single n ys xs)))
+replacing_refused (AsciiV xs) (AsciiV ys) n = gives_plain (optional (option_map AsciiV (with_single n ys xs)))
+replacing_refused (Utf8V xs) (Utf8V ys) n = gives_plain (optional (option_map Utf8V (with_single n ys xs)))
+replacing_refused v w n = undefined_plain
 
 within_gives : (b : Bool) (t v : Tree) → (if b then Gives t else Undefined) ≡ Gives v → Gives t ≡ Gives v
 within_gives true t v h = h

@@ -1,5 +1,7 @@
 pub mod Entries
+pub mod Exchanges
 pub mod Characters
+pub mod Between
 pub mod Bytes
 pub mod Singles
 pub mod FirstPlaces

@@ -8,10 +8,12 @@ mod listing;
 mod making;
 mod parts;
 mod places;
+mod replacing;
 mod sequences;
+mod slicing;
 mod tuples;
 
-pub use calls::{append, concat, element_at, index_of, len, within};
+pub use calls::{append, concat, element_at, index_of, len, replace_at, slice, within};
 pub use finding::try_index_of;
 pub use joining::{try_append, try_concat};
 pub use listing::list_of;
@@ -20,5 +22,7 @@ pub use making::{
 };
 pub use parts::try_get;
 pub use places::{try_element_at, try_entry};
+pub use replacing::try_replace_at;
 pub use sequences::{try_len, try_within};
+pub use slicing::try_slice;
 pub use tuples::{try_merge, tuple_of};

@@ -14,7 +14,7 @@ byte_low : (k n : ℕ) → byte_at k n < 256
 byte_low zero n = omega arith
 byte_low (suc k) n = omega arith
 
-bytes_low : (k n : ℕ) → AreBytes (bytes_high_first k n)
+pub bytes_low : (k n : ℕ) → AreBytes (bytes_high_first k n)
 bytes_low zero n = All-nil (λ b. b < 256)
 bytes_low (suc k) n = All-cons (λ b. b < 256) (byte_at k n) (bytes_high_first k n) (byte_low k n) (bytes_low k n)
 

@@ -2,6 +2,7 @@
 #![tactic(auto)]
 
 mod comparing;
+mod contents;
 mod depth;
 mod examples;
 mod fault;
@@ -20,13 +21,15 @@ mod val;
 mod value;
 
 pub use comparing::{are_alike, compare, equal};
+pub use contents::{content_order, try_content_order};
 pub use examples::natives_by_example;
 pub use fault::DecodeRefusal;
 pub use inhabitants::inhabits;
 pub use laws::{
-    admission_keeps_values, depth_is_greatest, digests_have_lengths, items_and_values,
-    no_type_has_none, one_spelling, parts_are_values, read_back, reads_only_spellings,
-    sequences_have_entries, size_is_greatest, size_is_length, types_keep_limits,
+    admission_keeps_values, comparisons_agree, depth_is_greatest, digests_have_lengths,
+    items_and_values, no_type_has_none, one_spelling, parts_are_values, read_back,
+    reads_only_spellings, sequences_have_entries, size_is_greatest, size_is_length,
+    types_keep_limits,
 };
 pub use native::{Arity, Native};
 pub use no_value::NoValue;
