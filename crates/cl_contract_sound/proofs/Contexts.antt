@@ -198,7 +198,7 @@ module _ (W : Deployed) (stage : Stage) (c : Contract) where
       }
   stand_by G good S name (ExpressionForm e) _ own now fit (part t ends) sound = record { home = S.home; functions = S.functions; variables = S.variables; maps = S.maps; fungibles = S.fungibles; nonfungibles = S.nonfungibles }
 
-  stand_none : (before : List Known) → Stand (nothing_defined before c.principal c.source_length).context
+  stand_none : (before : List Known) → Stand (nothing_defined before c.principal c.version c.source_length).context
   stand_none before = record {
     home = refl;
     functions = λ x g h. absurd cc;
@@ -212,7 +212,7 @@ module _ (W : Deployed) (stage : Stage) (c : Contract) where
   stand_after D E form good S own now fit (form_typed fs follows sound is) = subst (λ (E : Defined). Stand E.context) is (stand_by D.context good S form.name form.kind fs own now fit follows sound)
 
   -- what the forms so far define stands in the context, and so does what more of them define
-  walk : (before : List Known) (known : AreKnown W stage before) (defined : Defined) (accepted : IsTypedAs stage before c defined) (there : contract_at c.principal W ≡ Some c) (E : Defined) (rest : List Form) → FormsTyped E rest defined → (D : Defined) (done forms : List Form) → AreForms stage c forms → accepted.order ≡ (done ++ forms) ++ rest → FormsTyped (nothing_defined before c.principal c.source_length) done D → Stand D.context → FormsTyped D forms E → Stand E.context
+  walk : (before : List Known) (known : AreKnown W stage before) (defined : Defined) (accepted : IsTypedAs stage before c defined) (there : contract_at c.principal W ≡ Some c) (E : Defined) (rest : List Form) → FormsTyped E rest defined → (D : Defined) (done forms : List Form) → AreForms stage c forms → accepted.order ≡ (done ++ forms) ++ rest → FormsTyped (nothing_defined before c.principal c.version c.source_length) done D → Stand D.context → FormsTyped D forms E → Stand E.context
   walk before known defined accepted there E rest more D done [] own order typed S (no_more e) = subst (λ (E : Defined). Stand E.context) e S
   walk before known defined accepted there E rest more D done (form ∷ forms) own order typed S (one_more {E = F} h later) =
       walk before known defined accepted there E rest more F (done ++ form ∷ []) forms own.3
@@ -241,5 +241,5 @@ module _ (W : Deployed) (stage : Stage) (c : Contract) where
 pub stands_in : (W : Deployed) (stage : Stage) (G : Context) (I : IsContext W stage G) → Stand W stage I.contract G
 stands_in W stage G I =
     subst (Stand W stage I.contract) I.context
-    (walk W stage I.contract I.before I.known I.defined I.accepted I.there I.so_far I.rest I.more (nothing_defined I.before I.contract.principal I.contract.source_length) [] I.done
+    (walk W stage I.contract I.before I.known I.defined I.accepted I.there I.so_far I.rest I.more (nothing_defined I.before I.contract.principal I.contract.version I.contract.source_length) [] I.done
     (first_forms stage I.contract I.done I.rest (subst (AreForms stage I.contract) I.order I.accepted.forms)) I.order (no_more refl) (stand_none W stage I.contract I.before) I.typed)

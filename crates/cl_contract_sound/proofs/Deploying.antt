@@ -128,7 +128,7 @@ put_there : {A : Type 0} (m : Map A) (at : List ℕ) (a : A) → Stands (put at 
 put_there m at a = record { value = a; there = get-put m at a at ∙ ap (λ c. cond c (Some a) (get at m)) (self_equal at) }
 
 module _ (costs : CostTable) (W : Deployed) (A : AreDistinct W) (ks : List Known) (known : AreKnown W Whole ks) (c : Contract) (valid : IsPrincipal c.principal) (new : contract_at c.principal W ≡ None) (F : Frame) (home : F.contract ≡ c.principal) (sender : IsPrincipal F.sender) (caller : IsPrincipal F.caller) (height : F.height < 2 ^ 128) where
-  module _ (done : List Form) (D : Defined) (its : AreItsForms c done) (typed : FormsTyped (nothing_defined ks c.principal c.source_length) done D) (es : List (List ℕ × Val)) (are : AreBound D.context.constants es) where
+  module _ (done : List Form) (D : Defined) (its : AreItsForms c done) (typed : FormsTyped (nothing_defined ks c.principal c.version c.source_length) done D) (es : List (List ℕ × Val)) (are : AreBound D.context.constants es) where
     abbrev stage : Stage
     stage = Behind c.principal done
 
@@ -281,7 +281,7 @@ module _ (costs : CostTable) (W : Deployed) (A : AreDistinct W) (ks : List Known
   its_behind [] form h own fit = (own, fit, tt)
   its_behind (f ∷ done) form h own fit = (h.0, h.1, its_behind done form h.2 own fit)
 
-  all_sound : (order : List Form) (E : Defined) (forms done : List Form) (D : Defined) (typed : FormsTyped D forms E) → done ++ forms ≡ order → AreItsForms c done → AreItsForms c forms → FormsTyped (nothing_defined ks c.principal c.source_length) done D → (es : List (List ℕ × Val)) → AreBound D.context.constants es → (s : State) → Kept (with_values c es ∷ W) (Behind c.principal done) s →
+  all_sound : (order : List Form) (E : Defined) (forms done : List Form) (D : Defined) (typed : FormsTyped D forms E) → done ++ forms ≡ order → AreItsForms c done → AreItsForms c forms → FormsTyped (nothing_defined ks c.principal c.version c.source_length) done D → (es : List (List ℕ × Val)) → AreBound D.context.constants es → (s : State) → Kept (with_values c es ∷ W) (Behind c.principal done) s →
       IsSoundDeployment costs (IsDone W c order E) (rest_bound typed) (all_defined W F forms (with_values c es) s)
   unfolding all_defined rest_bound
   all_sound order E [] done D (no_more e) same its own before es are s n =
@@ -297,20 +297,20 @@ module _ (costs : CostTable) (W : Deployed) (A : AreDistinct W) (ks : List Known
       (λ b t q. subst (λ b. IsSoundDeployment costs (IsDone W c order E) (rest_bound later) (all_defined W F forms b t)) (sym q.is)
       (all_sound order E forms (done ++ form ∷ []) G later (append_assoc done (form ∷ []) forms ∙ same) (its_behind done form its own.0 own.1) own.2 (behind done before (form_typed fs follows rules is)) q.values (subst (λ (G : Defined). AreBound G.context.constants q.values) is q.constants) t q.kept))
 
-  pub deployment_sound : (order : List Form) → in_order c.forms ≡ Some order → AreItsForms c order → (E : Defined) → FormsTyped (nothing_defined ks c.principal c.source_length) order E → (s : State) → Kept W Whole s →
+  pub deployment_sound : (order : List Form) → in_order c.forms ≡ Some order → AreItsForms c order → (E : Defined) → FormsTyped (nothing_defined ks c.principal c.version c.source_length) order E → (s : State) → Kept W Whole s →
       IsSoundDeployment costs (IsDone W c order E) (cost_under costs E.deploy) (deployment W F (with_values c []) s)
   unfolding deployment
   deployment_sound order is own E typed s n =
       end_more costs (IsDone W c order E) (plus (cost_under costs (Charge Deploy c.source_length)) (rest_bound typed)) (cost_under costs E.deploy) _ (rest_low typed)
       (end_charged costs (IsDone W c order E) Deploy c.source_length (rest_bound typed) _
       (subst (λ o. IsSoundDeployment costs (IsDone W c order E) (rest_bound typed) (with_known o (λ fs. all_defined W F fs (with_values c [])) s)) (sym is)
-      (all_sound order E order [] (nothing_defined ks c.principal c.source_length) typed refl tt own (no_more refl) [] tt s (kept_front W A (with_values c []) valid new s n))))
+      (all_sound order E order [] (nothing_defined ks c.principal c.version c.source_length) typed refl tt own (no_more refl) [] tt s (kept_front W A (with_values c []) valid new s n))))
 
 pub deployment_is_sound : (costs : CostTable) (W : Deployed) → AreDistinct W → (ks : List Known) → AreKnown W Whole ks →
     (c : Contract) → c.constants ≡ [] → IsPrincipal c.principal → contract_at c.principal W ≡ None →
-    (order : List Form) → in_order c.forms ≡ Some order → AreItsForms c order → (E : Defined) → FormsTyped (nothing_defined ks c.principal c.source_length) order E →
+    (order : List Form) → in_order c.forms ≡ Some order → AreItsForms c order → (E : Defined) → FormsTyped (nothing_defined ks c.principal c.version c.source_length) order E →
     (F : Frame) → F.contract ≡ c.principal → IsPrincipal F.sender → IsPrincipal F.caller → F.height < 2 ^ 128 → (s : State) → Kept W Whole s →
     IsSoundDeployment costs (IsDone W c order E) (cost_under costs E.deploy) (deployment W F c s)
 deployment_is_sound costs W A ks known c none valid new order is own E typed F home sender caller height s n =
-    subst (λ (b : Contract). IsSoundDeployment costs (IsDone W c order E) (cost_under costs E.deploy) (deployment W F b s)) (λ i. record { principal = c.principal; forms = c.forms; source_length = c.source_length; constants = (sym none) i })
+    subst (λ (b : Contract). IsSoundDeployment costs (IsDone W c order E) (cost_under costs E.deploy) (deployment W F b s)) (λ i. record { principal = c.principal; version = c.version; forms = c.forms; source_length = c.source_length; constants = (sym none) i })
     (deployment_sound costs W A ks known c valid new F home sender caller height order is own E typed s n)

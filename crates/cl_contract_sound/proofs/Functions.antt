@@ -28,7 +28,7 @@ use Rattle.cl_expression_sound.proofs.Calls.{is_return}
 use Rattle.cl_expression_sound.proofs.Depth.{each_depth}
 use Rattle.cl_contract_sound.proofs.Contexts.{stands_in}
 use Rattle.cl_contract_sound.proofs.OfTexts.{are_known}
-use Rattle.cl_contract_sound.proofs.Serving.{known_there, whole_context, as_served, constants_serve, functions_serve, across_serve}
+use Rattle.cl_contract_sound.proofs.Serving.{known_there, whole_context, as_served, constants_serve, natives_serve, functions_serve, across_serve}
 use Rattle.cl_contract_sound.proofs.States.{variables_serve, set_variable_serves, maps_serve, entries_serve, put_entry_serves, remove_entry_serves, events_serve}
 use Rattle.cl_contract_sound.proofs.Holdings.{fungibles_serve, stx_serves, nonfungibles_serve, acts_serve}
 use Rattle.cl_values.specs.Typed.{IsOf, AreOf}
@@ -37,6 +37,7 @@ use Rattle.cl_values.specs.Typed.{IsOf, AreOf}
 pub is_world : (costs : CostTable) (W : Deployed) (stage : Stage) → AreDistinct W → IsWorld (deployed_world costs W stage)
 is_world costs W stage A = record {
   constants = constants_serve costs W stage;
+  natives = natives_serve costs W stage;
   functions = functions_serve costs W stage;
   variables = variables_serve W stage A;
   set_variable = set_variable_serves W stage A;

@@ -193,9 +193,9 @@ each_named costs W ks A p valid c at x f is =
     let o = t.of_text.accepted.typed.is_ordered in
     let there = ap (function_in x) (sym t.of_text.forms) ∙ is in
     let kind = some_kind x (form_of x t.of_text.accepted.forms) f there in
-    let size : length t.of_text.text ≤ 1048576 = o.reads.size in
-    let small : forest_size o.items ≤ 2 * length t.of_text.text = items_few t.of_text.text o.items o.reads in
+    let size : length t.of_text.text.bytes ≤ 1048576 = o.reads.size in
+    let small : forest_size o.items ≤ 2 * length t.of_text.text.bytes = items_few t.of_text.text.bytes o.items o.reads in
     let within : weight_of_forms t.of_text.accepted.forms ≤ forest_size (forest (trees_of o.items)) = forms_within (trees_of o.items) t.of_text.accepted.forms o.are_forms in
     let listed : forest_size (forest (trees_of o.items)) ≡ forest_size o.items = listed_size o.items in
     let low : length f.params ≤ weight_of_forms t.of_text.accepted.forms = params_few x t.of_text.accepted.forms f there in
-    (form_named (trees_of o.items) t.of_text.accepted.forms (are_fit o.items (items_fit t.of_text.text o.items o.reads)) o.are_forms.forms_are x kind.0 kind.1, omega arith)
+    (form_named (trees_of o.items) t.of_text.accepted.forms (are_fit o.items (items_fit t.of_text.text.bytes o.items o.reads)) o.are_forms.forms_are x kind.0 kind.1, omega arith)

@@ -11,6 +11,7 @@ use Rattle.cl_sexpr.specs.declared.rule.Rule.TheVariants.{BadType, BadName, Name
 use Rattle.cl_sexpr.specs.declared.rule.Break.{Break}
 use Rattle.cl_sexpr.specs.declared.sexpr.Span.{Span}
 use Rattle.cl_sexpr.specs.Tree.{Tree, span_of}
+use Rattle.cl_forms.specs.declared.version.Version.{Version}
 use Rattle.cl_forms.specs.Forms.{Form, FormKind, ConstantForm, VariableForm, MapForm, FungibleForm, NonFungibleForm, FunctionForm, ExpressionForm}
 use Rattle.cl_forms.specs.Order.{is_in, IsGoodOrder}
 use Rattle.cl_forms.specs.WrittenTypes.{written_type}
@@ -42,10 +43,10 @@ not_used false false true h = absurd cc
 not_used false false false h = refl
 
 -- no item before defines the name
-not_before : (items : List Tree) (n : ℕ) (e : Tree) (name : List ℕ) (draft : Draft) → item_of e ≡ Definition name draft → slice_get items n ≡ Some e → ((r : Break) → Breaks items n r → ⊥) → is_defined (take n (map item_of items)) name ≡ false
-not_before items n e name draft is there unbroken =
-    let rules : rules_of (map item_of items) n (item_of e) ≡ [] = no_rules (span_of e) (map (λ at. broken_at at _) (left_out_in e)) (rules_of (map item_of items) n (item_of e)) (λ r h. unbroken r (record { item = e; there = there; broken = h })) in
-    let used = not_used _ _ _ (ap (rules_of (map item_of items) n) (sym is) ∙ rules) in
+not_before : (version : Version) (items : List Tree) (n : ℕ) (e : Tree) (name : List ℕ) (draft : Draft) → item_of e ≡ Definition name draft → slice_get items n ≡ Some e → ((r : Break) → Breaks version items n r → ⊥) → is_defined (take n (map item_of items)) name ≡ false
+not_before version items n e name draft is there unbroken =
+    let rules : rules_of version (map item_of items) n (item_of e) ≡ [] = no_rules (span_of e) (map (λ at. broken_at at _) (left_out_in e)) (rules_of version (map item_of items) n (item_of e)) (λ r h. unbroken r (record { item = e; there = there; broken = h })) in
+    let used = not_used _ _ _ (ap (rules_of version (map item_of items) n) (sym is) ∙ rules) in
     or_left (is_defined (take n (map item_of items)) name) (stands_twice (params_of draft)) (or_left (is_defined (take n (map item_of items)) name || stands_twice (params_of draft)) (list_any (is_defined (map item_of items)) (params_of draft)) used)
 
 -- ---- items and their forms
@@ -140,8 +141,8 @@ item_there [] (f ∷ forms) n form h there = absurd cc
 item_there (e ∷ items) (f ∷ forms) zero form h there = (e, refl, (heads_are e items f forms h).0 ∙ there)
 item_there (e ∷ items) (f ∷ forms) (suc n) form h there = item_there items forms n form (heads_are e items f forms h).1 there
 
-pub is_defining : (items : List Tree) (forms : List Form) → AreForms items forms → (n : ℕ) (form : Form) → slice_get forms n ≡ Some form → IsDefinition form.kind → form_of (unwrap_or form.name []) forms ≡ Some form.kind
-is_defining items forms are n form there definition =
+pub is_defining : {version : Version} (items : List Tree) (forms : List Form) → AreForms version items forms → (n : ℕ) (form : Form) → slice_get forms n ≡ Some form → IsDefinition form.kind → form_of (unwrap_or form.name []) forms ≡ Some form.kind
+is_defining {version = version} items forms are n form there definition =
     let i = item_there items forms n form are.forms_are there in
     by i.0 i.1 (form_is (item_of i.0) (span_of i.0) form i.2)
   where
@@ -149,7 +150,7 @@ is_defining items forms are n form there definition =
     by e at (an_expression d none kind is) = absurd (subst IsDefinition kind definition)
     by e at (a_definition name draft some defines_it is) =
         ap (λ o. form_of (unwrap_or o []) forms) some
-        ∙ first_is items forms n form name are.forms_are there some (not_before items n e name draft is at (are.unbroken n))
+        ∙ first_is items forms n form name are.forms_are there some (not_before version items n e name draft is at (are.unbroken n))
 
 -- ---- forms in an order
 
@@ -158,7 +159,7 @@ fits_at [] h n form e = absurd cc
 fits_at (f ∷ forms) h zero form e = subst (λ (f : Form). KindFits f.kind) (same_form f form e) h.0
 fits_at (f ∷ forms) h (suc n) form e = fits_at forms h.1 n form e
 
-pub its_forms_at : (items : List Tree) (c : Contract) → AreForms items c.forms → FormsFit c.forms → (places : List ℕ) → AreItsForms c (forms_at c.forms places)
+pub its_forms_at : {version : Version} (items : List Tree) (c : Contract) → AreForms version items c.forms → FormsFit c.forms → (places : List ℕ) → AreItsForms c (forms_at c.forms places)
 its_forms_at items c are fit [] = tt
 its_forms_at items c are fit (n ∷ places) = by (slice_get c.forms n) refl (its_forms_at items c are fit places)
   where
@@ -211,7 +212,7 @@ among_at forms (m ∷ places) n form x h there named definition = by (nat_eq n m
 abbrev pub AreAll : Contract → List Form → Type 0
 AreAll c order = (x : List ℕ) (kind : FormKind) → form_of x c.forms ≡ Some kind → IsAmong x order
 
-pub all_at : (items : List Tree) (c : Contract) → AreForms items c.forms → (places : List ℕ) → IsGoodOrder c.forms places → AreAll c (forms_at c.forms places)
+pub all_at : {version : Version} (items : List Tree) (c : Contract) → AreForms version items c.forms → (places : List ℕ) → IsGoodOrder c.forms places → AreAll c (forms_at c.forms places)
 all_at items c are places good x kind h =
     let p = placed c.forms x kind h in
     let i = item_there items c.forms p.place p.form are.forms_are p.there in

@@ -5,6 +5,7 @@ use Rattle.std.specs.List.{All}
 use Rattle.std.proofs.lemmas.List.Elements.{recursion_from_All}
 use Rattle.cl_c32.specs.declared.principal.Principal.{Principal}
 use Rattle.cl_values.specs.Valid.{IsPrincipal}
+use Rattle.cl_forms.specs.Texts.{Text}
 use Rattle.cl_forms.specs.Forms.{Form, FormKind, VariableForm, FungibleForm, NonFungibleForm}
 use Rattle.cl_events.specs.State.{State, genesis}
 use Rattle.cl_meaning.specs.Deployed.{Contract, Deployed, contract_at, form_of}
@@ -45,28 +46,28 @@ module _ (W : Deployed) (A : AreDistinct W) (c : Contract) (valid : IsPrincipal 
           by (inl e) = all x k (ap (λ (c : Contract). form_of x c.forms) e ∙ h.form)
           by (inr g) = absurd (another W A c valid new d (A.found d g) q)
 
-pub next_node : (costs : CostTable) (W : Deployed) (ks : List Known) (s t : State) → IsNode costs W ks s → (principal : Principal) → IsPrincipal principal → known_at principal ks ≡ None → (text : List ℕ) (accepted : Accepted ks principal costs text) →
-    AreAll (of_text principal text accepted.forms) (forms_at accepted.forms accepted.order) → (d : Contract) → IsDone W (of_text principal text accepted.forms) (forms_at accepted.forms accepted.order) accepted.defined d t → IsNode costs (d ∷ W) (ks ++ known_of principal (length text) accepted.defined ∷ []) t
+pub next_node : (costs : CostTable) (W : Deployed) (ks : List Known) (s t : State) → IsNode costs W ks s → (principal : Principal) → IsPrincipal principal → known_at principal ks ≡ None → (text : Text) (accepted : Accepted ks principal costs text) →
+    AreAll (of_text principal text accepted.forms) (forms_at accepted.forms accepted.order) → (d : Contract) → IsDone W (of_text principal text accepted.forms) (forms_at accepted.forms accepted.order) accepted.defined d t → IsNode costs (d ∷ W) (ks ++ known_of principal (length text.bytes) accepted.defined ∷ []) t
 next_node costs W ks s t node principal valid unknown text accepted all d done =
     let order = forms_at accepted.forms accepted.order in
     let c : Contract = with_values (of_text principal text accepted.forms) done.values in
     let new = not_there costs W ks node.contracts principal valid unknown in
     let A = node.contracts.distinct in
-    let k = known_of principal (length text) accepted.defined in
+    let k = known_of principal (length text.bytes) accepted.defined in
     subst (λ d. IsNode costs (d ∷ W) (ks ++ k ∷ []) t) (sym done.is) (record {
       contracts = record {
         distinct = distinct_front W A c valid new;
         texts = and_one c k (texts_behind W A c valid new costs ks node.contracts.texts) unknown
-            (record { valid = valid; text = text; accepted = accepted; forms = refl; size = refl; constants = done.constants; known = refl })
+            (record { valid = valid; text = text; accepted = accepted; forms = refl; version = refl; size = refl; constants = done.constants; known = refl })
             (found_front W A c valid new) refl;
         known = λ b h. by c b (in_front W c b h) refl;
       };
       kept = kept_all W A c valid new order all t done.kept;
     })
   where
-    by : (c b : Contract) → (c ≡ b) ⊎ Contains W b → c.principal ≡ principal → IsSome (known_at b.principal (ks ++ known_of principal (length text) accepted.defined ∷ []))
-    by c b (inl e) h = known_last b.principal ks (known_of principal (length text) accepted.defined) (sym h ∙ ap (λ (c : Contract). c.principal) e)
-    by c b (inr g) h = known_still b.principal ks (known_of principal (length text) accepted.defined) (node.contracts.known b g)
+    by : (c b : Contract) → (c ≡ b) ⊎ Contains W b → c.principal ≡ principal → IsSome (known_at b.principal (ks ++ known_of principal (length text.bytes) accepted.defined ∷ []))
+    by c b (inl e) h = known_last b.principal ks (known_of principal (length text.bytes) accepted.defined) (sym h ∙ ap (λ (c : Contract). c.principal) e)
+    by c b (inr g) h = known_still b.principal ks (known_of principal (length text.bytes) accepted.defined) (node.contracts.known b g)
 
 -- ---- before all deployments
 

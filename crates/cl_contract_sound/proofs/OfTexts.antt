@@ -1,11 +1,12 @@
 -- Contracts of accepted texts are typed, and evaluations find no contract that callers don't see.
-use Rattle.std.proofs.Common.{◌≡◌, ℕ, Bool, true, false, List, [], ◌∷◌, ◌++◌, Option, Some, None, refl, sym, ap, subst, ◌∙◌}
+use Rattle.std.proofs.Common.{◌≡◌, Bool, true, false, List, [], ◌∷◌, ◌++◌, Option, Some, None, refl, sym, ap, subst, ◌∙◌}
 use Rattle.std.specs.Prelude.{if◌then◌else◌, IsSome}
 use Rattle.cl_c32.specs.declared.principal.Principal.{Principal}
 use Rattle.cl_c32.proofs.Principals.{principal_itself}
 use Rattle.cl_events.proofs.Holders.{holders_apart}
 use Rattle.cl_sexpr.proofs.LiteralsFit.{items_fit}
 use Rattle.cl_values.specs.Valid.{IsPrincipal}
+use Rattle.cl_forms.specs.Texts.{Text}
 use Rattle.cl_forms.specs.Forms.{Form}
 use Rattle.cl_forms.specs.Fits.{FormsFit}
 use Rattle.cl_forms.specs.FormBreaks.{AreForms as AreFormsOf}
@@ -33,19 +34,20 @@ whole_forms c [] h = tt
 whole_forms c (form ∷ forms) h = (h.0, λ i. tt, h.1, whole_forms c forms h.2)
 
 -- the forms of an accepted text, in their order, are what their names stand for, and their literals fit
-pub text_forms : (before : List Known) (costs : CostTable) (text : List ℕ) (c : Contract) (accepted : Accepted before c.principal costs text) → c.forms ≡ accepted.forms → AreItsForms c (forms_at accepted.forms accepted.order)
+pub text_forms : (before : List Known) (costs : CostTable) (text : Text) (c : Contract) (accepted : Accepted before c.principal costs text) → c.forms ≡ accepted.forms → AreItsForms c (forms_at accepted.forms accepted.order)
 text_forms before costs text c accepted same =
     let o = accepted.typed.is_ordered in
-    let fits : FormsFit accepted.forms = forms_of_items_fit o.items accepted.forms (items_fit text o.items o.reads) o.are_forms in
+    let fits : FormsFit accepted.forms = forms_of_items_fit o.items accepted.forms (items_fit text.bytes o.items o.reads) o.are_forms in
     subst (λ fs. AreItsForms c (forms_at fs accepted.order)) same
-    (its_forms_at (trees_of o.items) c (subst (AreFormsOf (trees_of o.items)) (sym same) o.are_forms) (subst FormsFit (sym same) fits) accepted.order)
+    (its_forms_at (trees_of o.items) c (subst (AreFormsOf text.version (trees_of o.items)) (sym same) o.are_forms) (subst FormsFit (sym same) fits) accepted.order)
 
 typed_as : (costs : CostTable) (before : List Known) (c : Contract) (k : Known) (h : IsOfText costs before c k) → IsTypedAs Whole before c h.accepted.defined
 typed_as costs before c k h = record {
   valid = h.valid;
   order = forms_at h.accepted.forms h.accepted.order;
   forms = whole_forms c (forms_at h.accepted.forms h.accepted.order) (text_forms before costs h.text c h.accepted h.forms);
-  typed = subst (λ n. FormsTyped (nothing_defined before c.principal n) (forms_at h.accepted.forms h.accepted.order) h.accepted.defined) (sym h.size) h.accepted.typed.are_typed;
+  typed = subst (λ v. FormsTyped (nothing_defined before c.principal v c.source_length) (forms_at h.accepted.forms h.accepted.order) h.accepted.defined) (sym h.version)
+      (subst (λ n. FormsTyped (nothing_defined before c.principal h.text.version n) (forms_at h.accepted.forms h.accepted.order) h.accepted.defined) (sym h.size) h.accepted.typed.are_typed);
   constants = λ x t e. bound_there h.accepted.defined.context.constants c.constants x t h.constants e;
 }
 

@@ -8,9 +8,10 @@ use Rattle.cl_c32.specs.declared.principal.Principal.{Principal}
 use Rattle.cl_c32.proofs.Principals.{principals_equal}
 use Rattle.cl_values.specs.Valid.{IsPrincipal}
 use Rattle.cl_forms.specs.Forms.{Form, FormKind, ConstantForm, VariableForm, MapForm, FungibleForm, NonFungibleForm, FunctionForm, ExpressionForm}
+use Rattle.cl_forms.specs.Heads.{native}
 use Rattle.cl_forms.specs.Shapes.{open_to_others}
 use Rattle.cl_events.proofs.Holders.{same_by_key}
-use Rattle.cl_meaning.specs.Deployed.{Contract, Deployed, Function, contract_at, as_function, function_in, function_of, constant_of}
+use Rattle.cl_meaning.specs.Deployed.{Contract, Deployed, Function, contract_at, as_function, function_in, native_of, function_of, constant_of}
 use Rattle.cl_meaning.specs.Calls.{callable}
 use Rattle.cl_rules.specs.Context.{CostTable, Context, Known, Signature, same_principal, named_in, known_at, signature_in, if_callable, target_at}
 use Rattle.cl_rules.specs.Verdicts.{Found}
@@ -46,6 +47,22 @@ deployed_same D E (form ∷ forms) (one_more {E = F} (form_typed fs follows soun
     deployed_same F E forms later ∙ ap (λ (F : Defined). F.context.deployed) (sym is) ∙ by form.kind fs
   where
     by : (kind : FormKind) (fs : List Found) → (context_after D.context (unwrap_or form.name []) kind fs).deployed ≡ D.context.deployed
+    by (ConstantForm e) (f ∷ fs) = refl
+    by (ConstantForm e) [] = refl
+    by (VariableForm u e) fs = refl
+    by (MapForm k v) fs = refl
+    by (FungibleForm supply) fs = refl
+    by (NonFungibleForm u) fs = refl
+    by (FunctionForm access params body) (f ∷ fs) = refl
+    by (FunctionForm access params body) [] = refl
+    by (ExpressionForm e) fs = refl
+
+version_same : (D E : Defined) (forms : List Form) → FormsTyped D forms E → E.context.version ≡ D.context.version
+version_same D E [] (no_more e) = ap (λ (D : Defined). D.context.version) (sym e)
+version_same D E (form ∷ forms) (one_more {E = F} (form_typed fs follows sound is) later) =
+    version_same F E forms later ∙ ap (λ (F : Defined). F.context.version) (sym is) ∙ by form.kind fs
+  where
+    by : (kind : FormKind) (fs : List Found) → (context_after D.context (unwrap_or form.name []) kind fs).version ≡ D.context.version
     by (ConstantForm e) (f ∷ fs) = refl
     by (ConstantForm e) [] = refl
     by (VariableForm u e) fs = refl
@@ -124,6 +141,15 @@ module _ (costs : CostTable) (W : Deployed) (stage : Stage) where
       subst (λ o. IsThere (constant_of x o) t) (sym (ap (λ p. contract_at p W) S.home ∙ I.there))
       (I.accepted.constants x t (constants_more I.so_far I.defined I.rest x t I.more before))
 
+  -- ---- natives
+
+  pub natives_serve : (G : Context) → IsContext W stage G → (x : List ℕ) → native_of x (contract_at G.principal W) ≡ native G.version x
+  natives_serve G I x =
+      let S = stands_in W stage G I in
+      let start = nothing_defined I.before I.contract.principal I.contract.version I.contract.source_length in
+      let version : I.contract.version ≡ G.version = sym (version_same start I.so_far I.done I.typed) ∙ ap (λ (G : Context). G.version) I.context in
+      ap (λ p. native_of x (contract_at p W)) S.home ∙ ap (native_of x) I.there ∙ ap (λ v. native v x) version
+
   -- ---- functions
 
   pub as_served : (c : Contract) (x : List ℕ) (g : Signature) → IsFunctionOf W stage c x g → (fn : Function) × (function_in x c.forms ≡ Some fn) × IsServed (deployed_world costs W stage) c.principal g fn
@@ -165,7 +191,7 @@ module _ (costs : CostTable) (W : Deployed) (stage : Stage) where
   across_serve G I p k h x g j =
       let S = stands_in W stage G I in
       let o = other_is (same_principal p G.principal) (known_at p G.deployed) k h in
-      let deployed : I.before ≡ G.deployed = sym (deployed_same (nothing_defined I.before I.contract.principal I.contract.source_length) I.so_far I.done I.typed) ∙ ap (λ (G : Context). G.deployed) I.context in
+      let deployed : I.before ≡ G.deployed = sym (deployed_same (nothing_defined I.before I.contract.principal I.contract.version I.contract.source_length) I.so_far I.done I.typed) ∙ ap (λ (G : Context). G.deployed) I.context in
       let a = known_there W stage I.before I.known p k (ap (known_at p) deployed ∙ o.1) in
       let there_g = callable_is (signature_in x k.functions) g j in
       let T = stands_in W stage a.defined.context (whole_context W stage p k a) in

@@ -146,7 +146,7 @@ each_signed costs W ks A p valid c at x f is =
     let kind = function_kind x (form_of x d.forms) f (ap (λ (c : Contract). function_in x c.forms) one ∙ is) in
     let o = h.accepted.typed.is_ordered in
     let its = text_forms t.0.before costs h.text d h.accepted h.forms in
-    let all = all_at (trees_of o.items) d (subst (AreFormsOf (trees_of o.items)) (sym h.forms) o.are_forms) h.accepted.order (subst (λ fs. IsGoodOrder fs h.accepted.order) (sym h.forms) (order_good h.accepted.forms h.accepted.order o.order_is)) in
+    let all = all_at (trees_of o.items) d (subst (AreFormsOf h.text.version (trees_of o.items)) (sym h.forms) o.are_forms) h.accepted.order (subst (λ fs. IsGoodOrder fs h.accepted.order) (sym h.forms) (order_good h.accepted.forms h.accepted.order o.order_is)) in
     let among = subst (λ fs. IsAmong x (forms_at fs h.accepted.order)) h.forms (all x kind.0 kind.1) in
     let g = some_there (signature_in x h.accepted.defined.context.functions) (signed x _ h.accepted.defined (forms_at h.accepted.forms h.accepted.order) h.accepted.typed.are_typed (function_among d (forms_at h.accepted.forms h.accepted.order) its x kind.0 kind.2 kind.1 among)) in
     record { known = known.0; signature = g.0; there = known.1; told = ap (λ (k : Known). signature_in x k.functions) h.known ∙ g.1 }

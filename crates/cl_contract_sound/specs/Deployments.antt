@@ -6,6 +6,7 @@ use Rattle.cl_shapes.specs.Costs.{plus, IsAtMost}
 use Rattle.cl_shapes.specs.Limits.{Purse}
 use Rattle.cl_values.specs.Tree.{Tree as Val}
 use Rattle.cl_values.specs.Valid.{IsPrincipal}
+use Rattle.cl_forms.specs.Texts.{Text}
 use Rattle.cl_forms.specs.Forms.{Form}
 use Rattle.cl_events.specs.State.{State, genesis}
 use Rattle.std.specs.List.{All}
@@ -60,23 +61,23 @@ abbrev pub DeploymentsAreSound : Type 0
 DeploymentsAreSound =
     (costs : CostTable) (W : Deployed) → AreDistinct W → (ks : List Known) → AreKnown W Whole ks →
     (c : Contract) → c.constants ≡ [] → IsPrincipal c.principal → contract_at c.principal W ≡ None →
-    (order : List Form) → in_order c.forms ≡ Some order → AreItsForms c order → (E : Defined) → FormsTyped (nothing_defined ks c.principal c.source_length) order E →
+    (order : List Form) → in_order c.forms ≡ Some order → AreItsForms c order → (E : Defined) → FormsTyped (nothing_defined ks c.principal c.version c.source_length) order E →
     (F : Frame) → F.contract ≡ c.principal → IsPrincipal F.sender → IsPrincipal F.caller → F.height < 2 ^ 128 → (s : State) → Kept W Whole s →
     IsSoundDeployment costs (IsDone W c order E) (cost_under costs E.deploy) (deployment W F c s)
 
 -- ---- texts
 
-abbrev pub of_text : Principal → List ℕ → List Form → Contract
-of_text principal text forms = record { principal = principal; forms = forms; source_length = length text; constants = [] }
+abbrev pub of_text : Principal → Text → List Form → Contract
+of_text principal text forms = record { principal = principal; version = text.version; forms = forms; source_length = length text.bytes; constants = [] }
 
 -- A deployment of an accepted text, at a node and under each table, is sound, and where it gives a contract there is a node again:
 -- with the contract, and with what the text defines.
 abbrev pub TextsAreSound : Type 0
 TextsAreSound =
     (costs : CostTable) (W : Deployed) (ks : List Known) (s : State) → IsNode costs W ks s →
-    (principal : Principal) → IsPrincipal principal → known_at principal ks ≡ None → (text : List ℕ) (accepted : Accepted ks principal costs text) → (table : CostTable) →
+    (principal : Principal) → IsPrincipal principal → known_at principal ks ≡ None → (text : Text) (accepted : Accepted ks principal costs text) → (table : CostTable) →
     (F : Frame) → F.contract ≡ principal → IsPrincipal F.sender → IsPrincipal F.caller → F.height < 2 ^ 128 →
-    IsSoundDeployment table (λ d t. IsNode costs (d ∷ W) (ks ++ known_of principal (length text) accepted.defined ∷ []) t) (cost_under table accepted.defined.deploy) (deployment W F (of_text principal text accepted.forms) s)
+    IsSoundDeployment table (λ d t. IsNode costs (d ∷ W) (ks ++ known_of principal (length text.bytes) accepted.defined ∷ []) t) (cost_under table accepted.defined.deploy) (deployment W F (of_text principal text accepted.forms) s)
 
 -- before all deployments there is a node, with STX of these holders
 abbrev pub GenesisIsNode : Type 0

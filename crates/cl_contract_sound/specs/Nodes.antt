@@ -1,6 +1,7 @@
 -- Deployed contracts, each of which stands for one accepted text, and nodes: such contracts with a state that is kept.
-use Rattle.std.specs.Prelude.{◌≡◌, ℕ, List, [], ◌∷◌, ◌++◌, length, Contains, Some, None, IsSome}
+use Rattle.std.specs.Prelude.{◌≡◌, List, [], ◌∷◌, ◌++◌, length, Contains, Some, None, IsSome}
 use Rattle.cl_values.specs.Valid.{IsPrincipal}
+use Rattle.cl_forms.specs.Texts.{Text}
 use Rattle.cl_events.specs.State.{State}
 use Rattle.cl_meaning.specs.Deployed.{Contract, Deployed, contract_at}
 use Rattle.cl_meaning.specs.Kept.{Whole, Kept}
@@ -9,16 +10,17 @@ use Rattle.cl_rules.specs.Acceptance.{Accepted, known_of}
 use Rattle.cl_expression_sound.specs.Stages.{AreDistinct}
 use Rattle.cl_expression_sound.specs.Sound.{AreBound}
 
--- A contract stands for a text that was accepted after those before it, under this table: it has the text's forms and length, and
--- for each constant a value of its type; and what callers see of it is what the text defines.
+-- A contract stands for a text that was accepted after those before it, under this table: it has the text's forms, version and length,
+-- and for each constant a value of its type; and what callers see of it is what the text defines.
 pub record IsOfText (costs : CostTable) (before : List Known) (c : Contract) (k : Known) : Type 0 where
   pub valid : IsPrincipal c.principal
-  pub text : List ℕ
+  pub text : Text
   pub accepted : Accepted before c.principal costs text
   pub forms : c.forms ≡ accepted.forms
-  pub size : c.source_length ≡ length text
+  pub version : c.version ≡ text.version
+  pub size : c.source_length ≡ length text.bytes
   pub constants : AreBound accepted.defined.context.constants c.constants
-  pub known : k ≡ known_of c.principal (length text) accepted.defined
+  pub known : k ≡ known_of c.principal (length text.bytes) accepted.defined
 
 -- what callers see, in the order of the deployments: each has a principal of its own, under which evaluations find the contract
 pub data AreOfTexts (costs : CostTable) (W : Deployed) : List Known → Type 0 where

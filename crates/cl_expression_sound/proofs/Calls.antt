@@ -15,9 +15,10 @@ use Rattle.cl_shapes.specs.Costs.{plus, zero_cost, IsAtMost}
 use Rattle.cl_sexpr.specs.Tree.{Tree}
 use Rattle.cl_values.specs.Tree.{Tree as Val, ResponseV}
 use Rattle.cl_values.specs.Wire.{size_of}
+use Rattle.cl_forms.specs.Heads.{native}
 use Rattle.cl_events.specs.State.{State}
 use Rattle.cl_meaning.specs.Answers.{Answer, Given, charged}
-use Rattle.cl_meaning.specs.Deployed.{Function, contract_at, function_of}
+use Rattle.cl_meaning.specs.Deployed.{Function, contract_at, native_of, function_of}
 use Rattle.cl_meaning.specs.Scope.{Frame, BoundValues as Values, Take}
 use Rattle.cl_meaning.specs.Calls.{call_form, closing, bound_to, body_in, function_form}
 use Rattle.cl_rules.specs.Faults.{type_rules, form_rules}
@@ -55,6 +56,10 @@ pub params_fit : (g : Signature) (ts : List PlainType) (vs : List Val) → AreFi
 params_fit g ts vs h i = admitted_values (param_types g) vs (wanted_values (map Admitted (param_types g)) ts vs (not_false (all_admit (param_types g) ts) h.argument_kind) i)
 
 module _ (K : World) (N : Stands K) where
+  -- a native of the version of the contract's text
+  pub native_there : (x : List ℕ) → native_of x (contract_at N.frame.contract K.deployed) ≡ native N.context.version x
+  native_there x = subst (λ p. native_of x (contract_at p K.deployed) ≡ native N.context.version x) (sym N.framed.home) (N.world.natives N.context N.good x)
+
   -- ---- calls
 
   pub function_there : (x : List ℕ) (g : Signature) → signature_in x N.context.functions ≡ Some g → (f : IsServedThere K N.context.principal x g) × (function_of x (contract_at N.frame.contract K.deployed) ≡ Some f.function)

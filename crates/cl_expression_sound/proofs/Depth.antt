@@ -44,7 +44,7 @@ use Rattle.cl_expression_sound.proofs.Data.{var_get_sound, var_set_sound, map_ge
 use Rattle.cl_expression_sound.proofs.Tokens.{token_sound, ft_balance_sound, ft_supply_sound, stx_balance_sound, nft_owner_sound, print_sound}
 use Rattle.cl_expression_sound.proofs.Strict.{charged_low}
 use Rattle.cl_expression_sound.proofs.Sides.{first_true, rest_true}
-use Rattle.cl_expression_sound.proofs.Calls.{call_sound, function_sound}
+use Rattle.cl_expression_sound.proofs.Calls.{native_there, call_sound, function_sound}
 use Rattle.cl_expression_sound.proofs.Iterations.{map_sound, filter_sound, fold_sound}
 use Rattle.cl_expression_sound.proofs.Across.{contract_call_sound}
 use Rattle.cl_values.specs.Typed.{IsOf, AreOf}
@@ -108,8 +108,8 @@ module _ (K : World) (N : Stands K) where
   head_sound Fold es fit = fold_sound K N (trees_of es)
   head_sound ContractCall es fit = contract_call_sound K N (trees_of es)
 
-  operator_sound : (x : List ℕ) (es : Forest) → AllFit es → (o : Option Row) → native x ≡ o → IsSoundShape K N (operator_shape o (signature_in x N.context.functions) N.context N.names (trees_of es)) (operator o x N.take N.enter (here K N) (trees_of es))
-  operator_sound x es fit (Some row) is = subst (λ (r : Row). IsSoundShape K N (head_shape row.head r N.context N.names (trees_of es)) (head_form row.head r.cost N.take N.enter (here K N) (trees_of es))) (sym (is_row x row is)) (head_sound row.head es fit)
+  operator_sound : (x : List ℕ) (es : Forest) → AllFit es → (o : Option Row) → native N.context.version x ≡ o → IsSoundShape K N (operator_shape o (signature_in x N.context.functions) N.context N.names (trees_of es)) (operator o x N.take N.enter (here K N) (trees_of es))
+  operator_sound x es fit (Some row) is = subst (λ (r : Row). IsSoundShape K N (head_shape row.head r N.context N.names (trees_of es)) (head_form row.head r.cost N.take N.enter (here K N) (trees_of es))) (sym (is_row N.context.version x row is)) (head_sound row.head es fit)
   operator_sound x es fit None is = call_sound K N x (trees_of es)
 
   has_pair : (ps : Pairs) → HasPair ps → 0 < length (pairs_of ps)
@@ -120,7 +120,9 @@ module _ (K : World) (N : Stands K) where
   unfolding shape node
   node_sound (LeafAt leaf at) fit = leaf_sound K N leaf fit
   node_sound (TupleAt ps at) fit = pairs_sound K N sound_shape (pairs_of ps) (has_pair ps fit.0) (keys_fit ps fit.1)
-  node_sound (ListAt (Then (LeafAt (Named x) at') es) at) fit = operator_sound x es fit.1 (native x) refl
+  node_sound (ListAt (Then (LeafAt (Named x) at') es) at) fit =
+      subst (λ o. IsSoundShape K N (operator_shape (native N.context.version x) (signature_in x N.context.functions) N.context N.names (trees_of es)) (operator o x N.take N.enter (here K N) (trees_of es))) (sym (native_there K N x))
+      (operator_sound x es fit.1 (native N.context.version x) refl)
   node_sound (ListAt es at) fit = record { each = λ fs shape follows types low s n. absurd cc }
 
 module _ (K : World) (W : IsWorld K) where

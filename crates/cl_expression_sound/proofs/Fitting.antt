@@ -145,7 +145,7 @@ shape_fits : (G : Context) (B : Names) (e : Tree) → Fits e → PlanFits (shape
 unfolding shape
 shape_fits G B (LeafAt leaf at) h = leaf_fits G B leaf
 shape_fits G B (TupleAt ps at) h = pairs_fit B (pairs_of ps) (tuple_fit ps h.1)
-shape_fits G B (ListAt (Then (LeafAt (Named x) at') es) at) h = operator_fits (native x) (signature_in x G.functions) G B (trees_of es) (are_fit es h.1)
+shape_fits G B (ListAt (Then (LeafAt (Named x) at') es) at) h = operator_fits (native G.version x) (signature_in x G.functions) G B (trees_of es) (are_fit es h.1)
 shape_fits G B (ListAt es at) h = tt
 
 module _ (G : Context) where

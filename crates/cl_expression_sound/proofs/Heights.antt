@@ -126,7 +126,7 @@ high_shape : (G : Context) (B : Names) (e : Tree) → AreHigh (shape G B e)
 unfolding shape
 high_shape G B (LeafAt leaf at) = high_leaf G B leaf
 high_shape G B (TupleAt ps at) = λ fs. omega arith
-high_shape G B (ListAt (Then (LeafAt (Named x) at') es) at) = high_operator (native x) (signature_in x G.functions) G B (trees_of es)
+high_shape G B (ListAt (Then (LeafAt (Named x) at') es) at) = high_operator (native G.version x) (signature_in x G.functions) G B (trees_of es)
 high_shape G B (ListAt es at) = λ fs. omega arith
 
 pub high : (G : Context) (B : Names) (e : Tree) (f : Found) → Fitted G B e f → 0 < f.height

@@ -28,7 +28,7 @@ use Rattle.cl_expression_sound.proofs.Costs.{once_more}
 use Rattle.cl_expression_sound.proofs.Logic.{sound_more, sound_less, sound_stop, sound_then, sound_last}
 use Rattle.cl_expression_sound.proofs.Rules.{fine_shape, fine_types, not_false, or_left, or_right}
 use Rattle.cl_expression_sound.proofs.Values.{truth_of}
-use Rattle.cl_expression_sound.proofs.Calls.{params_fit, function_there}
+use Rattle.cl_expression_sound.proofs.Calls.{params_fit, native_there, function_there}
 use Rattle.cl_expression_sound.proofs.Sides.{AllRows}
 use Rattle.cl_expression_sound.proofs.Stands.{Stands, here, IsSoundShape}
 use Rattle.cl_values.specs.Typed.{IsOf, AreOf, AllOf, AreSome, none, with, without}
@@ -51,12 +51,12 @@ module _ (K : World) (N : Stands K) where
     pub named : IsByName u
     pub sound : (ts : List PlainType) (vs : List Val) → takes_values u (length ts) ≡ true → AreOf vs ts → type_rules (use_row u ts).faults ≡ [] → use_height u ≤ N.depth → (s : State) → IsKept K s → IsSound K (λ v. IsOf v (use_row u ts).type) NoThrow (cost_under K.costs (use_bound u ts)) (N.enter (here K N) callee vs s)
 
-  native_used : (x : List ℕ) (at : Span) (row : Row) (b : Bool) (u : Usable) → native x ≡ Some row → row.by_name ≡ b → (if b then Some (ANative row) else None) ≡ Some u → IsUsed u (if b then Some (ByName row at) else None)
+  native_used : (x : List ℕ) (at : Span) (row : Row) (b : Bool) (u : Usable) → native N.context.version x ≡ Some row → row.by_name ≡ b → (if b then Some (ANative row) else None) ≡ Some u → IsUsed u (if b then Some (ByName row at) else None)
   native_used x at row true u is by_name h = subst (λ u. IsUsed u (Some (ByName row at))) (same_usable (ANative row) u h) (record {
     callee = ByName row at;
     there = refl;
-    named = (is_row x row is, by_name);
-    sound = λ ts vs count i types low s n. N.enters.natives low row (is_row x row is) by_name at N.frame N.bound ts vs count i types s n;
+    named = (is_row N.context.version x row is, by_name);
+    sound = λ ts vs count i types low s n. N.enters.natives low row (is_row N.context.version x row is) by_name at N.frame N.bound ts vs count i types s n;
   })
   native_used x at row false u is by_name h = absurd cc
 
@@ -71,12 +71,13 @@ module _ (K : World) (N : Stands K) where
       })
   function_used x None u is h = absurd cc
 
-  used_by : (x : List ℕ) (at : Span) (o : Option Row) (u : Usable) → native x ≡ o → usable_row o (signature_in x N.context.functions) ≡ Some u → IsUsed u (by_row at o (function_of x (contract_at N.frame.contract K.deployed)))
+  used_by : (x : List ℕ) (at : Span) (o : Option Row) (u : Usable) → native N.context.version x ≡ o → usable_row o (signature_in x N.context.functions) ≡ Some u → IsUsed u (by_row at o (function_of x (contract_at N.frame.contract K.deployed)))
   used_by x at (Some row) u is h = native_used x at row row.by_name u is refl h
   used_by x at None u is h = function_used x (signature_in x N.context.functions) u refl h
 
   used_there : (x : List ℕ) (at : Span) (u : Usable) → usable N.context x ≡ Some u → IsUsed u (callee_of (here K N) x at)
-  used_there x at u h = used_by x at (native x) u refl h
+  used_there x at u h =
+      subst (λ o. IsUsed u (by_row at o (function_of x (contract_at N.frame.contract K.deployed)))) (sym (native_there K N x)) (used_by x at (native N.context.version x) u refl h)
 
   -- ---- the shape of a native that applies
 

@@ -18,7 +18,7 @@ use Rattle.cl_events.specs.declared.event.EventKind.TheVariants.{Print, FtMint, 
 use Rattle.cl_events.specs.State.{State, is_principal, place, spot, with_variables, with_entries, with_event}
 use Rattle.cl_events.specs.Acts.{Acted, acted_by}
 use Rattle.cl_meaning.specs.Answers.{Outcome, Given, Thrown, Aborted, Wrong, Deeper, Answer}
-use Rattle.cl_meaning.specs.Deployed.{Contract, Deployed, Function, contract_at, function_in, function_of, constant_of, has_map}
+use Rattle.cl_meaning.specs.Deployed.{Contract, Deployed, Function, contract_at, function_in, native_of, function_of, constant_of, has_map}
 use Rattle.cl_meaning.specs.Calls.{callable}
 use Rattle.cl_meaning.specs.Scope.{Frame, BoundValues, Scope, OwnFunction, ByName, Take, Enter}
 use Rattle.cl_meaning.specs.Limits.{cost}
@@ -28,7 +28,7 @@ use Rattle.cl_rules.specs.Bills.{Charge, cost_under}
 use Rattle.cl_rules.specs.Context.{CostTable, Names, Context, Signature, Known, same, named_in, signature_in, if_callable, target_at}
 use Rattle.cl_rules.specs.Verdicts.{Found, number_at}
 use Rattle.cl_rules.specs.CallShapes.{by_name_row}
-use Rattle.cl_forms.specs.Heads.{Row, takes, row_of}
+use Rattle.cl_forms.specs.Heads.{Row, native, takes, row_of}
 use Rattle.cl_rules.specs.FormRules.{function_faults, signature_of}
 use Rattle.cl_expression_sound.specs.Fitted.{Fitted}
 use Rattle.cl_expression_sound.specs.Stages.{IsThere, IsContext}
@@ -201,6 +201,8 @@ pub record IsServedAcross (K : World) (G : Context) (p : Principal) (k : Known) 
 pub record IsWorld (K : World) : Type 0 where
   -- constants before have values of their types
   pub constants : (G : Context) → IsGood K G → (x : List ℕ) (t : PlainType) → named_in x G.constants ≡ Some t → IsThere (constant_of x (contract_at G.principal K.deployed)) t
+  -- natives are those of the version of the contract's text
+  pub natives : (G : Context) → IsGood K G → (x : List ℕ) → native_of x (contract_at G.principal K.deployed) ≡ native G.version x
   -- functions before stand in the contract
   pub functions : (G : Context) → IsGood K G → (x : List ℕ) (g : Signature) → signature_in x G.functions ≡ Some g → IsServedThere K G.principal x g
   -- variables, maps and tokens before are there, their values have their types, and values of their types may be put there

@@ -34,7 +34,7 @@ pub record IsTypedAs (stage : Stage) (before : List Known) (c : Contract) (E : D
   pub valid : IsPrincipal c.principal
   pub order : List Form
   pub forms : AreForms stage c order
-  pub typed : FormsTyped (nothing_defined before c.principal c.source_length) order E
+  pub typed : FormsTyped (nothing_defined before c.principal c.version c.source_length) order E
   pub constants : (x : List ℕ) (t : PlainType) → named_in x E.context.constants ≡ Some t → IsThere (value_of x c.constants) t
 
 -- contracts that callers see, each among those that evaluations see
@@ -54,7 +54,7 @@ pub record IsContext (W : Deployed) (stage : Stage) (G : Context) : Type 0 where
   pub done : List Form
   pub rest : List Form
   pub order : accepted.order ≡ done ++ rest
-  pub typed : FormsTyped (nothing_defined before contract.principal contract.source_length) done so_far
+  pub typed : FormsTyped (nothing_defined before contract.principal contract.version contract.source_length) done so_far
   pub more : FormsTyped so_far rest defined
   pub context : so_far.context ≡ G
 

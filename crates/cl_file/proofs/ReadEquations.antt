@@ -6,7 +6,7 @@ use Rattle.cl_file.specs.Paths.{below, and_then, said, each_from}
 use Rattle.cl_file.specs.Objects.{Values, object_by, sole, plain, needed, only}
 use Rattle.cl_file.specs.Names.{names_of, condition_kind, entry_kind}
 use Rattle.cl_file.specs.Conditions.{stx_table, ft_table, nft_table, stx_found, ft_found, nft_found, stx, ft, nft, condition, condition_by, condition_at, post}
-use Rattle.cl_file.specs.Entries.{block_table, deploy_table, call_table, common, block, deploy, call, entry, entry_by, rising, entry_after, entry_at}
+use Rattle.cl_file.specs.Entries.{block_table, deploy_table, call_table, common_in, deployment, block, deploy, call, entry, entry_by, rising, entry_after, entry_at}
 use Rattle.cl_file.specs.declared.entry.Entry.TheVariants as entry_
 use Rattle.cl_file.specs.Kinds.{an_amount}
 use Rattle.cl_file.specs.Files.{tested, total, count, new_holder, holder_at, items, file_by, members_of}
@@ -42,12 +42,12 @@ unfolding block
 block_is values path d = refl
 
 pub deploy_is : (values : Values) (path : List ℕ) (d : Data)
-    → deploy values path d ≡ and_then (object_by (names_of Deploy) deploy_table values path d) (λ r. Ok (entry_.Deploy (common r.0 r.1.1.1) r.1.0 r.1.1.0))
+    → deploy values path d ≡ and_then (object_by (names_of Deploy) deploy_table values path d) (λ r. Ok (deployment r.0 r.1.0 r.1.1.0 r.1.1.1))
 unfolding deploy
 deploy_is values path d = refl
 
 pub call_is : (values : Values) (path : List ℕ) (d : Data)
-    → call values path d ≡ and_then (object_by (names_of Call) call_table values path d) (λ r. Ok (entry_.Call (common r.0 r.1.1.1.1) r.1.0.principal r.1.1.0 r.1.1.1.0))
+    → call values path d ≡ and_then (object_by (names_of Call) call_table values path d) (λ r. Ok (entry_.Call (common_in r.0 r.1.1.1.1) r.1.0.principal r.1.1.0 r.1.1.1.0))
 unfolding call
 call_is values path d = refl
 

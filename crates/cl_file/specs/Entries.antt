@@ -5,12 +5,14 @@ use Rattle.serde_json.specs.Data.{Data}
 use Rattle.serde_json.specs.Find.{as_str}
 use Rattle.cl_c32.specs.Address.{AddressParts}
 use Rattle.cl_values.specs.Tree.{Tree}
+use Rattle.cl_forms.specs.declared.version.Version.{Version}
+use Rattle.cl_forms.specs.declared.version.Version.TheVariants.{One}
 use Rattle.cl_post.specs.declared.condition.Mode.{Mode}
 use Rattle.cl_post.specs.declared.condition.Mode.TheVariants.{Allow}
 use Rattle.cl_post.specs.declared.condition.Condition.{Condition}
 use Rattle.cl_file.specs.Paths.{Read, below, and_then, said}
 use Rattle.cl_file.specs.Objects.{Values, Kind, Table, plain, needed, optional, and_more, no_more, object_by, sole}
-use Rattle.cl_file.specs.Kinds.{whole, mode, five, address, contract, deployed_name, some_literals}
+use Rattle.cl_file.specs.Kinds.{whole, mode, clarity, five, address, contract, deployed_name, some_literals}
 use Rattle.cl_file.specs.Names.{names_of, entry_kind}
 use Rattle.cl_file.specs.Conditions.{post}
 use Rattle.cl_file.specs.declared.entry.Common.{Common}
@@ -22,36 +24,43 @@ use Rattle.cl_file.specs.declared.names.EntryKind.{EntryKind}
 use Rattle.cl_file.specs.declared.names.EntryKind.TheVariants as kind
 use Rattle.cl_file.specs.declared.refusal.TxRefusal.TheVariants.{Field, HeightFalls}
 
--- limit, mode and conditions
-abbrev pub Terms : Type 0
-Terms = Option (List ℕ) × (Option Mode × (Option (List Condition) × Unit {0}))
+-- limit, mode and conditions, and what is behind them
+abbrev pub Terms : Type 0 → Type 0
+Terms A = Option (List ℕ) × (Option Mode × (Option (List Condition) × A))
 
-abbrev pub terms_table : Table Terms
-terms_table = and_more (optional (plain five)) (and_more (optional (plain mode)) (and_more (optional post) no_more))
+abbrev pub terms_and : {A : Type 0} → Table A → Table (Terms A)
+terms_and rest = and_more (optional (plain five)) (and_more (optional (plain mode)) (and_more (optional post) rest))
 
 abbrev pub block_table : Table (ℕ × Unit {0})
 block_table = and_more (needed (plain whole)) no_more
 
-abbrev pub deploy_table : Table (AddressParts × (List ℕ × (List ℕ × Terms)))
-deploy_table = and_more (needed (plain address)) (and_more (needed (plain deployed_name)) (and_more (needed (plain as_str)) terms_table))
+abbrev pub deploy_table : Table (AddressParts × (List ℕ × (List ℕ × Terms (Option Version × Unit {0}))))
+deploy_table = and_more (needed (plain address)) (and_more (needed (plain deployed_name)) (and_more (needed (plain as_str)) (terms_and (and_more (optional (plain clarity)) no_more))))
 
-abbrev pub call_table : Table (AddressParts × (Contract × (List ℕ × (List Tree × Terms))))
-call_table = and_more (needed (plain address)) (and_more (needed (plain contract)) (and_more (needed (plain as_str)) (and_more (needed some_literals) terms_table)))
+abbrev pub call_table : Table (AddressParts × (Contract × (List ℕ × (List Tree × Terms (Unit {0})))))
+call_table = and_more (needed (plain address)) (and_more (needed (plain contract)) (and_more (needed (plain as_str)) (and_more (needed some_literals) (terms_and no_more))))
 
 abbrev pub no_limit : List ℕ
 no_limit = let most = 2 ^ 64 - 1 in most ∷ most ∷ most ∷ most ∷ most ∷ []
 
-abbrev pub common : AddressParts → Terms → Common
-common sender t = record { sender = sender; limit = unwrap_or t.0 no_limit; mode = unwrap_or t.1.0 Allow; conditions = unwrap_or t.1.1.0 [] }
+abbrev pub common : AddressParts → Option (List ℕ) → Option Mode → Option (List Condition) → Common
+common sender limit means conditions = record { sender = sender; limit = unwrap_or limit no_limit; mode = unwrap_or means Allow; conditions = unwrap_or conditions [] }
+
+abbrev pub common_in : {A : Type 0} → AddressParts → Terms A → Common
+common_in sender t = common sender t.0 t.1.0 t.1.1.0
 
 unfoldable pub block : Kind Entry
 block values path d = and_then (object_by (names_of Block) block_table values path d) (λ r. Ok (entry_.Block r.0))
 
+-- a text that says nothing of its version is of version 1
+abbrev pub deployment : AddressParts → List ℕ → List ℕ → Terms (Option Version × Unit {0}) → Entry
+deployment sender name source t = entry_.Deploy (common_in sender t) name source (unwrap_or t.1.1.1.0 One)
+
 unfoldable pub deploy : Kind Entry
-deploy values path d = and_then (object_by (names_of Deploy) deploy_table values path d) (λ r. Ok (entry_.Deploy (common r.0 r.1.1.1) r.1.0 r.1.1.0))
+deploy values path d = and_then (object_by (names_of Deploy) deploy_table values path d) (λ r. Ok (deployment r.0 r.1.0 r.1.1.0 r.1.1.1))
 
 unfoldable pub call : Kind Entry
-call values path d = and_then (object_by (names_of Call) call_table values path d) (λ r. Ok (entry_.Call (common r.0 r.1.1.1.1) r.1.0.principal r.1.1.0 r.1.1.1.0))
+call values path d = and_then (object_by (names_of Call) call_table values path d) (λ r. Ok (entry_.Call (common_in r.0 r.1.1.1.1) r.1.0.principal r.1.1.0 r.1.1.1.0))
 
 abbrev pub entry_by : Option EntryKind → Kind Entry
 entry_by (Some kind.Block) = block
@@ -67,7 +76,7 @@ entry values path d = and_then (said path (sole d)) (λ p. entry_by (entry_kind 
 
 abbrev pub height_after : ℕ → Entry → ℕ
 height_after height (entry_.Block h) = h
-height_after height (entry_.Deploy c name source) = height
+height_after height (entry_.Deploy c name source version) = height
 height_after height (entry_.Call c p function args) = height
 
 -- the height after entries
@@ -83,7 +92,7 @@ NeverFall height (e ∷ es) = (height ≤ height_after height e) × NeverFall (h
 -- an entry after a height
 abbrev pub rising : ℕ → List ℕ → Entry → Read Entry
 rising height path (entry_.Block h) = if nat_lt h height then Err (HeightFalls (chars (below path (codes "block/height")))) else Ok (entry_.Block h)
-rising height path (entry_.Deploy c name source) = Ok (entry_.Deploy c name source)
+rising height path (entry_.Deploy c name source version) = Ok (entry_.Deploy c name source version)
 rising height path (entry_.Call c p function args) = Ok (entry_.Call c p function args)
 
 unfoldable pub entry_after : Values → ℕ → List ℕ → Data → Read Entry

@@ -1,5 +1,5 @@
 -- What the values of members say.
-use Rattle.std.specs.Prelude.{ℕ, ◌++◌, ◌&&◌, nat_le, List, [], ◌∷◌, length, codes, Option, Some, None, option_map, option_and_then, Result, Ok, Err, if◌then◌else◌}
+use Rattle.std.specs.Prelude.{ℕ, ◌++◌, ◌==◌, ◌&&◌, nat_le, List, [], ◌∷◌, length, codes, Option, Some, None, option_map, option_and_then, Result, Ok, Err, if◌then◌else◌}
 use Rattle.std.specs.Str.{bytes_eq}
 use Rattle.serde_json.specs.Data.{Data, Items, no_items, item}
 use Rattle.serde_json.specs.Find.{as_str, as_array, as_number, as_u64}
@@ -10,6 +10,8 @@ use Rattle.cl_c32.specs.declared.codec.C32Refusal.{C32Refusal}
 use Rattle.cl_c32.specs.declared.principal.Principal.{Principal}
 use Rattle.cl_sexpr.specs.Leaf.{contract_name, principal_of}
 use Rattle.cl_values.specs.Tree.{Tree, UintV}
+use Rattle.cl_forms.specs.declared.version.Version.{Version}
+use Rattle.cl_forms.specs.declared.version.Version.TheVariants.{One, Two}
 use Rattle.cl_post.specs.declared.condition.Mode.{Mode}
 use Rattle.cl_post.specs.declared.condition.Mode.TheVariants.{Allow, Deny}
 use Rattle.cl_post.specs.declared.condition.Code5.{Code5}
@@ -27,6 +29,13 @@ mode_text t = if bytes_eq t (codes "allow") then Some Allow else (if bytes_eq t 
 
 abbrev pub mode : Data → Option Mode
 mode d = option_and_then mode_text (as_str d)
+
+abbrev pub version_of : ℕ → Option Version
+version_of n = if n == 1 then Some One else (if n == 2 then Some Two else None)
+
+-- the number of a version
+abbrev pub clarity : Data → Option Version
+clarity d = option_and_then version_of (whole d)
 
 abbrev pub code_text : List ℕ → Option Code5
 code_text t =

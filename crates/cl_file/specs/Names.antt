@@ -14,7 +14,7 @@ names_of Ft = codes "principal" ∷ codes "contract" ∷ codes "token" ∷ codes
 names_of Nft = codes "principal" ∷ codes "contract" ∷ codes "token" ∷ codes "id" ∷ codes "sent" ∷ []
 names_of Holder = codes "principal" ∷ codes "stx" ∷ []
 names_of Block = codes "height" ∷ []
-names_of Deploy = codes "sender" ∷ codes "name" ∷ codes "source" ∷ codes "limit" ∷ codes "mode" ∷ codes "post" ∷ []
+names_of Deploy = codes "sender" ∷ codes "name" ∷ codes "source" ∷ codes "limit" ∷ codes "mode" ∷ codes "post" ∷ codes "clarity" ∷ []
 names_of Call = codes "sender" ∷ codes "contract" ∷ codes "function" ∷ codes "args" ∷ codes "limit" ∷ codes "mode" ∷ codes "post" ∷ []
 names_of File = codes "version" ∷ codes "genesis" ∷ codes "entries" ∷ []
 

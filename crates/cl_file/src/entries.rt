@@ -13,6 +13,7 @@ use crate::object::{object, sole};
 use crate::path::{Read, bad_value, below, height_falls, lone_field, place};
 use crate::{Common, Conditions, Entry, Row};
 use cl_c32::{Address, ContractName};
+use cl_forms::Version;
 use cl_post::Mode;
 use cl_values::Val;
 use serde_json::Value;
@@ -25,7 +26,7 @@ fn common(
     mode: Option<Mode>,
     post: Option<Conditions>,
 ) -> Common
-    ensures { result ≡ common sender (limit, (mode, (post, tt))) }
+    ensures { result ≡ common sender limit mode post }
 {
     Common {
         sender,
@@ -52,13 +53,16 @@ fn deploy(alloc: Global, known: &mut Addresses, value: &Value, path: &str) -> Re
     ensures broken { (v : Texts) → IfRefused result
         (λ r. deploy v.of path.now (view value.now) ≡ Err r) }
 {
-    let (sender, (name, (source, (limit, (mode, (post, ())))))): (
+    let (sender, (name, (source, (limit, (mode, (post, (version, ()))))))): (
         Address,
         (
             ContractName,
             (
                 Row<u8>,
-                (Option<[u64; 5]>, (Option<Mode>, (Option<Conditions>, ()))),
+                (
+                    Option<[u64; 5]>,
+                    (Option<Mode>, (Option<Conditions>, (Option<Version>, ()))),
+                ),
             ),
         ),
     ) = object(alloc, known, value, path, Object::Deploy)?;
@@ -66,6 +70,7 @@ fn deploy(alloc: Global, known: &mut Addresses, value: &Value, path: &str) -> Re
         common: common(alloc, sender, limit, mode, post),
         name,
         source,
+        version: version.unwrap_or(Version::One),
     })
 }
 

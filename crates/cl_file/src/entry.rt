@@ -1,6 +1,7 @@
 //! The entries of a transaction file.
 use crate::{Conditions, Row};
 use cl_c32::{Address, ContractName, Principal};
+use cl_forms::Version;
 use cl_post::Mode;
 use cl_values::Val;
 
@@ -24,6 +25,8 @@ pub enum Entry {
         name: ContractName,
         /// The text of the contract, in UTF-8.
         source: Row<u8>,
+        /// The version of the language that the text is written in.
+        version: Version,
     },
     /// A function of a contract is called.
     Call {

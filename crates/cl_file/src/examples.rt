@@ -1,5 +1,7 @@
 //! What files read as, by example.
-ghost use Rattle.std.specs.Prelude.{◌≡◌, [], ◌∷◌, codes, decimal, Ok, Err};
+ghost use Rattle.std.specs.Prelude.{◌≡◌, [], ◌∷◌, codes, decimal, option_and_then, Some, None, Ok, Err};
+ghost use Rattle.cl_forms.specs.declared.version.Version.TheVariants.{One, Two};
+ghost use Rattle.cl_file.specs.Kinds.{clarity};
 ghost use Rattle.cl_file.specs.Paths.{below};
 ghost use Rattle.cl_file.specs.Objects.{Values};
 ghost use Rattle.cl_file.specs.Files.{json_file};
@@ -46,4 +48,14 @@ pub fn faults_by_example()
     ensures holder { (v : Values) →
         json_file v (read (codes "{\"version\":1,\"genesis\":[{\"stx\":\"u1\"}],\"entries\":[]}"))
         ≡ Err (Field (chars (below (below (codes "/genesis") (decimal 0)) (codes "principal")))) }
+{}
+
+/// What a number says of a text's version: 1 or 2, and nothing else does.
+pub fn versions_by_example()
+    ensures one { option_and_then clarity (read (codes "1")) ≡ Some One }
+    ensures two { option_and_then clarity (read (codes "2")) ≡ Some Two }
+    ensures zero { option_and_then clarity (read (codes "0")) ≡ None }
+    ensures three { option_and_then clarity (read (codes "3")) ≡ None }
+    ensures text { option_and_then clarity (read (codes "\"2\"")) ≡ None }
+    ensures null { option_and_then clarity (read (codes "null")) ≡ None }
 {}

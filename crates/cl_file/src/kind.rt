@@ -4,15 +4,18 @@ ghost use Rattle.serde_json.specs.View.{view};
 ghost use Rattle.cl_types.specs.Fault.{IfRefused};
 ghost use Rattle.cl_file.specs.Paths.{below, said};
 ghost use Rattle.cl_file.specs.Objects.{Texts, Kind as AKind, plain};
-ghost use Rattle.cl_file.specs.Kinds.{mode, code, five, address, deployed_name, whole, principal, contract, token, an_amount, a_literal, some_literals};
+ghost use Rattle.cl_file.specs.Kinds.{mode, clarity, code, five, address, deployed_name, whole, principal, contract, token, an_amount, a_literal, some_literals};
 ghost use Rattle.serde_json.specs.Find.{as_bool, as_str};
 
 use crate::Row;
 use crate::addresses::Addresses;
 use crate::literal::{amount, literal, literals};
 use crate::path::{Read, bad_member};
-use crate::spelling::{address, code, contract, deployed_name, five, mode, principal, token};
+use crate::spelling::{
+    address, code, contract, deployed_name, five, mode, principal, token, version,
+};
 use cl_c32::{Address, ContractName, Principal};
+use cl_forms::Version;
 use cl_post::{Code5, Mode};
 use cl_types::{Name, NoMemory};
 use cl_values::Val;
@@ -81,6 +84,20 @@ impl Kind for Mode {
         name: &str,
     ) -> Read<Self> {
         said(alloc, mode(value), path, name)
+    }
+}
+
+impl Kind for Version {
+    ghost reads = { plain clarity };
+
+    fn read_at(
+        alloc: Global,
+        _known: &mut Addresses,
+        value: &Value,
+        path: &str,
+        name: &str,
+    ) -> Read<Self> {
+        said(alloc, version(value), path, name)
     }
 }
 

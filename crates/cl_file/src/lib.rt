@@ -23,7 +23,7 @@ mod tx_file;
 
 pub use conditions::Conditions;
 pub use entry::{Common, Entry};
-pub use examples::{faults_by_example, files_by_example};
+pub use examples::{faults_by_example, files_by_example, versions_by_example};
 pub use file::read;
 pub use laws::files_have_one_reading;
 pub use refusal::TxRefusal;

@@ -65,7 +65,9 @@ pub(crate) fn names_of(object: Object) -> &'static [&'static str]
         Object::Nft => &["principal", "contract", "token", "id", "sent"],
         Object::Holder => &["principal", "stx"],
         Object::Block => &["height"],
-        Object::Deploy => &["sender", "name", "source", "limit", "mode", "post"],
+        Object::Deploy => &[
+            "sender", "name", "source", "limit", "mode", "post", "clarity",
+        ],
         Object::Call => &[
             "sender", "contract", "function", "args", "limit", "mode", "post",
         ],

@@ -4,11 +4,12 @@ ghost use Rattle.serde_json.specs.View.{view, items_view};
 ghost use Rattle.cl_sexpr.specs.Leaf.{contract_name, principal_of};
 ghost use Rattle.cl_c32.specs.Codec.{decoded};
 ghost use Rattle.cl_sexpr.specs.Leaf.{contract_principal, standard_principal};
-ghost use Rattle.cl_file.specs.Kinds.{mode_text, mode, code_text, code, five_in, five, address, principal, short_name, deployed_name, only_contract, contract, token_name, token};
+ghost use Rattle.cl_file.specs.Kinds.{mode_text, mode, clarity, code_text, code, five_in, five, address, principal, short_name, deployed_name, only_contract, contract, token_name, token};
 
 use crate::addresses::Addresses;
 use crate::kind::Contract;
 use cl_c32::{Address, ContractName, Principal};
+use cl_forms::Version;
 use cl_post::{Code5, Mode};
 use cl_types::Name;
 use serde_json::Value;
@@ -29,6 +30,17 @@ pub(crate) fn mode(value: &Value) -> Option<Mode>
     match value.as_str() {
         Some(text) => mode_text(text),
         None => None,
+    }
+}
+
+/// A version by its number.
+pub(crate) fn version(value: &Value) -> Option<Version>
+    ensures { result ≡ clarity (view value.now) }
+{
+    match value.as_u64()? {
+        1 => Some(Version::One),
+        2 => Some(Version::Two),
+        _ => None,
     }
 }
 

@@ -6,6 +6,7 @@ use Rattle.cl_types.specs.declared.sized.Access.{Access}
 use Rattle.cl_types.specs.declared.sized.Access.TheVariants.{Public, ReadOnly, Private}
 use Rattle.cl_sexpr.specs.declared.sexpr.Span.{Span}
 use Rattle.cl_sexpr.specs.Tree.{Tree, LeafAt, ListAt, Named, Forest, Empty, Then, span_of}
+use Rattle.cl_forms.specs.Heads.{Version}
 use Rattle.cl_forms.specs.Forms.{Form, FormKind, VariableForm, NonFungibleForm, FunctionForm}
 use Rattle.cl_forms.specs.Names.{same}
 use Rattle.cl_forms.specs.Shapes.{trees_of, bindings_of}
@@ -149,5 +150,5 @@ forms_fit (i ∷ items) (form ∷ forms) h e =
     (subst MaybeForm heads (item_form (item_of i) (span_of i) (an_item_fits i h.0)), forms_fit items forms h.1 tails)
 
 -- the forms of items that fit
-pub forms_of_items_fit : (items : Forest) (forms : List Form) → AllFit items → AreForms (trees_of items) forms → FormsFit forms
+pub forms_of_items_fit : {version : Version} (items : Forest) (forms : List Form) → AllFit items → AreForms version (trees_of items) forms → FormsFit forms
 forms_of_items_fit items forms fit are = forms_fit (trees_of items) forms (are_fit items fit) are.forms_are

@@ -13,6 +13,7 @@ use Rattle.cl_sexpr.specs.Tree.{Tree, span_of}
 use Rattle.cl_forms.specs.declared.entry.Entry.{Entry}
 use Rattle.cl_forms.specs.ItemView.{plain_item}
 use Rattle.cl_forms.specs.Forms.{Form}
+use Rattle.cl_forms.specs.Heads.{Version}
 use Rattle.cl_forms.specs.Names.{stands_twice}
 use Rattle.cl_forms.specs.Items.{Item, Expression, Misshapen, Definition, item_of, kind_of, form_of}
 use Rattle.cl_forms.specs.FormBreaks.{left_out_in, params_of, defines, is_defined, uses_name, when, rules_of, broken_at, breaks_of, IsAmong, Breaks, GoesBefore, IsFirstBreak, AreForms}
@@ -41,11 +42,11 @@ before_first j k (suc n) (item ∷ items) x e =
 used_same : (items : List Item) (n : ℕ) (name : List ℕ) (params : List (List ℕ)) → is_used (first_from 0 items) n name params ≡ uses_name items n name params
 used_same items n name params i = before_first n 0 n items name (omega arith) i || stands_twice params || list_any (λ p. is_some_first 0 items p i) params
 
-pub rules_same : (items : List Item) (n : ℕ) (item : Item) → rules_by (first_from 0 items) n item ≡ rules_of items n item
-rules_same items n (Expression e) = refl
-rules_same items n Misshapen = refl
-rules_same items n (Definition name draft) =
-    ap (λ b. when (is_none (kind_of draft)) BadType (when (has_reserved name (params_of draft)) BadName (when b NameUsed []))) (used_same items n name (params_of draft))
+pub rules_same : (version : Version) (items : List Item) (n : ℕ) (item : Item) → rules_by version (first_from 0 items) n item ≡ rules_of version items n item
+rules_same version items n (Expression e) = refl
+rules_same version items n Misshapen = refl
+rules_same version items n (Definition name draft) =
+    ap (λ b. when (is_none (kind_of draft)) BadType (when (has_reserved version name (params_of draft)) BadName (when b NameUsed []))) (used_same items n name (params_of draft))
 
 -- ---- the first of breaks within one item
 
@@ -160,10 +161,10 @@ three_ruled false true false = (inr (refl, lit≤ tt), tt)
 three_ruled false false true = (inl (refl, refl), tt)
 three_ruled false false false = tt
 
-ruled : (table : Table) (n : ℕ) (item : Item) → AreRuled (rules_by table n item)
-ruled table n (Expression e) = tt
-ruled table n Misshapen = (inr (refl, lit≤ tt), tt)
-ruled table n (Definition name draft) = three_ruled (is_none (kind_of draft)) (has_reserved name (params_of draft)) (is_used table n name (params_of draft))
+ruled : (version : Version) (table : Table) (n : ℕ) (item : Item) → AreRuled (rules_by version table n item)
+ruled version table n (Expression e) = tt
+ruled version table n Misshapen = (inr (refl, lit≤ tt), tt)
+ruled version table n (Definition name draft) = three_ruled (is_none (kind_of draft)) (has_reserved version name (params_of draft)) (is_used table n name (params_of draft))
 
 at_span : (span : Span) (n : ℕ) (rules : List Rule) (q : Break) → AreAtLeast n rules → IsAmong q (map (broken_at span) rules) → (q.span.end ≡ span.end) × (n ≤ number_of q.rule)
 at_span span n [] q least h = absurd h
@@ -202,11 +203,11 @@ whole_first ss span [] h = subst (λ rs. IsFirst rs (option_map out (fold earlie
 whole_first ss span (rule ∷ rules) h = with_rule ss (fold earliest None ss) span rule rules (left_out_first ss) h.0 h.1
 
 -- what is found of an item is its first break
-pub item_first : (items : List Tree) (n : ℕ) (e : Tree) → IsFirst (breaks_of items n e) (break_of (first_from 0 (map item_of items)) n (look_at e))
-item_first items n e =
-    subst (λ rules. IsFirst (map out (left_out_in e) ++ map (broken_at (span_of e)) rules) (break_of (first_from 0 (map item_of items)) n (look_at e)))
-    (rules_same (map item_of items) n (item_of e))
-    (whole_first (left_out_in e) (span_of e) (rules_by (first_from 0 (map item_of items)) n (item_of e)) (ruled (first_from 0 (map item_of items)) n (item_of e)))
+pub item_first : (version : Version) (items : List Tree) (n : ℕ) (e : Tree) → IsFirst (breaks_of version items n e) (break_of version (first_from 0 (map item_of items)) n (look_at e))
+item_first version items n e =
+    subst (λ rules. IsFirst (map out (left_out_in e) ++ map (broken_at (span_of e)) rules) (break_of version (first_from 0 (map item_of items)) n (look_at e)))
+    (rules_same version (map item_of items) n (item_of e))
+    (whole_first (left_out_in e) (span_of e) (rules_by version (first_from 0 (map item_of items)) n (item_of e)) (ruled version (first_from 0 (map item_of items)) n (item_of e)))
 
 some_same : (d e : Tree) → Some d ≡ Some e → d ≡ e
 some_same d e h = cc
@@ -226,67 +227,67 @@ none_plus k = omega arith
 -- ---- the first of breaks of all items
 
 -- from a place on a break that goes before each, or no break
-abbrev pub IsFirstFrom : List Tree → ℕ → Option Break → Type 0
-IsFirstFrom items n None = (m : ℕ) (q : Break) → n ≤ m → Breaks items m q → ⊥
-IsFirstFrom items n (Some r) = (place : ℕ) × (n ≤ place) × Breaks items place r × ((m : ℕ) (q : Break) → n ≤ m → Breaks items m q → GoesBefore place r m q)
+abbrev pub IsFirstFrom : Version → List Tree → ℕ → Option Break → Type 0
+IsFirstFrom version items n None = (m : ℕ) (q : Break) → n ≤ m → Breaks version items m q → ⊥
+IsFirstFrom version items n (Some r) = (place : ℕ) × (n ≤ place) × Breaks version items place r × ((m : ℕ) (q : Break) → n ≤ m → Breaks version items m q → GoesBefore place r m q)
 
-past_end : (items : List Tree) (n : ℕ) → ((k : ℕ) → slice_get items (n + k) ≡ None) → (m : ℕ) (q : Break) → n ≤ m → Breaks items m q → ⊥
-past_end items n none m q h b =
+past_end : (version : Version) (items : List Tree) (n : ℕ) → ((k : ℕ) → slice_get items (n + k) ≡ None) → (m : ℕ) (q : Break) → n ≤ m → Breaks version items m q → ⊥
+past_end version items n none m q h b =
     let e : n + (m - n) ≡ m = omega arith in
     let f : None ≡ Some b.item = sym (none (m - n)) ∙ ap (slice_get items) e ∙ b.there in
     absurd cc
 
 -- the item at a place is the one that breaks there
-at_place : (items : List Tree) (n : ℕ) (e : Tree) (q : Break) → slice_get items n ≡ Some e → Breaks items n q → IsAmong q (breaks_of items n e)
-at_place items n e q there b =
+at_place : (version : Version) (items : List Tree) (n : ℕ) (e : Tree) (q : Break) → slice_get items n ≡ Some e → Breaks version items n q → IsAmong q (breaks_of version items n e)
+at_place version items n e q there b =
     let same_item : b.item ≡ e = some_same b.item e (sym b.there ∙ there) in
-    subst (λ (item : Tree). IsAmong q (breaks_of items n item)) same_item b.broken
+    subst (λ (item : Tree). IsAmong q (breaks_of version items n item)) same_item b.broken
 
 later_place : (n m : ℕ) → n ≤ m → (n ≡ m) ⊎ (n + 1 ≤ m)
 later_place n m h = grind arith
 
-join_first : (items : List Tree) (n : ℕ) (e : Tree) (here rest : Option Break) → slice_get items n ≡ Some e → IsFirst (breaks_of items n e) here → IsFirstFrom items (n + 1) rest → IsFirstFrom items n (option_or here rest)
-join_first items n e (Some r) rest there f g = (n, itself n, record { item = e; there = there; broken = f.0 }, later) where
-  later : (m : ℕ) (q : Break) → n ≤ m → Breaks items m q → GoesBefore n r m q
+join_first : (version : Version) (items : List Tree) (n : ℕ) (e : Tree) (here rest : Option Break) → slice_get items n ≡ Some e → IsFirst (breaks_of version items n e) here → IsFirstFrom version items (n + 1) rest → IsFirstFrom version items n (option_or here rest)
+join_first version items n e (Some r) rest there f g = (n, itself n, record { item = e; there = there; broken = f.0 }, later) where
+  later : (m : ℕ) (q : Break) → n ≤ m → Breaks version items m q → GoesBefore n r m q
   later m q h b =
       elim (later_place n m h) [
-        | inl k ↦ inr (k, f.1 q (at_place items n e q there (subst (λ (j : ℕ). Breaks items j q) (sym k) b)))
+        | inl k ↦ inr (k, f.1 q (at_place version items n e q there (subst (λ (j : ℕ). Breaks version items j q) (sym k) b)))
         | inr k ↦ inl (omega arith)
       ]
-join_first items n e None None there f g = later where
-  later : (m : ℕ) (q : Break) → n ≤ m → Breaks items m q → ⊥
+join_first version items n e None None there f g = later where
+  later : (m : ℕ) (q : Break) → n ≤ m → Breaks version items m q → ⊥
   later m q h b =
       elim (later_place n m h) [
-        | inl k ↦ f q (at_place items n e q there (subst (λ (j : ℕ). Breaks items j q) (sym k) b))
+        | inl k ↦ f q (at_place version items n e q there (subst (λ (j : ℕ). Breaks version items j q) (sym k) b))
         | inr k ↦ g m q k b
       ]
-join_first items n e None (Some r) there f g = (g.0, omega (arith, g.1), g.2, later) where
-  later : (m : ℕ) (q : Break) → n ≤ m → Breaks items m q → GoesBefore g.0 r m q
+join_first version items n e None (Some r) there f g = (g.0, omega (arith, g.1), g.2, later) where
+  later : (m : ℕ) (q : Break) → n ≤ m → Breaks version items m q → GoesBefore g.0 r m q
   later m q h b =
       elim (later_place n m h) [
-        | inl k ↦ absurd (f q (at_place items n e q there (subst (λ (j : ℕ). Breaks items j q) (sym k) b)))
+        | inl k ↦ absurd (f q (at_place version items n e q there (subst (λ (j : ℕ). Breaks version items j q) (sym k) b)))
         | inr k ↦ g.3 m q k b
       ]
 
-firsts : (items : List Tree) (n : ℕ) (rest : List Tree) → ((k : ℕ) → slice_get items (n + k) ≡ slice_get rest k) → IsFirstFrom items n (first_broken (first_from 0 (map item_of items)) n (map look_at rest))
-firsts items n [] at = past_end items n at
-firsts items n (e ∷ rest) at =
-    join_first items n e (break_of (first_from 0 (map item_of items)) n (look_at e)) (first_broken (first_from 0 (map item_of items)) (n + 1) (map look_at rest))
-    (ap (slice_get items) (sym (plus_none n)) ∙ at 0) (item_first items n e)
-    (firsts items (n + 1) rest (λ k. ap (slice_get items) (plus_more n k) ∙ at (suc k)))
+firsts : (version : Version) (items : List Tree) (n : ℕ) (rest : List Tree) → ((k : ℕ) → slice_get items (n + k) ≡ slice_get rest k) → IsFirstFrom version items n (first_broken version (first_from 0 (map item_of items)) n (map look_at rest))
+firsts version items n [] at = past_end version items n at
+firsts version items n (e ∷ rest) at =
+    join_first version items n e (break_of version (first_from 0 (map item_of items)) n (look_at e)) (first_broken version (first_from 0 (map item_of items)) (n + 1) (map look_at rest))
+    (ap (slice_get items) (sym (plus_none n)) ∙ at 0) (item_first version items n e)
+    (firsts version items (n + 1) rest (λ k. ap (slice_get items) (plus_more n k) ∙ at (suc k)))
 
-whole_firsts : (items : List Tree) → IsFirstFrom items 0 (first_broken (first_from 0 (map item_of items)) 0 (map look_at items))
-whole_firsts items = firsts items 0 items (λ k. ap (slice_get items) (none_plus k))
+whole_firsts : (version : Version) (items : List Tree) → IsFirstFrom version items 0 (first_broken version (first_from 0 (map item_of items)) 0 (map look_at items))
+whole_firsts version items = firsts version items 0 items (λ k. ap (slice_get items) (none_plus k))
 
-as_first : (items : List Tree) (o : Option Break) (r : Break) → IsFirstFrom items 0 o → o ≡ Some r → IsFirstBreak items r
-as_first items None r f e = absurd cc
-as_first items (Some q) r f e =
-    subst (λ (b : Break). IsFirstBreak items b) (some_same_break q r e)
+as_first : (version : Version) (items : List Tree) (o : Option Break) (r : Break) → IsFirstFrom version items 0 o → o ≡ Some r → IsFirstBreak version items r
+as_first version items None r f e = absurd cc
+as_first version items (Some q) r f e =
+    subst (λ (b : Break). IsFirstBreak version items b) (some_same_break q r e)
     (record { place = f.0; breaks = f.2; first = λ m p b. f.3 m p (omega arith) b })
 
-as_none : (items : List Tree) (o : Option Break) → IsFirstFrom items 0 o → o ≡ None → (n : ℕ) (r : Break) → Breaks items n r → ⊥
-as_none items None f e n r b = f n r (omega arith) b
-as_none items (Some q) f e n r b = absurd cc
+as_none : (version : Version) (items : List Tree) (o : Option Break) → IsFirstFrom version items 0 o → o ≡ None → (n : ℕ) (r : Break) → Breaks version items n r → ⊥
+as_none version items None f e n r b = f n r (omega arith) b
+as_none version items (Some q) f e n r b = absurd cc
 
 -- ---- what the code keeps of items
 
@@ -302,20 +303,20 @@ entry_items : (es : List Entry) → map (λ x. x.item) (map plain_entry es) ≡ 
 entry_items [] = refl
 entry_items (e ∷ es) = ap (λ us. plain_item e.item ∷ us) (entry_items es)
 
-module _ (ts : List Tree) (es : List Entry) (look : Table) (seen : map plain_entry es ≡ map look_at ts) (table : (x : List ℕ) → look x ≡ first_from 0 (map (λ e. plain_item e.item) es) x) where
+module _ (version : Version) (ts : List Tree) (es : List Entry) (look : Table) (seen : map plain_entry es ≡ map look_at ts) (table : (x : List ℕ) → look x ≡ first_from 0 (map (λ e. plain_item e.item) es) x) where
   same_table : look ≡ first_from 0 (map item_of ts)
   same_table =
       let e : map (λ e. plain_item e.item) es ≡ map item_of ts = sym (entry_items es) ∙ ap (map (λ x. x.item)) seen ∙ looked_items ts in
       (λ i x. table x i) ∙ ap (first_from 0) e
 
-  same_broken : first_broken (first_from 0 (map item_of ts)) 0 (map look_at ts) ≡ first_broken look 0 (map plain_entry es)
-  same_broken = sym (ap (λ t. first_broken t 0 (map plain_entry es)) same_table ∙ ap (first_broken (first_from 0 (map item_of ts)) 0) seen)
+  same_broken : first_broken version (first_from 0 (map item_of ts)) 0 (map look_at ts) ≡ first_broken version look 0 (map plain_entry es)
+  same_broken = sym (ap (λ t. first_broken version t 0 (map plain_entry es)) same_table ∙ ap (first_broken version (first_from 0 (map item_of ts)) 0) seen)
 
-  pub forms_broken : (r : Break) → first_broken look 0 (map plain_entry es) ≡ Some r → IsFirstBreak ts r
-  forms_broken r e = as_first ts _ r (whole_firsts ts) (same_broken ∙ e)
+  pub forms_broken : (r : Break) → first_broken version look 0 (map plain_entry es) ≡ Some r → IsFirstBreak version ts r
+  forms_broken r e = as_first version ts _ r (whole_firsts version ts) (same_broken ∙ e)
 
-  pub forms_found : (fs : List Form) → (first_broken look 0 (map plain_entry es) ≡ None) × (map form_at (map plain_entry es) ≡ map Some fs) → AreForms ts fs
+  pub forms_found : (fs : List Form) → (first_broken version look 0 (map plain_entry es) ≡ None) × (map form_at (map plain_entry es) ≡ map Some fs) → AreForms version ts fs
   forms_found fs h = record {
-    unbroken = as_none ts _ (whole_firsts ts) (same_broken ∙ h.0);
+    unbroken = as_none version ts _ (whole_firsts version ts) (same_broken ∙ h.0);
     forms_are = sym (looked_forms ts) ∙ ap (map form_at) (sym seen) ∙ h.1;
   }

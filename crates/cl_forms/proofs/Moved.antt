@@ -4,6 +4,7 @@ use Rattle.std.specs.Prelude.{option_map}
 use Rattle.std.specs.Option.{option_or}
 use Rattle.cl_sexpr.specs.declared.rule.Break.{Break}
 use Rattle.cl_sexpr.specs.Tree.{Tree}
+use Rattle.cl_forms.specs.Heads.{Version}
 use Rattle.cl_forms.specs.Shapes.{binding_of, and_binding, bindings_of}
 use Rattle.cl_forms.specs.Looks.{Looked, Table, break_of, first_broken}
 use Rattle.cl_forms.proofs.Bindings.{bound_next}
@@ -35,12 +36,12 @@ all_bound done [] whole empty inv = ap (λ (xs : List (List ℕ × Tree)). Some 
 all_bound done (t ∷ left) whole empty inv = absurd (omega (arith, empty))
 
 -- items that break no rule
-pub one_unbroken : (table : Table) (n m : ℕ) (left rest : List Looked) (x : Looked) (whole : Option Break) → m ≡ n + 1 → left ≡ x ∷ rest → break_of table n x ≡ None → first_broken table n left ≡ whole → first_broken table m rest ≡ whole
-one_unbroken table n m left rest x whole further taken none inv =
-    ap (λ (k : ℕ). first_broken table k rest) further
-    ∙ ap (λ (o : Option Break). option_or o (first_broken table (n + 1) rest)) (sym none)
-    ∙ ap (first_broken table n) (sym taken) ∙ inv
+pub one_unbroken : (version : Version) (table : Table) (n m : ℕ) (left rest : List Looked) (x : Looked) (whole : Option Break) → m ≡ n + 1 → left ≡ x ∷ rest → break_of version table n x ≡ None → first_broken version table n left ≡ whole → first_broken version table m rest ≡ whole
+one_unbroken version table n m left rest x whole further taken none inv =
+    ap (λ (k : ℕ). first_broken version table k rest) further
+    ∙ ap (λ (o : Option Break). option_or o (first_broken version table (n + 1) rest)) (sym none)
+    ∙ ap (first_broken version table n) (sym taken) ∙ inv
 
-pub all_unbroken : (table : Table) (n : ℕ) (left : List Looked) (whole : Option Break) → length left ≡ 0 → first_broken table n left ≡ whole → whole ≡ None
-all_unbroken table n [] whole empty inv = sym inv
-all_unbroken table n (x ∷ left) whole empty inv = absurd (omega (arith, empty))
+pub all_unbroken : (version : Version) (table : Table) (n : ℕ) (left : List Looked) (whole : Option Break) → length left ≡ 0 → first_broken version table n left ≡ whole → whole ≡ None
+all_unbroken version table n [] whole empty inv = sym inv
+all_unbroken version table n (x ∷ left) whole empty inv = absurd (omega (arith, empty))

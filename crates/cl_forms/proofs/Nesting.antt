@@ -4,6 +4,7 @@ use Rattle.cl_types.specs.Types.{PlainType}
 use Rattle.cl_types.specs.declared.sized.Access.{Access}
 use Rattle.cl_sexpr.specs.declared.sexpr.Span.{Span}
 use Rattle.cl_sexpr.specs.Tree.{Tree, LeafAt, ListAt, TupleAt, Forest, Empty, Then, forest, tree_depth, forest_depth, span_of}
+use Rattle.cl_forms.specs.Heads.{Version}
 use Rattle.cl_forms.specs.Forms.{Form, FormKind, VariableForm, NonFungibleForm, FunctionForm, expression_of}
 use Rattle.cl_forms.specs.Items.{Draft, ConstantDraft, VariableDraft, MapDraft, FungibleDraft, NonFungibleDraft, FunctionDraft, Item, Expression, Misshapen, Definition, word_at, parts_behind, atom_of, Defined, header_of, function_by, defined_by, definition, item_by, item_of, typed, map_form, kind_of, form_by, form_of}
 use Rattle.cl_forms.specs.WrittenTypes.{written_type}
@@ -158,5 +159,5 @@ forms_low (i ∷ items) (f ∷ forms) e (suc n) form h =
     let tails : map form_of items ≡ map Some forms = cc in
     deeper (forest_depth (forest items)) (forest_depth (forest (i ∷ items))) (expression_of form.kind) (omega arith) (forms_low items forms tails n form h)
 
-pub nest_as_items : (items : List Tree) (forms : List Form) (n : ℕ) (form : Form) → AreForms items forms → slice_get forms n ≡ Some form → NestsAtMost (forest_depth (forest items)) (expression_of form.kind)
+pub nest_as_items : {version : Version} (items : List Tree) (forms : List Form) (n : ℕ) (form : Form) → AreForms version items forms → slice_get forms n ≡ Some form → NestsAtMost (forest_depth (forest items)) (expression_of form.kind)
 nest_as_items items forms n form are h = forms_low items forms are.forms_are n form h

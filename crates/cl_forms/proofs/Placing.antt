@@ -5,6 +5,7 @@ use Rattle.cl_types.specs.declared.sized.Access.{Access}
 use Rattle.cl_sexpr.specs.declared.sexpr.Span.{Span}
 use Rattle.cl_sexpr.specs.Tree.{Tree, LeafAt, ListAt, TupleAt, Forest, Empty, Then, span_of}
 use Rattle.cl_sexpr.specs.Placed.{IsPlaced, ArePlaced}
+use Rattle.cl_forms.specs.Heads.{Version}
 use Rattle.cl_forms.specs.Forms.{Form, FormKind, VariableForm, NonFungibleForm, FunctionForm, expression_of}
 use Rattle.cl_forms.specs.Items.{Draft, ConstantDraft, VariableDraft, MapDraft, FungibleDraft, NonFungibleDraft, FunctionDraft, Item, Expression, Misshapen, Definition, word_at, parts_behind, atom_of, Defined, header_of, function_by, defined_by, definition, item_by, item_of, typed, map_form, kind_of, form_by, form_of}
 use Rattle.cl_forms.specs.FormBreaks.{AreForms}
@@ -160,5 +161,5 @@ pub items_placed : (low high : ℕ) (items : Forest) → ArePlaced low high item
 items_placed = all_placed
 
 -- the expressions of the forms of placed items
-pub expressions_placed : (items : List Tree) (forms : List Form) → AllPlaced items → AreForms items forms → AreFormsPlaced forms
+pub expressions_placed : {version : Version} (items : List Tree) (forms : List Form) → AllPlaced items → AreForms version items forms → AreFormsPlaced forms
 expressions_placed items forms p h = forms_placed forms (subst EachPlaced h.forms_are (each_placed items p))

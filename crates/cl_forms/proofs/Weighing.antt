@@ -4,6 +4,7 @@ use Rattle.cl_types.specs.Types.{PlainType}
 use Rattle.cl_types.specs.declared.sized.Access.{Access}
 use Rattle.cl_sexpr.specs.declared.sexpr.Span.{Span}
 use Rattle.cl_sexpr.specs.Tree.{Tree, LeafAt, ListAt, TupleAt, Forest, Empty, Then, forest, tree_size, forest_size, span_of}
+use Rattle.cl_forms.specs.Heads.{Version}
 use Rattle.cl_forms.specs.Forms.{Form, FormKind, VariableForm, NonFungibleForm, FunctionForm}
 use Rattle.cl_forms.specs.Items.{Draft, ConstantDraft, VariableDraft, MapDraft, FungibleDraft, NonFungibleDraft, FunctionDraft, Item, Expression, Misshapen, Definition, word_at, parts_behind, atom_of, Defined, header_of, function_by, defined_by, definition, item_by, item_of, and_type, typed, map_form, kind_of, form_by, form_of}
 use Rattle.cl_forms.specs.FormBreaks.{AreForms}
@@ -220,7 +221,7 @@ as_many f g xs ys e = length_map f xs ∙ ap length e ∙ sym (length_map g ys)
     length_map h [] = refl
     length_map h (z ∷ zs) = ap (λ n. suc n) (length_map h zs)
 
-pub forms_within : (items : List Tree) (forms : List Form) → AreForms items forms → weight_of_forms forms ≤ forest_size (forest items)
+pub forms_within : {version : Version} (items : List Tree) (forms : List Form) → AreForms version items forms → weight_of_forms forms ≤ forest_size (forest items)
 forms_within items forms h = sums_within items forms (as_many form_of Some items forms h.forms_are) (subst (EachWithin items) h.forms_are (each_within items))
 
 pub forms_counted : (forms : List Form) → length forms ≤ weight_of_forms forms

@@ -9,7 +9,7 @@ use Rattle.cl_sexpr.specs.Rules.{number_of}
 use Rattle.cl_sexpr.specs.Tree.{Tree, LeafAt, ListAt, TupleAt, Leaf, Named, Signed, Unsigned, Bytes, Ascii, Unicode, Standing, Local, Forest, Empty, Then, Pairs, NoPair, Pair, span_of}
 use Rattle.cl_forms.specs.Forms.{Form}
 use Rattle.cl_forms.specs.Names.{same, is_one_of, stands_twice}
-use Rattle.cl_forms.specs.Heads.{is_reserved, left_out}
+use Rattle.cl_forms.specs.Heads.{Version, is_reserved, left_out}
 use Rattle.cl_forms.specs.Items.{Draft, ConstantDraft, VariableDraft, MapDraft, FungibleDraft, NonFungibleDraft, FunctionDraft, Item, Expression, Misshapen, Definition, item_of, kind_of, form_of}
 
 -- ---- names that are left out
@@ -68,33 +68,33 @@ uses_name items n name params = is_defined (take n items) name || stands_twice p
 abbrev pub when : Bool → Rule → List Rule → List Rule
 when broken rule rules = if broken then rule ∷ rules else rules
 
--- the rules that an item at a place breaks, with its own span
-abbrev pub rules_of : List Item → ℕ → Item → List Rule
-rules_of items n (Expression e) = []
-rules_of items n Misshapen = BadDefinition ∷ []
-rules_of items n (Definition name draft) =
+-- the rules that an item at a place of a text of this version breaks, with its own span
+abbrev pub rules_of : Version → List Item → ℕ → Item → List Rule
+rules_of version items n (Expression e) = []
+rules_of version items n Misshapen = BadDefinition ∷ []
+rules_of version items n (Definition name draft) =
     when (is_none (kind_of draft)) BadType
-    (when (is_reserved name || list_any is_reserved (params_of draft)) BadName
+    (when (is_reserved version name || list_any (is_reserved version) (params_of draft)) BadName
     (when (uses_name items n name (params_of draft)) NameUsed []))
 
 abbrev pub broken_at : Span → Rule → Break
 broken_at span rule = record { rule = rule; span = span }
 
 -- what an item at a place breaks
-abbrev pub breaks_of : List Tree → ℕ → Tree → List Break
-breaks_of items n e =
-    map (λ at. broken_at at NotInProfile) (left_out_in e) ++ map (broken_at (span_of e)) (rules_of (map item_of items) n (item_of e))
+abbrev pub breaks_of : Version → List Tree → ℕ → Tree → List Break
+breaks_of version items n e =
+    map (λ at. broken_at at NotInProfile) (left_out_in e) ++ map (broken_at (span_of e)) (rules_of version (map item_of items) n (item_of e))
 
 -- one of these
 abbrev pub IsAmong : {A : Type 0} → A → List A → Type 0
 IsAmong r [] = ⊥
 IsAmong r (q ∷ qs) = (r ≡ q) ⊎ IsAmong r qs
 
--- the item at a place breaks a rule
-pub record Breaks (items : List Tree) (n : ℕ) (r : Break) : Type 0 where
+-- the item at a place of a text of this version breaks a rule
+pub record Breaks (version : Version) (items : List Tree) (n : ℕ) (r : Break) : Type 0 where
   pub item : Tree
   pub there : slice_get items n ≡ Some item
-  pub broken : IsAmong r (breaks_of items n item)
+  pub broken : IsAmong r (breaks_of version items n item)
 
 -- A break goes before another: one of an earlier item; within one item, one with a span that ends earlier; where the spans end
 -- alike, one of a rule with a number that isn't above the other's.
@@ -102,12 +102,12 @@ abbrev pub GoesBefore : ℕ → Break → ℕ → Break → Type 0
 GoesBefore n r m q = (n < m) ⊎ ((n ≡ m) × ((r.span.end < q.span.end) ⊎ ((r.span.end ≡ q.span.end) × (number_of r.rule ≤ number_of q.rule))))
 
 -- a break that goes before all breaks of the items
-pub record IsFirstBreak (items : List Tree) (r : Break) : Type 0 where
+pub record IsFirstBreak (version : Version) (items : List Tree) (r : Break) : Type 0 where
   pub place : ℕ
-  pub breaks : Breaks items place r
-  pub first : (m : ℕ) (q : Break) → Breaks items m q → GoesBefore place r m q
+  pub breaks : Breaks version items place r
+  pub first : (m : ℕ) (q : Break) → Breaks version items m q → GoesBefore place r m q
 
--- the forms of items that break no rule
-pub record AreForms (items : List Tree) (forms : List Form) : Type 0 where
-  pub unbroken : (n : ℕ) (r : Break) → Breaks items n r → ⊥
+-- the forms of the items of a text of this version, which break no rule
+pub record AreForms (version : Version) (items : List Tree) (forms : List Form) : Type 0 where
+  pub unbroken : (n : ℕ) (r : Break) → Breaks version items n r → ⊥
   pub forms_are : map form_of items ≡ map Some forms

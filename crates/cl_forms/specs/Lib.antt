@@ -1,8 +1,10 @@
 pub mod Forms
 pub mod Names
+pub mod NativeRows
 pub mod Order
 pub mod Writes
 pub mod Keywords
+pub mod Texts
 pub mod Heads
 pub mod HeadNames
 pub mod Shapes

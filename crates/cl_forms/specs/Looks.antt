@@ -9,7 +9,7 @@ use Rattle.cl_sexpr.specs.declared.rule.Break.{Break}
 use Rattle.cl_sexpr.specs.Tree.{Tree, span_of}
 use Rattle.cl_forms.specs.Forms.{Form}
 use Rattle.cl_forms.specs.Names.{stands_twice}
-use Rattle.cl_forms.specs.Heads.{is_reserved}
+use Rattle.cl_forms.specs.Heads.{Version, is_reserved}
 use Rattle.cl_forms.specs.Items.{Item, Expression, Misshapen, Definition, item_of, kind_of, form_by}
 use Rattle.cl_forms.specs.FormBreaks.{left_out_in, params_of, defines, when, broken_at}
 use Rattle.cl_forms.specs.declared.entry.Entry.{Entry}
@@ -51,17 +51,17 @@ abbrev pub is_used : Table → ℕ → List ℕ → List (List ℕ) → Bool
 is_used table n name params = is_before n (table name) || stands_twice params || list_any (λ p. is_some (table p)) params
 
 -- whether the name or a parameter is reserved
-abbrev pub has_reserved : List ℕ → List (List ℕ) → Bool
-has_reserved name params = is_reserved name || list_any is_reserved params
+abbrev pub has_reserved : Version → List ℕ → List (List ℕ) → Bool
+has_reserved version name params = is_reserved version name || list_any (is_reserved version) params
 
 -- ---- breaks
 
-abbrev pub rules_by : Table → ℕ → Item → List Rule
-rules_by table n (Expression e) = []
-rules_by table n Misshapen = BadDefinition ∷ []
-rules_by table n (Definition name draft) =
+abbrev pub rules_by : Version → Table → ℕ → Item → List Rule
+rules_by version table n (Expression e) = []
+rules_by version table n Misshapen = BadDefinition ∷ []
+rules_by version table n (Definition name draft) =
     when (is_none (kind_of draft)) BadType
-    (when (has_reserved name (params_of draft)) BadName
+    (when (has_reserved version name (params_of draft)) BadName
     (when (is_used table n name (params_of draft)) NameUsed []))
 
 -- a rule of items with a number above that of an atom that is left out
@@ -80,13 +80,13 @@ first_at [] left_out span = option_map (λ at. broken_at at NotInProfile) left_o
 first_at (rule ∷ rules) left_out span = Some (first_of left_out rule span)
 
 -- the first break of an item at a place
-abbrev pub break_of : Table → ℕ → Looked → Option Break
-break_of table n x = first_at (rules_by table n x.item) x.left_out x.span
+abbrev pub break_of : Version → Table → ℕ → Looked → Option Break
+break_of version table n x = first_at (rules_by version table n x.item) x.left_out x.span
 
 -- the first break of items, from a place on
-abbrev pub first_broken : Table → ℕ → List Looked → Option Break
-first_broken table n [] = None
-first_broken table n (x ∷ xs) = option_or (break_of table n x) (first_broken table (n + 1) xs)
+abbrev pub first_broken : Version → Table → ℕ → List Looked → Option Break
+first_broken version table n [] = None
+first_broken version table n (x ∷ xs) = option_or (break_of version table n x) (first_broken version table (n + 1) xs)
 
 abbrev pub form_at : Looked → Option Form
 form_at x = form_by x.item x.span

@@ -16,10 +16,18 @@ use crate::form::{Form, FormKind};
 use crate::item::Item;
 use crate::kind::Draft;
 use crate::reserved::is_reserved;
+use crate::version::Version;
 use cl_sexpr::{Break, Refusal, Rule, Sexpr, Span};
 use cl_types::{Fault, Name};
 use indexmap::{IndexMap, IndexSet};
 use std::alloc::{AllocError, Global};
+
+/// The names of a text: its version, which has reserved some, and where each of its own is defined first.
+#[derive(Drop)]
+struct Names {
+    version: Version,
+    first: IndexMap<Name, usize>,
+}
 
 /// Notes where a name is defined first.
 fn note(names: &mut IndexMap<Name, usize>, place: usize, item: &Item) -> Result<(), AllocError>
@@ -54,24 +62,24 @@ fn params_of(draft: &Draft) -> &[(Name, Sexpr)]
     }
 }
 
-fn any_reserved(params: &[(Name, Sexpr)]) -> bool
-    ensures { result ≡ list_any is_reserved (map (λ p. p.0) params.now) }
+fn any_reserved(version: Version, params: &[(Name, Sexpr)]) -> bool
+    ensures { result ≡ list_any (is_reserved version) (map (λ p. p.0) params.now) }
 {
     for param in params {
-        if is_reserved(&param.0) {
+        if is_reserved(version, &param.0) {
             return true;
         }
     }
     false
 }
 
-fn has_reserved(name: &Name, params: &[(Name, Sexpr)]) -> bool
-    ensures { result ≡ has_reserved name.now (map (λ p. p.0) params.now) }
+fn has_reserved(version: Version, name: &Name, params: &[(Name, Sexpr)]) -> bool
+    ensures { result ≡ has_reserved version name.now (map (λ p. p.0) params.now) }
 {
-    if is_reserved(name) {
+    if is_reserved(version, name) {
         return true;
     }
-    any_reserved(params)
+    any_reserved(version, params)
 }
 
 fn repeats(alloc: Global, params: &[(Name, Sexpr)]) -> Result<bool, AllocError>
@@ -168,7 +176,7 @@ fn by_left_out(left_out: Option<Span>) -> Option<Break>
 /// What a definition breaks first whose types are types, by its names and an atom that is left out.
 fn by_names(
     alloc: Global,
-    names: &IndexMap<Name, usize>,
+    names: &Names,
     place: usize,
     name: &Name,
     params: &[(Name, Sexpr)],
@@ -176,14 +184,14 @@ fn by_names(
     span: Span,
 ) -> Result<Option<Break>, AllocError>
     ensures { IfOk result (λ b. b ≡ first_at
-        (when (has_reserved name.now (map (λ p. p.0) params.now)) Rule.BadName
-        (when (is_used (lookup same names.now) place name.now (map (λ p. p.0) params.now)) Rule.NameUsed []))
+        (when (has_reserved names.now.version name.now (map (λ p. p.0) params.now)) Rule.BadName
+        (when (is_used (lookup same names.now.first) place name.now (map (λ p. p.0) params.now)) Rule.NameUsed []))
         left_out span) }
 {
-    if has_reserved(name, params) {
+    if has_reserved(names.version, name, params) {
         return Ok(Some(first_of(left_out, Rule::BadName, span)));
     }
-    if is_used(alloc, names, place, name, params)? {
+    if is_used(alloc, &names.first, place, name, params)? {
         return Ok(Some(first_of(left_out, Rule::NameUsed, span)));
     }
     Ok(by_left_out(left_out))
@@ -202,7 +210,7 @@ fn unless_broken(broken: Option<Break>, form: Form) -> Result<Form, Fault<Break>
 
 fn definition(
     alloc: Global,
-    names: &IndexMap<Name, usize>,
+    names: &Names,
     place: usize,
     name: Name,
     draft: Draft,
@@ -210,9 +218,9 @@ fn definition(
     span: Span,
 ) -> Result<Form, Fault<Break>>
     ensures found { IfOk result (λ f.
-        (first_at (rules_by (lookup same names.now) place (Definition name (plain_draft draft))) left_out span ≡ None)
+        (first_at (rules_by names.now.version (lookup same names.now.first) place (Definition name (plain_draft draft))) left_out span ≡ None)
         × (form_by (Definition name (plain_draft draft)) span ≡ Some f)) }
-    ensures broken { IfRefused result (λ r. first_at (rules_by (lookup same names.now) place (Definition name (plain_draft draft))) left_out span ≡ Some r) }
+    ensures broken { IfRefused result (λ r. first_at (rules_by names.now.version (lookup same names.now.first) place (Definition name (plain_draft draft))) left_out span ≡ Some r) }
 {
     let broken = by_names(
         alloc,
@@ -237,14 +245,9 @@ fn definition(
 }
 
 /// The form of an item at a place, or the first rule that it breaks.
-fn form_of(
-    alloc: Global,
-    names: &IndexMap<Name, usize>,
-    place: usize,
-    entry: Entry,
-) -> Result<Form, Fault<Break>>
-    ensures found { IfOk result (λ f. (break_of (lookup same names.now) place (plain_entry entry) ≡ None) × (form_at (plain_entry entry) ≡ Some f)) }
-    ensures broken { IfRefused result (λ r. break_of (lookup same names.now) place (plain_entry entry) ≡ Some r) }
+fn form_of(alloc: Global, names: &Names, place: usize, entry: Entry) -> Result<Form, Fault<Break>>
+    ensures found { IfOk result (λ f. (break_of names.now.version (lookup same names.now.first) place (plain_entry entry) ≡ None) × (form_at (plain_entry entry) ≡ Some f)) }
+    ensures broken { IfRefused result (λ r. break_of names.now.version (lookup same names.now.first) place (plain_entry entry) ≡ Some r) }
 {
     let Entry {
         item,
@@ -269,13 +272,13 @@ fn form_of(
 
 fn forms_or_break(
     alloc: Global,
-    names: &IndexMap<Name, usize>,
+    names: &Names,
     entries: Vec<Entry>,
 ) -> Result<Vec<Form>, Fault<Break>>
     ensures found { IfOk result (λ v.
-        (first_broken (lookup same names.now) 0 (map plain_entry entries.items) ≡ None)
+        (first_broken names.now.version (lookup same names.now.first) 0 (map plain_entry entries.items) ≡ None)
         × (map form_at (map plain_entry entries.items) ≡ map Some v.items)) }
-    ensures broken { IfRefused result (λ r. first_broken (lookup same names.now) 0 (map plain_entry entries.items) ≡ Some r) }
+    ensures broken { IfRefused result (λ r. first_broken names.now.version (lookup same names.now.first) 0 (map plain_entry entries.items) ≡ Some r) }
 {
     let mut forms = Vec::new(alloc);
     for entry in entries {
@@ -288,27 +291,32 @@ fn forms_or_break(
     Ok(forms)
 }
 
-fn forms_of(alloc: Global, items: Vec<Sexpr>) -> Result<Vec<Form>, Fault<Break>>
-    ensures found { IfOk result (λ v. AreForms items.items v.items) }
-    ensures broken { IfRefused result (IsFirstBreak items.items) }
+fn forms_of(alloc: Global, items: Vec<Sexpr>, version: Version) -> Result<Vec<Form>, Fault<Break>>
+    ensures found { IfOk result (λ v. AreForms version items.items v.items) }
+    ensures broken { IfRefused result (IsFirstBreak version items.items) }
 {
     let entries = look_at_all(alloc, items)?;
-    let names = first_places(alloc, &entries)?;
+    let first = first_places(alloc, &entries)?;
+    let names = Names { version, first };
     forms_or_break(alloc, &names, entries)
 }
 
-/// The forms of a text's items, in their order, or the first of the rules F1 to F5 that an item breaks.
+/// The forms of the items of a text of this version, in their order, or the first of the rules F1 to F5 that an item breaks.
 ///
 /// An earlier item goes first, then within an item the span that ends first, then the rule with the least number: so a
 /// name that is left out (F4) is refused before what is wrong with its item. A definition is read by its shape (SIP-002);
 /// numbers in types are taken by their value. It takes a time near linear in the size of the items, with a table of the
 /// names that are defined, and recurs only into brackets.
-pub fn forms(alloc: Global, items: Vec<Sexpr>) -> Result<Vec<Form>, Fault<Refusal>>
-    ensures found { IfOk result (λ v. AreForms items.items v.items) }
-    ensures broken { IfRefused result (λ r. IsFirstBreak items.items (record { rule = r.rule; span = r.span })) }
+pub fn forms(
+    alloc: Global,
+    items: Vec<Sexpr>,
+    version: Version,
+) -> Result<Vec<Form>, Fault<Refusal>>
+    ensures found { IfOk result (λ v. AreForms version items.items v.items) }
+    ensures broken { IfRefused result (λ r. IsFirstBreak version items.items (record { rule = r.rule; span = r.span })) }
     ensures nameless { IfRefused result (λ r. r.names.items ≡ []) }
 {
-    match forms_of(alloc, items) {
+    match forms_of(alloc, items, version) {
         Ok(forms) => Ok(forms),
         Err(Fault::Refused(broken)) => Err(Fault::Refused(Refusal::of(alloc, broken))),
         Err(Fault::NoMemory) => Err(Fault::NoMemory),

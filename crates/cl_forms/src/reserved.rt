@@ -1,61 +1,32 @@
 //! The names that no definition and no parameter may have.
-ghost use Rattle.std.specs.Prelude.{◌≡◌, ◌||◌, map};
+ghost use Rattle.std.specs.Prelude.{◌≡◌, is_some};
 ghost use Rattle.cl_forms.specs.Names.{is_one_of};
-ghost use Rattle.cl_forms.specs.Keywords.{keywords};
-ghost use Rattle.cl_forms.specs.Heads.{is_reserved, define_words, left_out, table};
+ghost use Rattle.cl_forms.specs.Heads.{is_reserved, native, words, left_out};
 
 use crate::names::is_one_by_length;
+use crate::natives::native;
+use crate::version::Version;
 use cl_types::Name;
 
-// The natives, the keywords and the define words, in rows by how many bytes they have.
-static WORDS: [&[&str]; 26] = [
+// The keywords and the define words, in rows by how many bytes they have.
+static OTHER_WORDS: [&[&str]; 26] = [
     &[],
-    &["+", "-", "*", "/", "<", ">"],
-    &["<=", ">=", "ok", "if", "or"],
-    &[
-        "mod", "pow", "xor", "not", "err", "get", "len", "let", "and", "map",
-    ],
-    &["log2", "some", "list", "try!", "fold", "true", "none"],
-    &[
-        "sqrti", "is-eq", "is-ok", "tuple", "merge", "print", "begin", "match", "false",
-    ],
-    &[
-        "to-int", "sha256", "sha512", "is-err", "append", "concat", "filter",
-    ],
-    &[
-        "to-uint", "is-some", "is-none", "var-get", "var-set", "map-set", "unwrap!",
-    ],
-    &["index-of", "map-get?", "ft-mint?", "ft-burn?", "asserts!"],
-    &["nft-mint?", "nft-burn?", "stx-burn?", "tx-sender"],
-    &[
-        "sha512/256",
-        "default-to",
-        "element-at",
-        "map-insert",
-        "map-delete",
-        "define-map",
-    ],
-    &["as-max-len?", "unwrap-err!", "as-contract"],
-    &["unwrap-panic", "ft-transfer?", "block-height"],
-    &[
-        "ft-get-supply",
-        "nft-transfer?",
-        "stx-transfer?",
-        "define-public",
-    ],
-    &[
-        "ft-get-balance",
-        "nft-get-owner?",
-        "contract-call?",
-        "define-private",
-    ],
-    &[
-        "stx-get-balance",
-        "contract-caller",
-        "define-constant",
-        "define-data-var",
-    ],
-    &["unwrap-err-panic", "define-read-only"],
+    &[],
+    &[],
+    &[],
+    &["true", "none"],
+    &["false"],
+    &[],
+    &[],
+    &[],
+    &["tx-sender"],
+    &["define-map"],
+    &[],
+    &["block-height"],
+    &["define-public"],
+    &["define-private"],
+    &["contract-caller", "define-constant", "define-data-var"],
+    &["define-read-only"],
     &[],
     &[],
     &[],
@@ -90,11 +61,18 @@ static LEFT_OUT: [&[&str]; 19] = [
     &["secp256k1-recover?"],
 ];
 
-// Whether a name is a native's, a keyword or a define word.
-fn is_word(name: &Name) -> bool
-    ensures { result ≡ (is_one_of (map (λ row. row.name) table) name.now || is_one_of keywords name.now || is_one_of define_words name.now) }
+// Whether a name is a native's of the version.
+fn is_native(version: Version, name: &Name) -> bool
+    ensures { result ≡ is_some (native version name.now) }
 {
-    is_one_by_length(&WORDS, name)
+    native(name, version).is_some()
+}
+
+// Whether a name is a native's of the version, a keyword or a define word.
+fn is_word(version: Version, name: &Name) -> bool
+    ensures { result ≡ is_one_of (words version) name.now }
+{
+    is_native(version, name) || is_one_by_length(&OTHER_WORDS, name)
 }
 
 /// Whether a name is one of Clarity's that this engine leaves out.
@@ -104,11 +82,11 @@ pub(crate) fn is_left_out(name: &Name) -> bool
     is_one_by_length(&LEFT_OUT, name)
 }
 
-/// Whether no definition, no parameter and no binding may have this name: it is a native's, a keyword, a define word, or
-/// one of those that are left out.
+/// Whether no definition, no parameter and no binding of a text of this version may have this name: it is a native's of the
+/// version, a keyword, a define word, or one of those that are left out.
 #[tactic(auto, unfolding(crate::specs::Heads::is_reserved))]
-pub fn is_reserved(name: &Name) -> bool
-    ensures { result ≡ is_reserved name.now }
+pub fn is_reserved(version: Version, name: &Name) -> bool
+    ensures { result ≡ is_reserved version name.now }
 {
-    is_word(name) || is_left_out(name)
+    is_word(version, name) || is_left_out(name)
 }

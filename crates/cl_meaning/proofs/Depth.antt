@@ -10,12 +10,12 @@ use Rattle.cl_forms.specs.declared.head.TokenNative.{TokenNative}
 use Rattle.cl_forms.specs.declared.head.TokenNative.TheVariants.{MintFt, BurnFt, SendFt, MintNft, BurnNft, SendNft, SendStx, BurnStx}
 use Rattle.cl_forms.specs.declared.head.Head.{Head}
 use Rattle.cl_forms.specs.declared.head.Head.TheVariants.{OnValues, OnToken, TupleOf, AsMaxLen, Get, VarGet, VarSet, MapGet, MapSet, MapInsert, MapDelete, FtBalance, FtSupply, StxBalance, NftOwner, Print, If, Let, Begin, And, Or, Asserts, Unwrap, UnwrapErr, Try, Match, AsContract, Map, Filter, Fold, ContractCall}
-use Rattle.cl_forms.specs.Heads.{Row, native}
+use Rattle.cl_forms.specs.Heads.{Row}
 use Rattle.cl_forms.specs.Shapes.{trees_of, binding_of, bindings_of, pairs_of, MatchParts, OptionalMatch, ResponseMatch, match_of}
 use Rattle.cl_events.specs.State.{State}
 use Rattle.cl_meaning.specs.Answers.{Answer, Deeper}
-use Rattle.cl_meaning.specs.Deployed.{Function}
-use Rattle.cl_meaning.specs.Scope.{Scope, BoundValues, Callee, OwnFunction, ByName, Take, Enter, parts, binding, taken_with}
+use Rattle.cl_meaning.specs.Deployed.{Function, native_of}
+use Rattle.cl_meaning.specs.Scope.{Scope, home, BoundValues, Callee, OwnFunction, ByName, Take, Enter, parts, binding, taken_with}
 use Rattle.cl_meaning.specs.Control.{if_form, begin_form, let_in, let_form, and_on, or_on, and_form, or_form, throwing, asserts_form, wanted_part, err_part, unwrap_form, unwrap_err_form, try_form, match_optional, match_response, match_form, as_contract_form, match_taken}
 use Rattle.cl_meaning.specs.Values.{strict_form, tuple_form, get_form, as_max_len_form}
 use Rattle.cl_meaning.specs.Data.{var_set_form, map_get_form, map_set_form, map_insert_form, map_delete_form}
@@ -390,7 +390,7 @@ module _ (take deep : Take) (t : TakesBelow take deep) (enter far : Enter) (n : 
   unfolding node
   node_below S (LeafAt leaf at) s = below_same _
   node_below S (TupleAt ps at) s = tuple_below take deep t S (pairs_of ps) s
-  node_below S (ListAt (Then (LeafAt (Named x) at') es) at) s = operator_below (native x) x S (trees_of es) s
+  node_below S (ListAt (Then (LeafAt (Named x) at') es) at) s = operator_below (native_of x (home S)) x S (trees_of es) s
   node_below S (ListAt es at) s = below_same _
 
 mutual

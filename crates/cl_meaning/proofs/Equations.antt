@@ -4,11 +4,12 @@ use Rattle.std.specs.Prelude.{Some, None}
 use Rattle.cl_sexpr.specs.declared.sexpr.Span.{Span}
 use Rattle.cl_sexpr.specs.Tree.{Tree, LeafAt, ListAt, TupleAt, Leaf, Named, Forest, Then, Pairs, span_of}
 use Rattle.cl_values.specs.Tree.{Tree as Val}
-use Rattle.cl_forms.specs.Heads.{Row, native}
+use Rattle.cl_forms.specs.Heads.{Row}
 use Rattle.cl_forms.specs.Shapes.{trees_of, pairs_of}
 use Rattle.cl_events.specs.State.{State}
 use Rattle.cl_meaning.specs.Answers.{Deeper, stop, ending}
-use Rattle.cl_meaning.specs.Scope.{Scope, Callee, Take, Enter}
+use Rattle.cl_meaning.specs.Deployed.{native_of}
+use Rattle.cl_meaning.specs.Scope.{Scope, home, Callee, Take, Enter}
 use Rattle.cl_meaning.specs.Names.{leaf_form}
 use Rattle.cl_meaning.specs.Values.{tuple_form}
 use Rattle.cl_meaning.specs.Calls.{call_form, application}
@@ -18,11 +19,11 @@ use Rattle.cl_meaning.specs.Meaning.{head_form, operator, node, means, applied}
 abbrev pub named_list : List ℕ → Span → Forest → Span → Tree
 named_list x at' es at = ListAt (Then (LeafAt (Named x) at') es) at
 
-pub node_of_row : (take : Take) (enter : Enter) (S : Scope) (x : List ℕ) (row : Row) (es : Forest) (at at' : Span) (s : State) → native x ≡ Some row → node take enter S (named_list x at' es at) s ≡ head_form row.head row.cost take enter S (trees_of es) s
+pub node_of_row : (take : Take) (enter : Enter) (S : Scope) (x : List ℕ) (row : Row) (es : Forest) (at at' : Span) (s : State) → native_of x (home S) ≡ Some row → node take enter S (named_list x at' es at) s ≡ head_form row.head row.cost take enter S (trees_of es) s
 unfolding node
 node_of_row take enter S x row es at at' s h = ap (λ o. operator o x take enter S (trees_of es) s) h
 
-pub node_of_call : (take : Take) (enter : Enter) (S : Scope) (x : List ℕ) (es : Forest) (at at' : Span) (s : State) → native x ≡ None → node take enter S (named_list x at' es at) s ≡ call_form x take enter S (trees_of es) s
+pub node_of_call : (take : Take) (enter : Enter) (S : Scope) (x : List ℕ) (es : Forest) (at at' : Span) (s : State) → native_of x (home S) ≡ None → node take enter S (named_list x at' es at) s ≡ call_form x take enter S (trees_of es) s
 unfolding node
 node_of_call take enter S x es at at' s h = ap (λ o. operator o x take enter S (trees_of es) s) h
 

@@ -6,13 +6,16 @@ use Rattle.cl_types.specs.declared.sized.Access.{Access}
 use Rattle.cl_c32.specs.declared.principal.Principal.{Principal}
 use Rattle.cl_sexpr.specs.Tree.{Tree}
 use Rattle.cl_values.specs.Tree.{Tree as Val}
+use Rattle.cl_forms.specs.declared.version.Version.{Version}
+use Rattle.cl_forms.specs.Heads.{Row, native}
 use Rattle.cl_forms.specs.Forms.{Form, FormKind, MapForm, FunctionForm}
 pub use Rattle.cl_forms.specs.Names.{named_in as value_of}
 use Rattle.cl_events.specs.State.{is_principal}
 
--- a contract: its principal, its forms, the length of its text, and the values of its constants
+-- a contract: its principal, the version of its text, its forms, the length of its text, and the values of its constants
 pub record Contract : Type 0 where
   pub principal : Principal
+  pub version : Version
   pub forms : List Form
   pub source_length : ℕ
   pub constants : List (List ℕ × Val)
@@ -46,6 +49,11 @@ as_function x kind = None
 -- the function of a name
 abbrev pub function_in : List ℕ → List Form → Option Function
 function_in x fs = option_and_then (as_function x) (form_of x fs)
+
+-- the native of a name in a contract that may not be there, by the version of its text
+abbrev pub native_of : List ℕ → Option Contract → Option Row
+native_of x None = None
+native_of x (Some c) = native c.version x
 
 -- the function of a name in a contract that may not be there
 abbrev pub function_of : List ℕ → Option Contract → Option Function

@@ -18,6 +18,7 @@ pub mod Opened
 pub mod Add1Row
 pub mod FoldRow
 pub mod AcrossRow
+pub mod VersionRow
 pub mod LimitRow
 pub mod ConcatRow
 pub mod PayRow

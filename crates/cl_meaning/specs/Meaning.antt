@@ -5,11 +5,12 @@ use Rattle.cl_sexpr.specs.Tree.{Tree, LeafAt, ListAt, TupleAt, Named, Then, span
 use Rattle.cl_values.specs.Tree.{Tree as Val}
 use Rattle.cl_forms.specs.declared.head.Head.{Head}
 use Rattle.cl_forms.specs.declared.head.Head.TheVariants.{OnValues, OnToken, TupleOf, AsMaxLen, Get, VarGet, VarSet, MapGet, MapSet, MapInsert, MapDelete, FtBalance, FtSupply, StxBalance, NftOwner, Print, If, Let, Begin, And, Or, Asserts, Unwrap, UnwrapErr, Try, Match, AsContract, Map, Filter, Fold, ContractCall}
-use Rattle.cl_forms.specs.Heads.{Row, native}
+use Rattle.cl_forms.specs.Heads.{Row}
 use Rattle.cl_forms.specs.Shapes.{trees_of, bindings_of, pairs_of}
 use Rattle.cl_events.specs.State.{State}
 use Rattle.cl_meaning.specs.Answers.{Answer, Deeper, stop, wrong, ending, with_known}
-use Rattle.cl_meaning.specs.Scope.{Scope, Callee, Take, Enter}
+use Rattle.cl_meaning.specs.Deployed.{native_of}
+use Rattle.cl_meaning.specs.Scope.{Scope, home, Callee, Take, Enter}
 use Rattle.cl_meaning.specs.Names.{leaf_form}
 use Rattle.cl_meaning.specs.Control.{if_form, begin_form, let_form, and_form, or_form, asserts_form, unwrap_form, unwrap_err_form, try_form, match_form, as_contract_form}
 use Rattle.cl_meaning.specs.Values.{strict_form, tuple_form, get_form, as_max_len_form}
@@ -61,7 +62,7 @@ operator None x take enter S es s = call_form x take enter S es s
 unfoldable pub node : Take → Enter → Scope → Tree → State → Answer Val
 node take enter S (LeafAt leaf at) s = leaf_form S leaf s
 node take enter S (TupleAt ps at) s = tuple_form take S (pairs_of ps) s
-node take enter S (ListAt (Then (LeafAt (Named x) at') es) at) s = operator (native x) x take enter S (trees_of es) s
+node take enter S (ListAt (Then (LeafAt (Named x) at') es) at) s = operator (native_of x (home S)) x take enter S (trees_of es) s
 node take enter S (ListAt es at) s = wrong s
 
 unfoldable mutual

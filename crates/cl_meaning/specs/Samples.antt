@@ -12,6 +12,7 @@ use Rattle.cl_shapes.specs.Names.{unit_function}
 use Rattle.cl_sexpr.specs.declared.sexpr.Span.{Span}
 use Rattle.cl_sexpr.specs.Tree.{Tree, LeafAt, ListAt, TupleAt, Named, Signed, Unsigned, Bytes, Ascii, Local, Then, forest, pairs}
 use Rattle.cl_values.specs.Tree.{Tree as Val}
+use Rattle.cl_forms.specs.declared.version.Version.TheVariants.{One}
 use Rattle.cl_forms.specs.Forms.{Form, FormKind, ConstantForm, VariableForm, MapForm, FungibleForm, NonFungibleForm, FunctionForm, ExpressionForm}
 use Rattle.cl_events.specs.State.{State}
 use Rattle.cl_meaning.specs.Answers.{Answer, wrong}
@@ -98,7 +99,7 @@ of_P0 x = record P0 { contract = Some x }
 
 -- a contract of P0, with a text of so many bytes
 abbrev pub contract : List ℕ → ℕ → List Form → Contract
-contract x n forms = record { principal = of_P0 x; forms = forms; source_length = n; constants = [] }
+contract x n forms = record { principal = of_P0 x; version = One; forms = forms; source_length = n; constants = [] }
 
 -- at height 0
 abbrev pub frame : List ℕ → Principal → Frame

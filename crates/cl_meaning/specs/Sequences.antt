@@ -6,11 +6,11 @@ use Rattle.cl_sexpr.specs.Tree.{Tree, LeafAt, Named}
 use Rattle.cl_values.specs.Tree.{Tree as Val, BoolV, ListV, items_of}
 use Rattle.cl_values.specs.Wire.{size_of}
 use Rattle.cl_values.specs.Sequences.{entries_of, like}
-use Rattle.cl_forms.specs.Heads.{Row, native, given_by_name}
+use Rattle.cl_forms.specs.Heads.{Row, given_by_name}
 use Rattle.cl_events.specs.State.{State}
 use Rattle.cl_values.specs.Computed.{Gives}
 use Rattle.cl_meaning.specs.Answers.{Answer, stop, give, wrong, charged, and_then, with_known, outcome_of}
-use Rattle.cl_meaning.specs.Deployed.{Function, function_of}
+use Rattle.cl_meaning.specs.Deployed.{Function, native_of, function_of}
 use Rattle.cl_meaning.specs.Scope.{Scope, home, Callee, OwnFunction, ByName, Take, Enter, parts, sizes}
 
 -- ---- what a name applies
@@ -23,7 +23,7 @@ by_row at row f = given_by_name (λ r. ByName r at) OwnFunction row f
 
 -- a native that can be given by name, or a function of the contract
 abbrev pub callee_of : Scope → List ℕ → Span → Option Callee
-callee_of S x at = by_row at (native x) (function_of x (home S))
+callee_of S x at = by_row at (native_of x (home S)) (function_of x (home S))
 
 -- ---- entries side by side
 

@@ -1,5 +1,5 @@
 //! What whole contracts mean, by example: each function here says what some calls come to, and does nothing.
-ghost use Rattle.std.specs.Prelude.{◌≡◌, ◌-◌, ◌^◌, [], ◌∷◌, true, false, pos, codes, map};
+ghost use Rattle.std.specs.Prelude.{◌≡◌, ◌-◌, ◌^◌, [], ◌∷◌, ◌++◌, replicate, true, false, pos, codes, map};
 ghost use Rattle.cl_arith.specs.declared.ArithRefusal.TheVariants.{Overflow};
 ghost use Rattle.cl_shapes.specs.Costs.{cost5, in_each};
 ghost use Rattle.cl_values.specs.Tree.{IntV, UintV, BoolV, BuffV, NoneV, SomeV, ResponseV, ListV, items_of};
@@ -12,6 +12,7 @@ ghost use Rattle.cl_meaning.specs.Samples.{P0, P1, unit, purse};
 ghost use Rattle.cl_meaning.specs.Add1Row.{add1_deployed, add1_contract, add1_of, add1_charges, placed_of, add1_trace};
 ghost use Rattle.cl_meaning.specs.FoldRow.{fold_of};
 ghost use Rattle.cl_meaning.specs.AcrossRow.{go, v_and_w};
+ghost use Rattle.cl_meaning.specs.VersionRow.{at_ints, part_of, spelled};
 ghost use Rattle.cl_meaning.specs.LimitRow.{n_deployed, n_is, inc, enough, too_little, inc_within, inc_over};
 ghost use Rattle.cl_meaning.specs.ConcatRow.{dear_make, both_of};
 ghost use Rattle.cl_meaning.specs.PayRow.{pay, paid};
@@ -51,6 +52,19 @@ pub fn across_row()
     ensures none_errs { (go true true).outcome ≡ Given (ResponseV true (BoolV true)) }
     ensures all_stands { (go true true).state ≡ v_and_w 7 9 }
     ensures cost { cost unit (go true false) ≡ cost5 25 1 119 2 34 }
+{}
+
+/// Contracts of both versions call each other, and each goes by the natives of its own version.
+pub fn version_row()
+    ensures new { (at_ints (codes "new") (codes "both") 12 10).outcome ≡ Given (IntV (pos 8)) }
+    ensures old { (at_ints (codes "old") (codes "both") 12 10).outcome ≡ Given (IntV (pos 22)) }
+    ensures old_asks { (at_ints (codes "old") (codes "ask") 12 10).outcome ≡ Given (IntV (pos 8)) }
+    ensures later_asks { (at_ints (codes "later") (codes "ask") 12 10).outcome ≡ Given (IntV (pos 22)) }
+    ensures part { (part_of (1 ∷ 2 ∷ 3 ∷ 4 ∷ [])).outcome ≡ Given (SomeV (BuffV (2 ∷ 3 ∷ []))) }
+    ensures part_cost { cost unit (part_of (1 ∷ 2 ∷ 3 ∷ 4 ∷ [])) ≡ cost5 6 0 0 0 0 }
+    ensures no_part { (part_of (1 ∷ [])).outcome ≡ Given NoneV }
+    ensures spelled { (spelled 1).outcome ≡ Given (SomeV (BuffV (1 ∷ replicate 15 0 ++ 1 ∷ []))) }
+    ensures spelled_cost { cost unit (spelled 1) ≡ cost5 4 0 0 0 0 }
 {}
 
 /// A counter under a limit that is just enough, and under one that is one byte too small.

@@ -9,11 +9,12 @@ ghost use Rattle.cl_sexpr.specs.declared.sexpr.Span.{Span};
 ghost use Rattle.cl_sexpr.specs.Tree.{Tree, LeafAt, ListAt, Named, Forest, Then, span_of};
 ghost use Rattle.cl_values.specs.Tree.{Tree as Val};
 ghost use Rattle.cl_values.specs.Valid.{IsPrincipal};
-ghost use Rattle.cl_forms.specs.Heads.{Row, native};
+ghost use Rattle.cl_forms.specs.Heads.{Row};
 ghost use Rattle.cl_forms.specs.Shapes.{trees_of};
 ghost use Rattle.cl_events.specs.State.{State, genesis};
 ghost use Rattle.cl_meaning.specs.Answers.{Answer, Deeper, stop, charged, and_then, ending, returning};
-ghost use Rattle.cl_meaning.specs.Scope.{Scope, Callee, Take, Enter};
+ghost use Rattle.cl_meaning.specs.Deployed.{native_of};
+ghost use Rattle.cl_meaning.specs.Scope.{Scope, home, Callee, Take, Enter};
 ghost use Rattle.cl_meaning.specs.Calls.{call_form};
 ghost use Rattle.cl_meaning.specs.Meaning.{head_form, node, means, applied};
 ghost use Rattle.cl_meaning.specs.Limits.{Costs, cost_of, cost, Within, Passed, limit_on, limited, after, returned};
@@ -30,16 +31,17 @@ pub fn more_depth_changes_nothing()
 {}
 
 /// An expression means, to a depth, what its node is over what its parts and its applications mean one level down; and
-/// at depth 0 it is Deeper. A list that begins with the name of a native is that native, and else a call.
+/// at depth 0 it is Deeper. A list that begins with the name of a native, by the version of the contract's text, is that
+/// native, and else a call.
 pub fn nodes_by_their_names()
     ensures bottom { (S : Scope) (e : Tree) (s : State) → means 0 S e s ≡ stop Deeper s }
     ensures step { (depth : ℕ) (S : Scope) (e : Tree) (s : State) →
         means (suc depth) S e s ≡ ending (span_of e) (node (means depth) (applied depth) S e s) }
     ensures native { (take : Take) (enter : Enter) (S : Scope) (x : List ℕ) (row : Row) (es : Forest) (at named_at : Span) (s : State) →
-        native x ≡ Some row →
+        native_of x (home S) ≡ Some row →
         node take enter S (ListAt (Then (LeafAt (Named x) named_at) es) at) s ≡ head_form row.head row.cost take enter S (trees_of es) s }
     ensures call { (take : Take) (enter : Enter) (S : Scope) (x : List ℕ) (es : Forest) (at named_at : Span) (s : State) →
-        native x ≡ None →
+        native_of x (home S) ≡ None →
         node take enter S (ListAt (Then (LeafAt (Named x) named_at) es) at) s ≡ call_form x take enter S (trees_of es) s }
 {}
 

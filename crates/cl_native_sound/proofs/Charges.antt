@@ -6,7 +6,7 @@ use Rattle.cl_values.specs.Wire.{size_of}
 use Rattle.cl_values.specs.Typed.{AreOf}
 use Rattle.cl_values.proofs.OfTypes.{no_larger}
 use Rattle.cl_values.specs.declared.native.Native.{Native}
-use Rattle.cl_values.specs.declared.native.Native.TheVariants.{Add, Subtract, Multiply, Divide, Modulo, Power, Xor, SquareRoot, Log2, ToInt, ToUint, Not}
+use Rattle.cl_values.specs.declared.native.Native.TheVariants.{Add, Subtract, Multiply, Divide, Modulo, Power, Xor, SquareRoot, Log2, ToInt, ToUint, Not, BitAnd, BitOr, BitXor, BitNot, ShiftLeft, ShiftRight}
 use Rattle.cl_forms.specs.declared.head.Head.TheVariants.{OnValues}
 use Rattle.cl_forms.specs.Heads.{row_of}
 use Rattle.cl_rules.specs.Verdicts.{number_at, sizes_of}
@@ -41,4 +41,10 @@ numbers_within Log2 ts vs is = let same = as_many ts vs is in omega (arith, same
 numbers_within ToInt ts vs is = let same = as_many ts vs is in omega (arith, same)
 numbers_within ToUint ts vs is = let same = as_many ts vs is in omega (arith, same)
 numbers_within Not ts vs is = let same = as_many ts vs is in omega (arith, same)
+numbers_within BitAnd ts vs is = let same = as_many ts vs is in omega (arith, same)
+numbers_within BitOr ts vs is = let same = as_many ts vs is in omega (arith, same)
+numbers_within BitXor ts vs is = let same = as_many ts vs is in omega (arith, same)
+numbers_within BitNot ts vs is = let same = as_many ts vs is in omega (arith, same)
+numbers_within ShiftLeft ts vs is = let same = as_many ts vs is in omega (arith, same)
+numbers_within ShiftRight ts vs is = let same = as_many ts vs is in omega (arith, same)
 numbers_within n ts vs is = sizes_within ts vs is

@@ -1,22 +1,27 @@
 -- Each native by its row.
 use Rattle.std.proofs.Common.{◌≡◌, suc, ◌≤◌, List, [], ◌∷◌, true, false, length, subst, arith}
 use Rattle.std.specs.Prelude.{int_lt, int_le}
+use Rattle.std.specs.Ordering.{is_lt, is_le, is_gt, is_ge}
 use Rattle.std.proofs.lemmas.Bool.{eqb-true}
 use Rattle.sha2.specs.Sha256.{sha256}
 use Rattle.sha2.specs.Sha512.{sha512, sha512_256}
-use Rattle.cl_types.specs.Types.{PlainType, NoType, OptionalType, ResponseType, BoolType, size_of as type_size}
-use Rattle.cl_arith.specs.Operations.{sum, product, quotient, remainder, power}
+use Rattle.cl_types.specs.Types.{PlainType, NoType, OptionalType, ResponseType, BoolType, BuffType, size_of as type_size}
+use Rattle.cl_arith.specs.Operations.{sum, product, quotient, remainder, power, exclusive_or}
+use Rattle.cl_arith.specs.Bits.{conjunction, disjunction, shifted_left, shifted_right}
 use Rattle.cl_arith.specs.Roots.{root_of, log2_of}
+use Rattle.cl_arith.proofs.Ranges.{xor_fits}
+use Rattle.cl_arith.proofs.Bits.{conjunction_fits, disjunction_fits, left_fits, right_fits}
 use Rattle.cl_values.specs.Tree.{Tree}
 use Rattle.cl_values.specs.Computed.{Gives}
 use Rattle.cl_values.specs.Wire.{size_of}
 use Rattle.cl_values.specs.Arithmetic.{from_left, subtracted, of_two, of_one, pair_value, xor_value, root_value, log2_value, comparison}
+use Rattle.cl_values.specs.Bits.{joined_by, complement_value}
 use Rattle.cl_values.specs.Natives.{native_value, is_some, is_none, is_ok, is_err}
 use Rattle.cl_values.specs.Typed.{AreOf, IsOf}
 use Rattle.cl_values.proofs.Digests.{hash_256, hash_512, hash_512_256}
 use Rattle.cl_values.proofs.OfTypes.{IsIn, AreIn, IsLimited, is_in, are_in, no_larger}
 use Rattle.cl_values.specs.declared.native.Native.{Native}
-use Rattle.cl_values.specs.declared.native.Native.TheVariants.{Add, Subtract, Multiply, Divide, Modulo, Power, Xor, SquareRoot, Log2, ToInt, ToUint, Not, Less, AtMost, Greater, AtLeast, Same, Sha256, Sha512Of256, Sha512, MakeSome, MakeOk, MakeErr, IsSome, IsNone, IsOk, IsErr, DefaultTo, UnwrapPanic, UnwrapErrPanic, MakeList, Merge, Append, Concat, Len, ElementAt, IndexOf}
+use Rattle.cl_values.specs.declared.native.Native.TheVariants.{Add, Subtract, Multiply, Divide, Modulo, Power, Xor, SquareRoot, Log2, ToInt, ToUint, Not, Less, AtMost, Greater, AtLeast, Same, Sha256, Sha512Of256, Sha512, MakeSome, MakeOk, MakeErr, IsSome, IsNone, IsOk, IsErr, DefaultTo, UnwrapPanic, UnwrapErrPanic, MakeList, Merge, Append, Concat, Len, ElementAt, IndexOf, ContentLess, ContentAtMost, ContentGreater, ContentAtLeast, BitAnd, BitOr, BitXor, BitNot, ShiftLeft, ShiftRight, Slice, ReplaceAt, EntryAt, PlaceOf, ToConsensusBuff}
 use Rattle.cl_forms.specs.declared.head.Head.TheVariants.{OnValues}
 use Rattle.cl_forms.specs.Heads.{Exact, OrMore, takes, row_of}
 use Rattle.cl_rules.specs.NativeTypes.{native_type}
@@ -24,11 +29,12 @@ use Rattle.cl_native_sound.specs.Ending.{EndsAs, may_fail, may_panic}
 use Rattle.cl_native_sound.specs.Laws.{AreFit}
 use Rattle.cl_native_sound.proofs.Rulings.{IsClean}
 use Rattle.cl_native_sound.proofs.Coming.{ComesTo, ends_as}
-use Rattle.cl_native_sound.proofs.Limits.{int_limits, uint_limits, bool_limits, digest_limits, place_limits, limits, first_limits, equal_limits, list_limits, append_limits, concat_limits, merge_limits, element_limits}
+use Rattle.cl_native_sound.proofs.Limits.{int_limits, uint_limits, bool_limits, digest_limits, place_limits, limits, first_limits, equal_limits, list_limits, append_limits, concat_limits, merge_limits, element_limits, shift_limits, slice_limits, replace_limits}
 use Rattle.cl_native_sound.proofs.Numbers.{number_type, bool_in, left_in, subtracted_in, two_in, one_in, pair_in, alone_in, compared_in}
 use Rattle.cl_native_sound.proofs.NumberRows.{number_row_in, compare_row_in, xor_in}
 use Rattle.cl_native_sound.proofs.ValueRows.{to_int_in, to_uint_in, not_in, equal_in, hash_in, some_in, ok_in, err_in, optional_test, response_test, default_ends, part_ends, err_part_ends}
 use Rattle.cl_native_sound.proofs.EntryRows.{len_in, element_in, index_in, made_list_in, append_in, concat_in}
+use Rattle.cl_native_sound.proofs.LaterRows.{content_in, joined_in, complement_in, shift_in, slice_in, replace_in, consensus_in}
 use Rattle.cl_native_sound.proofs.Tuples.{merge_in}
 
 -- ---- how many arguments there are
@@ -53,6 +59,17 @@ with_two P (t ∷ u ∷ []) (v ∷ []) c is p = absurd is.1
 with_two P (t ∷ u ∷ []) (v ∷ w ∷ []) c is p = p t u v w is.0 is.1.0
 with_two P (t ∷ u ∷ []) (v ∷ w ∷ x ∷ vs) c is p = absurd is.1.1
 with_two P (t ∷ u ∷ s ∷ ts) vs c is p = absurd (omega (arith, eqb-true (suc (suc (suc (length ts)))) 2 c))
+
+with_three : (P : List PlainType → List Tree → Type 0) (ts : List PlainType) (vs : List Tree) → takes (Exact 3) (length ts) ≡ true → AreIn vs ts → ((t u s : PlainType) (v w x : Tree) → IsIn v t → IsIn w u → IsIn x s → P (t ∷ u ∷ s ∷ []) (v ∷ w ∷ x ∷ [])) → P ts vs
+with_three P [] vs c is p = absurd cc
+with_three P (t ∷ []) vs c is p = absurd (omega (arith, eqb-true 1 3 c))
+with_three P (t ∷ u ∷ []) vs c is p = absurd (omega (arith, eqb-true 2 3 c))
+with_three P (t ∷ u ∷ s ∷ []) [] c is p = absurd is
+with_three P (t ∷ u ∷ s ∷ []) (v ∷ []) c is p = absurd is.1
+with_three P (t ∷ u ∷ s ∷ []) (v ∷ w ∷ []) c is p = absurd is.1.1
+with_three P (t ∷ u ∷ s ∷ []) (v ∷ w ∷ x ∷ []) c is p = p t u s v w x is.0 is.1.0 is.1.1.0
+with_three P (t ∷ u ∷ s ∷ []) (v ∷ w ∷ x ∷ y ∷ vs) c is p = absurd is.1.1.1
+with_three P (t ∷ u ∷ s ∷ r ∷ ts) vs c is p = absurd (omega (arith, eqb-true (suc (suc (suc (suc (length ts))))) 3 c))
 
 with_one_of : (P : List PlainType → List Tree → Type 0) (ts : List PlainType) (vs : List Tree) → takes (Exact 1) (length ts) ≡ true → AreOf vs ts → ((t : PlainType) (v : Tree) → IsOf v t → P (t ∷ []) (v ∷ [])) → P ts vs
 with_one_of P ts vs c is p = with_one (λ ts vs. AreOf vs ts → P ts vs) ts vs c (are_in vs ts is) (λ t v i j. p t v j.0) is
@@ -107,6 +124,21 @@ native_ends Concat ts vs k is = with_two (Ends Concat) ts vs k (are_in vs ts is)
 native_ends Len ts vs k is = with_one_of (Ends Len) ts vs k is (λ t v i c. ends Len (t ∷ []) (v ∷ []) uint_limits (len_in t v i.valid.size (is_in v t i) c))
 native_ends ElementAt ts vs k is = with_two (Ends ElementAt) ts vs k (are_in vs ts is) (λ t u v w i j c. ends ElementAt (t ∷ u ∷ []) (v ∷ w ∷ []) (element_limits t u c) (element_in t u v w i j c))
 native_ends IndexOf ts vs k is = with_two_of (Ends IndexOf) ts vs k is (λ t u v w i j c. ends IndexOf (t ∷ u ∷ []) (v ∷ w ∷ []) place_limits (index_in t u v w i.valid.size (is_in v t i) c))
+native_ends ContentLess ts vs k is = with_two (Ends ContentLess) ts vs k (are_in vs ts is) (λ t u v w i j c. ends ContentLess (t ∷ u ∷ []) (v ∷ w ∷ []) bool_limits (content_in is_lt t u v w i j c))
+native_ends ContentAtMost ts vs k is = with_two (Ends ContentAtMost) ts vs k (are_in vs ts is) (λ t u v w i j c. ends ContentAtMost (t ∷ u ∷ []) (v ∷ w ∷ []) bool_limits (content_in is_le t u v w i j c))
+native_ends ContentGreater ts vs k is = with_two (Ends ContentGreater) ts vs k (are_in vs ts is) (λ t u v w i j c. ends ContentGreater (t ∷ u ∷ []) (v ∷ w ∷ []) bool_limits (content_in is_gt t u v w i j c))
+native_ends ContentAtLeast ts vs k is = with_two (Ends ContentAtLeast) ts vs k (are_in vs ts is) (λ t u v w i j c. ends ContentAtLeast (t ∷ u ∷ []) (v ∷ w ∷ []) bool_limits (content_in is_ge t u v w i j c))
+native_ends BitAnd ts vs k is = with_some (Ends BitAnd) ts vs k (are_in vs ts is) (λ t us v ws i js c. ends BitAnd (t ∷ us) (v ∷ ws) (first_limits (t ∷ us) c) (number_row_in false (joined_by conjunction) (t ∷ us) (v ∷ ws) (joined_in conjunction conjunction_fits (length (t ∷ us))) (omega arith) (i, js) c))
+native_ends BitOr ts vs k is = with_some (Ends BitOr) ts vs k (are_in vs ts is) (λ t us v ws i js c. ends BitOr (t ∷ us) (v ∷ ws) (first_limits (t ∷ us) c) (number_row_in false (joined_by disjunction) (t ∷ us) (v ∷ ws) (joined_in disjunction disjunction_fits (length (t ∷ us))) (omega arith) (i, js) c))
+native_ends BitXor ts vs k is = with_some (Ends BitXor) ts vs k (are_in vs ts is) (λ t us v ws i js c. ends BitXor (t ∷ us) (v ∷ ws) (first_limits (t ∷ us) c) (number_row_in false (joined_by exclusive_or) (t ∷ us) (v ∷ ws) (joined_in exclusive_or xor_fits (length (t ∷ us))) (omega arith) (i, js) c))
+native_ends BitNot ts vs k is = with_one (Ends BitNot) ts vs k (are_in vs ts is) (λ t v i c. ends BitNot (t ∷ []) (v ∷ []) (first_limits (t ∷ []) c) (number_row_in false (of_one complement_value) (t ∷ []) (v ∷ []) (one_in false number_type complement_value complement_in) (omega arith) (i, tt) c))
+native_ends ShiftLeft ts vs k is = with_two (Ends ShiftLeft) ts vs k (are_in vs ts is) (λ t u v w i j c. ends ShiftLeft (t ∷ u ∷ []) (v ∷ w ∷ []) (shift_limits t u c) (shift_in shifted_left left_fits t u v w i j c))
+native_ends ShiftRight ts vs k is = with_two (Ends ShiftRight) ts vs k (are_in vs ts is) (λ t u v w i j c. ends ShiftRight (t ∷ u ∷ []) (v ∷ w ∷ []) (shift_limits t u c) (shift_in shifted_right right_fits t u v w i j c))
+native_ends Slice ts vs k is = with_three (Ends Slice) ts vs k (are_in vs ts is) (λ t u s v w x i j l c. ends Slice (t ∷ u ∷ s ∷ []) (v ∷ w ∷ x ∷ []) (slice_limits t u s c) (slice_in t u s v w x i j l c))
+native_ends ReplaceAt ts vs k is = with_three (Ends ReplaceAt) ts vs k (are_in vs ts is) (λ t u s v w x i j l c. ends ReplaceAt (t ∷ u ∷ s ∷ []) (v ∷ w ∷ x ∷ []) (replace_limits t u s c) (replace_in t u s v w x i j l c))
+native_ends EntryAt ts vs k is = with_two (Ends EntryAt) ts vs k (are_in vs ts is) (λ t u v w i j c. ends EntryAt (t ∷ u ∷ []) (v ∷ w ∷ []) (element_limits t u c) (element_in t u v w i j c))
+native_ends PlaceOf ts vs k is = with_two_of (Ends PlaceOf) ts vs k is (λ t u v w i j c. ends PlaceOf (t ∷ u ∷ []) (v ∷ w ∷ []) place_limits (index_in t u v w i.valid.size (is_in v t i) c))
+native_ends ToConsensusBuff ts vs k is = with_one_of (Ends ToConsensusBuff) ts vs k is (λ t v i c. ends ToConsensusBuff (t ∷ []) (v ∷ []) (limits (OptionalType (BuffType (type_size t))) c) (consensus_in t v i))
 
 -- and what it gives is no larger than the row's type
 pub native_small : (n : Native) (ts : List PlainType) (vs : List Tree) (v : Tree) → AreFit n ts vs → native_value n vs ≡ Gives v → size_of v ≤ type_size (native_type n ts).type

@@ -6,6 +6,7 @@ pub mod Numbers
 pub mod NumberRows
 pub mod ValueRows
 pub mod EntryRows
+pub mod LaterRows
 pub mod Tuples
 pub mod EachNative
 pub mod OtherForms

@@ -3,12 +3,12 @@ use Rattle.std.proofs.Common.{ℕ, ◌+◌, ◌≤◌, List, [], ◌∷◌, ◌&
 use Rattle.std.specs.List.{list_all}
 use Rattle.std.proofs.lemmas.Bool.{and_parts, or_cases, leb-true}
 use Rattle.cl_types.specs.Sized.{is_within, length_of}
-use Rattle.cl_types.specs.Types.{PlainType, NoType, IntType, UintType, BoolType, BuffType, AsciiType, Utf8Type, ListType, TupleType, OptionalType, size_of as type_size}
+use Rattle.cl_types.specs.Types.{PlainType, NoType, IntType, UintType, BoolType, BuffType, AsciiType, Utf8Type, ListType, TupleType, OptionalType, admits, size_of as type_size}
 use Rattle.cl_types.specs.TypeKinds.{is_int, is_uint, is_sequence, are_numbers, entry_of, resized}
 use Rattle.cl_types.proofs.Everywhere.{here}
 use Rattle.cl_types.proofs.OfKind.{int_type, uint_type}
 use Rattle.cl_values.proofs.OfTypes.{IsLimited}
-use Rattle.cl_rules.specs.NativeTypes.{fine, made, first_of, number_row, equal_row, list_row, merged, merge_row, append_row, concat_row, element_row, max_len_row}
+use Rattle.cl_rules.specs.NativeTypes.{fine, made, first_of, number_row, equal_row, list_row, merged, merge_row, append_row, concat_row, element_row, max_len_row, is_number, shift_row, slice_row, replace_row}
 use Rattle.cl_native_sound.proofs.Rulings.{IsClean, IsMade, made_fits, kind_holds, if_kind_rest}
 use Rattle.cl_native_sound.proofs.Supertypes.{lubbed_clean, lubs_clean}
 
@@ -71,3 +71,17 @@ element_limits t u c = limits (OptionalType (entry_of t)) (if_kind_rest (is_sequ
 
 pub max_len_limits : (m : ℕ) (t : PlainType) → IsClean (max_len_row m t) → IsLimited (OptionalType (resized m t))
 max_len_limits m t c = limits (OptionalType (resized m t)) (if_kind_rest (is_sequence t) (made (OptionalType (resized m t))) c)
+
+pub shift_limits : (t u : PlainType) → IsClean (shift_row t u) → IsLimited t
+shift_limits t u c =
+    let both = and_parts (is_number t) (is_uint u) (kind_holds (is_number t && is_uint u) t c) in
+    elim (or_cases (is_int t) (is_uint t) both.0) [
+      | inl h ↦ int_type IsLimited t h int_limits
+      | inr h ↦ uint_type IsLimited t h uint_limits
+    ]
+
+pub slice_limits : (t u s : PlainType) → IsClean (slice_row t u s) → IsLimited (OptionalType t)
+slice_limits t u s c = limits (OptionalType t) (if_kind_rest (is_sequence t && is_uint u && is_uint s) (made (OptionalType t)) c)
+
+pub replace_limits : (t u s : PlainType) → IsClean (replace_row t u s) → IsLimited (OptionalType t)
+replace_limits t u s c = limits (OptionalType t) (if_kind_rest (is_sequence t && is_uint u && admits (entry_of t) s) (made (OptionalType t)) c)

@@ -2,6 +2,7 @@
 use Rattle.std.proofs.Common.{◌≡◌, ◌⊎◌, inl, inr, ℕ, zero, suc, Bool, true, false, List, [], ◌∷◌, slice_get, Option, Some, None, refl, sym, ap, subst, ◌∙◌}
 use Rattle.std.specs.Prelude.{if◌then◌else◌, unwrap_or, option_map, filter_map}
 use Rattle.std.specs.List.{cons_option}
+use Rattle.cl_forms.specs.Texts.{Text}
 use Rattle.cl_types.proofs.Lattice.{keys_equal, key_same}
 use Rattle.cl_c32.specs.declared.principal.Principal.{Principal}
 use Rattle.cl_shapes.specs.declared.cost.Cost5.{Cost5}
@@ -125,7 +126,7 @@ module _ (costs : Costs) (E : Defined) where
       by (Some b) e more = by_name b e more (same (unwrap_or form.name []) x) refl
 
 -- what is told of an accepted text has each function that it defines, with its bound
-pub accepted_lines : (costs : Costs) (ks : List Known) (p : Principal) (source : List ℕ) (a : Accepted ks p costs source) (x : List ℕ) (g : Signature) → signature_in x a.defined.context.functions ≡ Some g → named_in x (filter_map (bound_line costs a.defined) a.forms) ≡ Some (cost_under costs g.bound)
+pub accepted_lines : (costs : Costs) (ks : List Known) (p : Principal) (source : Text) (a : Accepted ks p costs source) (x : List ℕ) (g : Signature) → signature_in x a.defined.context.functions ≡ Some g → named_in x (filter_map (bound_line costs a.defined) a.forms) ≡ Some (cost_under costs g.bound)
 accepted_lines costs ks p source a x g h = by (among_typed _ a.defined (forms_at a.forms a.order) a.typed.are_typed x g h)
   where
     by : (None ≡ Some g) ⊎ IsAmong x (forms_at a.forms a.order) → named_in x (filter_map (bound_line costs a.defined) a.forms) ≡ Some (cost_under costs g.bound)

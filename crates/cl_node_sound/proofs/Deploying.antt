@@ -1,5 +1,6 @@
 -- The deployment of an accepted source at a sound node comes to something, and leaves a sound node.
-use Rattle.std.proofs.Common.{◌≡◌, ℕ, List, [], ◌∷◌, ◌++◌, length, None, refl, sym, ap, subst}
+use Rattle.std.proofs.Common.{◌≡◌, [], ◌∷◌, ◌++◌, length, None, refl, sym, ap, subst}
+use Rattle.cl_forms.specs.Texts.{Text}
 use Rattle.cl_c32.specs.declared.principal.Principal.{Principal}
 use Rattle.cl_c32.specs.Address.{IsAddress}
 use Rattle.cl_shapes.specs.declared.cost.Cost5.{Cost5}
@@ -56,7 +57,7 @@ module _ (costs : Costs) (node : NodeSeen) (N : IsSoundNode costs node) where
   ended Low Reason common told known (Passed over purse) fine low reason = stopped_sound costs node N told Low AnyTree Reason over over.attempted low (reason tt)
   ended Low Reason common told known (Lost purse) fine low reason = absurd fine
 
-  pub deployment_comes : (common : Common) → IsAddress common.sender → (principal : Principal) → IsPrincipal principal → known_at principal node.known ≡ None → (source : List ℕ) (accepted : Accepted node.known principal costs source) →
+  pub deployment_comes : (common : Common) → IsAddress common.sender → (principal : Principal) → IsPrincipal principal → known_at principal node.known ≡ None → (source : Text) (accepted : Accepted node.known principal costs source) →
       Comes costs (told_of costs accepted.defined accepted.forms) (λ c. IsAtMost c (cost_under costs accepted.defined.deploy)) AnyTree (IsAtMost (cost_under costs accepted.defined.deploy) (limit_of common.limit) → ⊥) (run_deployment costs node common principal source accepted.forms accepted.defined)
   unfolding run_deployment
   deployment_comes common sender principal valid new source accepted =
@@ -64,17 +65,17 @@ module _ (costs : Costs) (node : NodeSeen) (N : IsSoundNode costs node) where
       let purse = purse_of common in
       let bound = cost_under costs accepted.defined.deploy in
       let sound = text_is_sound costs node.contracts node.known node.state (record { contracts = N.contracts; kept = N.kept }) principal valid new source accepted costs frame refl (sender, tt) (sender, tt) N.height in
-      ended (λ c. IsAtMost c bound) (IsAtMost bound (limit_of common.limit) → ⊥) common (told_of costs accepted.defined accepted.forms) (known_of principal (length source) accepted.defined) (limited costs purse (deployment node.contracts frame (of_text principal source accepted.forms) node.state))
-      (end_under (λ d t. IsNode costs (d ∷ node.contracts) (node.known ++ known_of principal (length source) accepted.defined ∷ []) t) (deployment node.contracts frame (of_text principal source accepted.forms) node.state) sound.outcome costs purse)
+      ended (λ c. IsAtMost c bound) (IsAtMost bound (limit_of common.limit) → ⊥) common (told_of costs accepted.defined accepted.forms) (known_of principal (length source.bytes) accepted.defined) (limited costs purse (deployment node.contracts frame (of_text principal source accepted.forms) node.state))
+      (end_under (λ d t. IsNode costs (d ∷ node.contracts) (node.known ++ known_of principal (length source.bytes) accepted.defined ∷ []) t) (deployment node.contracts frame (of_text principal source accepted.forms) node.state) sound.outcome costs purse)
       (at_most _ (cost costs (deployment node.contracts frame (of_text principal source accepted.forms) node.state)) bound (charged_low costs purse.limit (deployment node.contracts frame (of_text principal source accepted.forms) node.state)) sound.within)
       (λ passed enough. passes_not costs bound purse.limit (deployment node.contracts frame (of_text principal source accepted.forms) node.state) sound.within enough passed)
 
   -- what the deployment leaves
-  abbrev IsLeft : (principal : Principal) (source : List ℕ) → Accepted node.known principal costs source → Contract → State → Type 0
+  abbrev IsLeft : (principal : Principal) (source : Text) → Accepted node.known principal costs source → Contract → State → Type 0
   IsLeft principal source accepted = IsDone node.contracts (of_text principal source accepted.forms) (forms_at accepted.forms accepted.order) accepted.defined
 
   -- the contract that it gives has a value of its type for each constant
-  pub constants_bound : (common : Common) → IsAddress common.sender → (principal : Principal) → IsPrincipal principal → known_at principal node.known ≡ None → (source : List ℕ) (accepted : Accepted node.known principal costs source) → (c : Contract) (s : State) (purse : Purse) →
+  pub constants_bound : (common : Common) → IsAddress common.sender → (principal : Principal) → IsPrincipal principal → known_at principal node.known ≡ None → (source : Text) (accepted : Accepted node.known principal costs source) → (c : Contract) (s : State) (purse : Purse) →
       limited costs (purse_of common) (deployment node.contracts (frame_of node common.sender principal) (of_text principal source accepted.forms) node.state) ≡ Gave c s purse → AreBound accepted.defined.context.constants c.constants
   constants_bound common sender principal valid new source accepted c s purse is =
       let frame = frame_of node common.sender principal in

@@ -2,6 +2,8 @@
 use Rattle.std.proofs.Common.{◌≡◌, ℕ, List, [], ◌∷◌, Option, Some, None, refl, sym, ap, subst, ◌∙◌, arith}
 use Rattle.std.specs.List.{All}
 use Rattle.std.proofs.lemmas.List.Elements.{All-head, All-tail}
+use Rattle.cl_forms.specs.declared.version.Version.{Version}
+use Rattle.cl_forms.specs.Texts.{text_of}
 use Rattle.cl_c32.specs.declared.principal.Principal.{Principal}
 use Rattle.cl_shapes.specs.declared.cost.Cost5.{Cost5}
 use Rattle.cl_shapes.specs.Costs.{IsAtMost}
@@ -40,10 +42,10 @@ pub sound_stays : (costs : Costs) (node : NodeSeen) (entry : Entry) (s : Stepped
 sound_stays costs node (Call common contract function args) s parts N x =
     let c = call_comes costs node N common parts.0 contract parts.1 function args parts.2 in
     subst (λ (s : Stepped). IsSoundNode costs s.node) (some_same c.step s (sym c.is ∙ x)) c.sound
-sound_stays costs node (Deploy common name source) s parts N (name_taken known e is) = subst (λ (s : Stepped). IsSoundNode costs s.node) (sym is) N
-sound_stays costs node (Deploy common name source) s parts N (source_refused rule span names e b is) = subst (λ (s : Stepped). IsSoundNode costs s.node) (sym is) N
-sound_stays costs node (Deploy common name source) s parts N (evaluated new accepted is) =
-    let c = deployment_comes costs node N common parts.0 (contract_of common.sender name) (parts.0, parts.1) new source accepted in
+sound_stays costs node (Deploy common name source version) s parts N (name_taken known e is) = subst (λ (s : Stepped). IsSoundNode costs s.node) (sym is) N
+sound_stays costs node (Deploy common name source version) s parts N (source_refused rule span names e b is) = subst (λ (s : Stepped). IsSoundNode costs s.node) (sym is) N
+sound_stays costs node (Deploy common name source version) s parts N (evaluated new accepted is) =
+    let c = deployment_comes costs node N common parts.0 (contract_of common.sender name) (parts.0, parts.1) new (text_of source version) accepted in
     subst (λ (s : Stepped). IsSoundNode costs s.node) (some_same c.step s (sym c.is ∙ is)) c.sound
 sound_stays costs node (Block height) s parts N x =
     subst (λ (s : Stepped). IsSoundNode costs s.node) (sym x) (record { contracts = N.contracts; kept = N.kept; height = omega (arith, parts); no_events = N.no_events; no_moves = N.no_moves })
@@ -60,14 +62,14 @@ calls_step costs node common contract function args parts N =
     let c = call_comes costs node N common parts.0 contract parts.1 function args parts.2 in
     (c.step, c.is)
 
-pub deployments_step : (costs : Costs) (node : NodeSeen) (common : Common) (name source : List ℕ) → HasParts (Deploy common name source) → IsSoundNode costs node → known_at (contract_of common.sender name) node.known ≡ None → Accepted node.known (contract_of common.sender name) costs source → (s : Stepped) × Steps costs node (Deploy common name source) s
-deployments_step costs node common name source parts N new accepted =
-    let c = deployment_comes costs node N common parts.0 (contract_of common.sender name) (parts.0, parts.1) new source accepted in
+pub deployments_step : (costs : Costs) (node : NodeSeen) (common : Common) (name source : List ℕ) (version : Version) → HasParts (Deploy common name source version) → IsSoundNode costs node → known_at (contract_of common.sender name) node.known ≡ None → Accepted node.known (contract_of common.sender name) costs (text_of source version) → (s : Stepped) × Steps costs node (Deploy common name source version) s
+deployments_step costs node common name source version parts N new accepted =
+    let c = deployment_comes costs node N common parts.0 (contract_of common.sender name) (parts.0, parts.1) new (text_of source version) accepted in
     (c.step, evaluated new accepted c.is)
 
 pub deployed_constants : DeployedHaveConstants
-deployed_constants costs node common name source parts N new accepted c s purse is x v =
-    typed_under accepted.defined.context.constants c.constants x v (constants_bound costs node N common parts.0 (contract_of common.sender name) (parts.0, parts.1) new source accepted c s purse is)
+deployed_constants costs node common name source version parts N new accepted c s purse is x v =
+    typed_under accepted.defined.context.constants c.constants x v (constants_bound costs node N common parts.0 (contract_of common.sender name) (parts.0, parts.1) new (text_of source version) accepted c s purse is)
 
 -- ---- costs and limits
 
@@ -112,19 +114,19 @@ pub record TellsBounds (costs : Costs) (limit : Cost5) (bounds : Bounds) (s : St
   pub charged : (cost : Cost5) → s.result.cost ≡ Some cost → IsAtMost cost bounds.deploy
   pub stopped : IsStopped s.result.outcome → IsAtMost bounds.deploy limit → ⊥
 
-module _ (costs : Costs) (node : NodeSeen) (common : Common) (name source : List ℕ) (s : Stepped) (parts : HasParts (Deploy common name source)) (N : IsSoundNode costs node) where
+module _ (costs : Costs) (node : NodeSeen) (common : Common) (name source : List ℕ) (version : Version) (s : Stepped) (parts : HasParts (Deploy common name source version)) (N : IsSoundNode costs node) where
   -- of an accepted source
-  pub evaluated_tells : (new : known_at (contract_of common.sender name) node.known ≡ None) (accepted : Accepted node.known (contract_of common.sender name) costs source) → run_deployment costs node common (contract_of common.sender name) source accepted.forms accepted.defined ≡ Some s →
+  pub evaluated_tells : (new : known_at (contract_of common.sender name) node.known ≡ None) (accepted : Accepted node.known (contract_of common.sender name) costs (text_of source version)) → run_deployment costs node common (contract_of common.sender name) (text_of source version) accepted.forms accepted.defined ≡ Some s →
       s.result.bounds ≡ (told_of costs accepted.defined accepted.forms).bounds
   evaluated_tells new accepted is =
-      let d = deployment_comes costs node N common parts.0 (contract_of common.sender name) (parts.0, parts.1) new source accepted in
+      let d = deployment_comes costs node N common parts.0 (contract_of common.sender name) (parts.0, parts.1) new (text_of source version) accepted in
       ap (λ (s : Stepped). s.result.bounds) (some_same s d.step (sym is ∙ d.is)) ∙ d.tells
 
-  tells : Steps costs node (Deploy common name source) s → (bounds : Bounds) → s.result.bounds ≡ Some bounds → TellsBounds costs (limit_of common.limit) bounds s
+  tells : Steps costs node (Deploy common name source version) s → (bounds : Bounds) → s.result.bounds ≡ Some bounds → TellsBounds costs (limit_of common.limit) bounds s
   tells (name_taken known e is) bounds b = no_bounds s.result.bounds bounds (TellsBounds costs (limit_of common.limit) bounds s) (ap (λ (s : Stepped). s.result.bounds) is) b
   tells (source_refused rule span names e f is) bounds b = no_bounds s.result.bounds bounds (TellsBounds costs (limit_of common.limit) bounds s) (ap (λ (s : Stepped). s.result.bounds) is) b
   tells (evaluated new accepted is) bounds b =
-      let d = deployment_comes costs node N common parts.0 (contract_of common.sender name) (parts.0, parts.1) new source accepted in
+      let d = deployment_comes costs node N common parts.0 (contract_of common.sender name) (parts.0, parts.1) new (text_of source version) accepted in
       let same : d.step ≡ s = some_same d.step s (sym d.is ∙ is) in
       let bound : cost_under costs accepted.defined.deploy ≡ bounds.deploy = ap (λ (b : Bounds). b.deploy) (same_bounds _ bounds (sym (evaluated_tells new accepted is) ∙ b)) in
       record {
@@ -132,8 +134,8 @@ module _ (costs : Costs) (node : NodeSeen) (common : Common) (name source : List
         stopped = λ h low. d.stopped (subst (λ (s : Stepped). IsStopped s.result.outcome) (sym same) h) (subst (λ b. IsAtMost b (limit_of common.limit)) (sym bound) low);
       }
 
-  pub deployments_within : Steps costs node (Deploy common name source) s → (cost : Cost5) (bounds : Bounds) → s.result.cost ≡ Some cost → s.result.bounds ≡ Some bounds → IsAtMost cost bounds.deploy
+  pub deployments_within : Steps costs node (Deploy common name source version) s → (cost : Cost5) (bounds : Bounds) → s.result.cost ≡ Some cost → s.result.bounds ≡ Some bounds → IsAtMost cost bounds.deploy
   deployments_within x cost bounds c b = (tells x bounds b).charged cost c
 
-  pub deployments_not_stopped : Steps costs node (Deploy common name source) s → (bounds : Bounds) → s.result.bounds ≡ Some bounds → IsAtMost bounds.deploy (limit_of common.limit) → IsStopped s.result.outcome → ⊥
+  pub deployments_not_stopped : Steps costs node (Deploy common name source version) s → (bounds : Bounds) → s.result.bounds ≡ Some bounds → IsAtMost bounds.deploy (limit_of common.limit) → IsStopped s.result.outcome → ⊥
   deployments_not_stopped x bounds b low h = (tells x bounds b).stopped h low

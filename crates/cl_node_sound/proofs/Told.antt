@@ -3,6 +3,8 @@ use Rattle.std.proofs.Common.{◌≡◌, ◌⊎◌, inl, inr, ℕ, Bool, true, f
 use Rattle.std.specs.Prelude.{if◌then◌else◌, filter_map}
 use Rattle.std.specs.List.{All}
 use Rattle.std.proofs.lemmas.List.Elements.{All-head, All-tail}
+use Rattle.cl_forms.specs.declared.version.Version.{Version}
+use Rattle.cl_forms.specs.Texts.{Text, text_of}
 use Rattle.cl_c32.specs.declared.principal.Principal.{Principal}
 use Rattle.cl_c32.proofs.Principals.{principals_equal, principal_itself}
 use Rattle.cl_shapes.specs.declared.cost.Cost5.{Cost5}
@@ -114,16 +116,16 @@ module _ (costs : Costs) where
     ended_stays common (Passed over purse) s e = then_told _ s (none_deployed node.known told T p now.bounds new) e
     ended_stays common (Lost purse) s e = absurd cc
 
-  deployed_stay : (node : NodeSeen) (common : Common) (p : Principal) (source : List ℕ) (s : Stepped) (told : ToldLast) → AreTold node.known told → DeploySteps costs node common p source s → Stays node told p s
+  deployed_stay : (node : NodeSeen) (common : Common) (p : Principal) (source : Text) (s : Stepped) (told : ToldLast) → AreTold node.known told → DeploySteps costs node common p source s → Stays node told p s
   unfolding run_deployment
   deployed_stay node common p source s told T (name_taken known e is) = subst (Stays node told p) (sym is) (nothing_more node.known told T p)
   deployed_stay node common p source s told T (source_refused rule span names e b is) = subst (Stays node told p) (sym is) (nothing_more node.known told T p)
   deployed_stay node common p source s told T (evaluated new accepted is) =
-      ended_stays node told T p new (told_of costs accepted.defined accepted.forms) (known_of p (length source) accepted.defined) refl (bounds_of costs accepted.defined accepted.forms) refl
+      ended_stays node told T p new (told_of costs accepted.defined accepted.forms) (known_of p (length source.bytes) accepted.defined) refl (bounds_of costs accepted.defined accepted.forms) refl
       (record { bounds = bounds_of costs accepted.defined accepted.forms; is = refl; lines = accepted_lines costs node.known p source accepted }) common _ s is
 
   told_stay : (node : NodeSeen) (entry : Entry) (s : Stepped) (told : ToldLast) → AreTold node.known told → Steps costs node entry s → AreTold s.node.known (told_after told entry s.result)
-  told_stay node (Deploy common name source) s told T x = deployed_stay node common (contract_of common.sender name) source s told T x
+  told_stay node (Deploy common name source version) s told T x = deployed_stay node common (contract_of common.sender name) (text_of source version) s told T x
   told_stay node (Call common contract function args) s told T x = subst (λ ks. AreTold ks told) (sym (call_keeps node costs common contract args function s x)) T
   told_stay node (Block height) s told T x = subst (λ (z : Stepped). AreTold z.node.known told) (sym x) T
 
@@ -132,16 +134,16 @@ module _ (costs : Costs) where
   no_cost : (o : Option Cost5) (cost : Cost5) (P : Type 0) → o ≡ None → o ≡ Some cost → P
   no_cost o cost P e h = let f : None ≡ Some cost = sym e ∙ h in absurd cc
 
-  within_own : (node : NodeSeen) (common : Common) (name source : List ℕ) (s : Stepped) → HasParts (Deploy common name source) → IsSoundNode costs node → Steps costs node (Deploy common name source) s → (cost : Cost5) → s.result.cost ≡ Some cost → IsWithinOwn s.result cost
-  within_own node common name source s parts N (name_taken known e is) cost c = no_cost s.result.cost cost (IsWithinOwn s.result cost) (ap (λ (z : Stepped). z.result.cost) is) c
-  within_own node common name source s parts N (source_refused rule span names e b is) cost c = no_cost s.result.cost cost (IsWithinOwn s.result cost) (ap (λ (z : Stepped). z.result.cost) is) c
-  within_own node common name source s parts N (evaluated new accepted is) cost c =
-      let told = evaluated_tells costs node common name source s parts N new accepted is in
+  within_own : (node : NodeSeen) (common : Common) (name source : List ℕ) (version : Version) (s : Stepped) → HasParts (Deploy common name source version) → IsSoundNode costs node → Steps costs node (Deploy common name source version) s → (cost : Cost5) → s.result.cost ≡ Some cost → IsWithinOwn s.result cost
+  within_own node common name source version s parts N (name_taken known e is) cost c = no_cost s.result.cost cost (IsWithinOwn s.result cost) (ap (λ (z : Stepped). z.result.cost) is) c
+  within_own node common name source version s parts N (source_refused rule span names e b is) cost c = no_cost s.result.cost cost (IsWithinOwn s.result cost) (ap (λ (z : Stepped). z.result.cost) is) c
+  within_own node common name source version s parts N (evaluated new accepted is) cost c =
+      let told = evaluated_tells costs node common name source version s parts N new accepted is in
       let bounds = bounds_of costs accepted.defined accepted.forms in
-      record { bounds = bounds; are_told = told; low = deployments_within costs node common name source s parts N (evaluated new accepted is) cost bounds c told }
+      record { bounds = bounds; are_told = told; low = deployments_within costs node common name source version s parts N (evaluated new accepted is) cost bounds c told }
 
   within : (node : NodeSeen) (entry : Entry) (s : Stepped) (told : ToldLast) → HasParts entry → IsSoundNode costs node → AreTold node.known told → Steps costs node entry s → IsChargedWithin told entry s.result
-  within node (Deploy common name source) s told parts N T x = λ cost e. within_own node common name source s parts N x cost e
+  within node (Deploy common name source version) s told parts N T x = λ cost e. within_own node common name source version s parts N x cost e
   within node (Call common contract function args) s told parts N T x = λ cost e.
       let w = calls_within costs node common contract function args s parts N x cost e in
       let own = T.each contract w.known w.there in
@@ -151,7 +153,7 @@ module _ (costs : Costs) where
   -- ---- limits
 
   not_stopped : (node : NodeSeen) (entry : Entry) (s : Stepped) (told : ToldLast) → HasParts entry → IsSoundNode costs node → AreTold node.known told → Steps costs node entry s → IsNotStopped told entry s.result
-  not_stopped node (Deploy common name source) s told parts N T x = deployments_not_stopped costs node common name source s parts N x
+  not_stopped node (Deploy common name source version) s told parts N T x = deployments_not_stopped costs node common name source version s parts N x
   not_stopped node (Call common contract function args) s told parts N T x = λ bounds bound are_told line low h.
       let above = bound_above costs node common contract function args s parts N x h in
       let own = T.each contract above.known above.there in

@@ -1,6 +1,8 @@
 -- Nodes stay sound, and entries come to something.
 use Rattle.std.specs.Prelude.{◌≡◌, ℕ, List, Some, None}
 use Rattle.std.specs.List.{All}
+use Rattle.cl_forms.specs.declared.version.Version.{Version}
+use Rattle.cl_forms.specs.Texts.{text_of}
 use Rattle.cl_c32.specs.declared.principal.Principal.{Principal}
 use Rattle.cl_shapes.specs.declared.cost.Cost5.{Cost5}
 use Rattle.cl_shapes.specs.Costs.{IsAtMost}
@@ -47,8 +49,8 @@ CallsStayWithin =
 -- and what a deployment is charged is at most the bound that is told with it
 abbrev pub DeploymentsStayWithin : Type 0
 DeploymentsStayWithin =
-    (costs : Costs) (node : NodeSeen) (common : Common) (name source : List ℕ) (s : Stepped) → HasParts (Deploy common name source) → IsSoundNode costs node →
-    Steps costs node (Deploy common name source) s → (cost : Cost5) (bounds : Bounds) → s.result.cost ≡ Some cost → s.result.bounds ≡ Some bounds → IsAtMost cost bounds.deploy
+    (costs : Costs) (node : NodeSeen) (common : Common) (name source : List ℕ) (version : Version) (s : Stepped) → HasParts (Deploy common name source version) → IsSoundNode costs node →
+    Steps costs node (Deploy common name source version) s → (cost : Cost5) (bounds : Bounds) → s.result.cost ≡ Some cost → s.result.bounds ≡ Some bounds → IsAtMost cost bounds.deploy
 
 -- of a file no entry is charged above the bound that was told last
 abbrev pub RunsStayWithin : Type 0
@@ -66,8 +68,8 @@ CallsAreNotStopped =
 -- nor is a deployment whose limit is no less than the bound that is told with it
 abbrev pub DeploymentsAreNotStopped : Type 0
 DeploymentsAreNotStopped =
-    (costs : Costs) (node : NodeSeen) (common : Common) (name source : List ℕ) (s : Stepped) → HasParts (Deploy common name source) → IsSoundNode costs node →
-    Steps costs node (Deploy common name source) s → (bounds : Bounds) → s.result.bounds ≡ Some bounds → IsAtMost bounds.deploy (limit_of common.limit) → IsStopped s.result.outcome → ⊥
+    (costs : Costs) (node : NodeSeen) (common : Common) (name source : List ℕ) (version : Version) (s : Stepped) → HasParts (Deploy common name source version) → IsSoundNode costs node →
+    Steps costs node (Deploy common name source version) s → (bounds : Bounds) → s.result.bounds ≡ Some bounds → IsAtMost bounds.deploy (limit_of common.limit) → IsStopped s.result.outcome → ⊥
 
 -- nor is an entry of a file whose limit is no less than the bound that was told last
 abbrev pub RunsAreNotStopped : Type 0
@@ -84,9 +86,9 @@ CallsStep =
 -- and so does each deployment of an accepted source
 abbrev pub DeploymentsStep : Type 0
 DeploymentsStep =
-    (costs : Costs) (node : NodeSeen) (common : Common) (name source : List ℕ) → HasParts (Deploy common name source) → IsSoundNode costs node →
-    known_at (contract_of common.sender name) node.known ≡ None → Accepted node.known (contract_of common.sender name) costs source →
-    (s : Stepped) × Steps costs node (Deploy common name source) s
+    (costs : Costs) (node : NodeSeen) (common : Common) (name source : List ℕ) (version : Version) → HasParts (Deploy common name source version) → IsSoundNode costs node →
+    known_at (contract_of common.sender name) node.known ≡ None → Accepted node.known (contract_of common.sender name) costs (text_of source version) →
+    (s : Stepped) × Steps costs node (Deploy common name source version) s
 
 -- the value that a call gives, an ok and an err as responses, is of the type that its function returns
 abbrev pub CallsAreTyped : Type 0
@@ -97,9 +99,9 @@ CallsAreTyped =
 -- each value that the deployment of an accepted source gives is of the type of the constant of its name
 abbrev pub DeployedHaveConstants : Type 0
 DeployedHaveConstants =
-    (costs : Costs) (node : NodeSeen) (common : Common) (name source : List ℕ) → HasParts (Deploy common name source) → IsSoundNode costs node →
-    known_at (contract_of common.sender name) node.known ≡ None → (accepted : Accepted node.known (contract_of common.sender name) costs source) → (c : Contract) (s : State) (purse : Purse) →
-    limited costs (purse_of common) (deployment node.contracts (frame_of node common.sender (contract_of common.sender name)) (contract_with (contract_of common.sender name) source accepted.forms) node.state) ≡ Gave c s purse →
+    (costs : Costs) (node : NodeSeen) (common : Common) (name source : List ℕ) (version : Version) → HasParts (Deploy common name source version) → IsSoundNode costs node →
+    known_at (contract_of common.sender name) node.known ≡ None → (accepted : Accepted node.known (contract_of common.sender name) costs (text_of source version)) → (c : Contract) (s : State) (purse : Purse) →
+    limited costs (purse_of common) (deployment node.contracts (frame_of node common.sender (contract_of common.sender name)) (contract_with (contract_of common.sender name) (text_of source version) accepted.forms) node.state) ≡ Gave c s purse →
     (x : List ℕ) (v : Tree) → value_of x c.constants ≡ Some v → IsTypedUnder accepted.defined.context.constants x v
 
 -- where no contract is deployed there is no token of one

@@ -60,7 +60,7 @@ pub record IsTypedUnder (types : Names) (x : List ℕ) (v : Tree) : Type 0 where
 
 -- principals and values of an entry are within the limits, and its height has 64 bits, as the types of the code keep them
 abbrev pub HasParts : Entry → Type 0
-HasParts (Deploy common name source) = IsAddress common.sender × IsContractName name
+HasParts (Deploy common name source version) = IsAddress common.sender × IsContractName name
 HasParts (Call common contract function args) = IsAddress common.sender × IsPrincipal contract × All IsVal args
 HasParts (Block height) = height < 2 ^ 64
 

@@ -29,7 +29,7 @@ or_before None before = before
 
 -- after an entry with this result: a deployment may tell the bounds of its contract
 abbrev pub told_after : ToldLast → Entry → TxResult → Principal → Option Bounds
-told_after told (Deploy common name source) r p = if same_principal (contract_of common.sender name) p then or_before r.bounds (told p) else told p
+told_after told (Deploy common name source version) r p = if same_principal (contract_of common.sender name) p then or_before r.bounds (told p) else told p
 told_after told (Call common contract function args) r p = told p
 told_after told (Block height) r p = told p
 
@@ -57,7 +57,7 @@ pub record IsWithinOwn (r : TxResult) (cost : Cost5) : Type 0 where
 
 -- what an entry is charged, aborted or not; a call at most the bound that was told last for its function, a block nothing
 abbrev pub IsChargedWithin : ToldLast → Entry → TxResult → Type 0
-IsChargedWithin told (Deploy common name source) r = (cost : Cost5) → r.cost ≡ Some cost → IsWithinOwn r cost
+IsChargedWithin told (Deploy common name source version) r = (cost : Cost5) → r.cost ≡ Some cost → IsWithinOwn r cost
 IsChargedWithin told (Call common contract function args) r = (cost : Cost5) → r.cost ≡ Some cost → IsWithinTold (told contract) function cost
 IsChargedWithin told (Block height) r = r.cost ≡ None
 
@@ -74,7 +74,7 @@ IsStopped outcome = ⊥
 -- an entry isn't stopped by a limit that in each dimension is no less than its bound: of a call that which was told last for its
 -- function, of a deployment that which is told with it
 abbrev pub IsNotStopped : ToldLast → Entry → TxResult → Type 0
-IsNotStopped told (Deploy common name source) r = (bounds : Bounds) → r.bounds ≡ Some bounds → IsAtMost bounds.deploy (limit_of common.limit) → IsStopped r.outcome → ⊥
+IsNotStopped told (Deploy common name source version) r = (bounds : Bounds) → r.bounds ≡ Some bounds → IsAtMost bounds.deploy (limit_of common.limit) → IsStopped r.outcome → ⊥
 IsNotStopped told (Call common contract function args) r =
     (bounds : Bounds) (bound : Cost5) → told contract ≡ Some bounds → named_in function bounds.functions ≡ Some bound → IsAtMost bound (limit_of common.limit) → IsStopped r.outcome → ⊥
 IsNotStopped told (Block height) r = IsStopped r.outcome → ⊥

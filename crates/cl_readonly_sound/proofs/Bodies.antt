@@ -7,6 +7,7 @@ use Rattle.cl_types.specs.declared.sized.Access.{Access}
 use Rattle.cl_types.proofs.Lattice.{keys_equal}
 use Rattle.cl_c32.specs.declared.principal.Principal.{Principal}
 use Rattle.cl_sexpr.specs.Tree.{Tree}
+use Rattle.cl_forms.specs.declared.version.Version.{Version}
 use Rattle.cl_forms.specs.Forms.{Form, FormKind, ConstantForm, VariableForm, MapForm, FungibleForm, NonFungibleForm, FunctionForm, ExpressionForm}
 use Rattle.cl_forms.specs.Order.{IsGoodOrder}
 use Rattle.cl_forms.specs.Shapes.{trees_of}
@@ -79,33 +80,34 @@ function_there x forms f h = by (form_of x forms) refl h
 
 -- ---- bodies
 
--- a body is typed in a context of this contract, after these
-pub record IsBody (p : Principal) (before : List Known) (params : List (List ℕ × PlainType)) (body : Tree) : Type 0 where
+-- a body is typed in a context of this contract and of this version, after these
+pub record IsBody (p : Principal) (version : Version) (before : List Known) (params : List (List ℕ × PlainType)) (body : Tree) : Type 0 where
   pub context : Context
   pub found : Found
   pub typed : Typed context params body found
   pub principal : context.principal ≡ p
+  pub version_is : context.version ≡ version
   pub deployed : context.deployed ≡ before
 
-same_home : (G : Context) (name : List ℕ) (kind : FormKind) (fs : List Found) → ((context_after G name kind fs).principal ≡ G.principal) × ((context_after G name kind fs).deployed ≡ G.deployed)
-same_home G name (ConstantForm e) (f ∷ fs) = (refl, refl)
-same_home G name (ConstantForm e) [] = (refl, refl)
-same_home G name (VariableForm u e) fs = (refl, refl)
-same_home G name (MapForm k v) fs = (refl, refl)
-same_home G name (FungibleForm supply) fs = (refl, refl)
-same_home G name (NonFungibleForm u) fs = (refl, refl)
-same_home G name (FunctionForm access params body) (f ∷ fs) = (refl, refl)
-same_home G name (FunctionForm access params body) [] = (refl, refl)
-same_home G name (ExpressionForm e) fs = (refl, refl)
+same_home : (G : Context) (name : List ℕ) (kind : FormKind) (fs : List Found) → ((context_after G name kind fs).principal ≡ G.principal) × ((context_after G name kind fs).version ≡ G.version) × ((context_after G name kind fs).deployed ≡ G.deployed)
+same_home G name (ConstantForm e) (f ∷ fs) = (refl, refl, refl)
+same_home G name (ConstantForm e) [] = (refl, refl, refl)
+same_home G name (VariableForm u e) fs = (refl, refl, refl)
+same_home G name (MapForm k v) fs = (refl, refl, refl)
+same_home G name (FungibleForm supply) fs = (refl, refl, refl)
+same_home G name (NonFungibleForm u) fs = (refl, refl, refl)
+same_home G name (FunctionForm access params body) (f ∷ fs) = (refl, refl, refl)
+same_home G name (FunctionForm access params body) [] = (refl, refl, refl)
+same_home G name (ExpressionForm e) fs = (refl, refl, refl)
 
 module _ (c : Contract) (x : List ℕ) (access : Access) (params : List (List ℕ × PlainType)) (body : Tree) (is : form_of x c.forms ≡ Some (FunctionForm access params body)) where
-  here_typed : (D : Defined) (kind : FormKind) (fs : List Found) → kind ≡ FunctionForm access params body → Follows D.context (form_plan kind) fs → IsBody D.context.principal D.context.deployed params body
+  here_typed : (D : Defined) (kind : FormKind) (fs : List Found) → kind ≡ FunctionForm access params body → Follows D.context (form_plan kind) fs → IsBody D.context.principal D.context.version D.context.deployed params body
   here_typed D kind fs e follows = by fs (subst (λ kind. Follows D.context (form_plan kind) fs) e follows)
     where
-      by : (fs : List Found) → Follows D.context (form_plan (FunctionForm access params body)) fs → IsBody D.context.principal D.context.deployed params body
-      by _ (part {f = f} t ends) = record { context = D.context; found = f; typed = t; principal = refl; deployed = refl }
+      by : (fs : List Found) → Follows D.context (form_plan (FunctionForm access params body)) fs → IsBody D.context.principal D.context.version D.context.deployed params body
+      by _ (part {f = f} t ends) = record { context = D.context; found = f; typed = t; principal = refl; version_is = refl; deployed = refl }
 
-  body_among : (D E : Defined) (forms : List Form) → AreItsForms c forms → FormsTyped D forms E → IsAmong x forms → IsBody D.context.principal D.context.deployed params body
+  body_among : (D E : Defined) (forms : List Form) → AreItsForms c forms → FormsTyped D forms E → IsAmong x forms → IsBody D.context.principal D.context.version D.context.deployed params body
   body_among D E [] its t among = absurd among
   body_among D E (form ∷ forms) its (one_more {E = F} (form_typed fs follows sound after) later) (inr among) =
       let more = body_among F E forms its.2 later among in
@@ -115,7 +117,8 @@ module _ (c : Contract) (x : List ℕ) (access : Access) (params : List (List �
         found = more.found;
         typed = more.typed;
         principal = more.principal ∙ ap (λ (F : Defined). F.context.principal) (sym after) ∙ same.0;
-        deployed = more.deployed ∙ ap (λ (F : Defined). F.context.deployed) (sym after) ∙ same.1;
+        version_is = more.version_is ∙ ap (λ (F : Defined). F.context.version) (sym after) ∙ same.1;
+        deployed = more.deployed ∙ ap (λ (F : Defined). F.context.deployed) (sym after) ∙ same.2;
       }
   body_among D E (form ∷ forms) its (one_more {E = F} (form_typed fs follows sound after) later) (inl among) =
       here_typed D form.kind fs (same_kind form.kind (FunctionForm access params body) (sym (its.0 among.0) ∙ ap (λ y. form_of y c.forms) among.1 ∙ is)) follows
@@ -123,11 +126,11 @@ module _ (c : Contract) (x : List ℕ) (access : Access) (params : List (List �
       same_kind : (k l : FormKind) → Some k ≡ Some l → k ≡ l
       same_kind k l e = cc
 
-pub body_typed : (costs : CostTable) (before : List Known) (c : Contract) (k : Known) → IsOfText costs before c k → (x : List ℕ) (f : Function) → function_in x c.forms ≡ Some f → IsBody c.principal before f.params f.body
+pub body_typed : (costs : CostTable) (before : List Known) (c : Contract) (k : Known) → (h : IsOfText costs before c k) → (x : List ℕ) (f : Function) → function_in x c.forms ≡ Some f → IsBody c.principal h.text.version before f.params f.body
 body_typed costs before c k h x f there =
     let o = h.accepted.typed.is_ordered in
     let form = (function_there x c.forms f there).form in
     let its = text_forms before costs h.text c h.accepted h.forms in
-    let all = all_at (trees_of o.items) c (subst (AreFormsOf (trees_of o.items)) (sym h.forms) o.are_forms) h.accepted.order (subst (λ fs. IsGoodOrder fs h.accepted.order) (sym h.forms) (order_good h.accepted.forms h.accepted.order o.order_is)) in
+    let all = all_at (trees_of o.items) c (subst (AreFormsOf h.text.version (trees_of o.items)) (sym h.forms) o.are_forms) h.accepted.order (subst (λ fs. IsGoodOrder fs h.accepted.order) (sym h.forms) (order_good h.accepted.forms h.accepted.order o.order_is)) in
     let among = subst (λ fs. IsAmong x (forms_at fs h.accepted.order)) h.forms (all x (FunctionForm f.access f.params f.body) form) in
     body_among c x f.access f.params f.body form _ h.accepted.defined (forms_at h.accepted.forms h.accepted.order) its h.accepted.typed.are_typed among

@@ -9,12 +9,14 @@ use Rattle.cl_values.specs.declared.native.Native.TheVariants.{Add}
 use Rattle.cl_forms.specs.declared.head.TokenNative.TheVariants.{MintFt}
 use Rattle.cl_forms.specs.declared.head.Head.{Head}
 use Rattle.cl_forms.specs.declared.head.Head.TheVariants.{OnValues, OnToken, TupleOf, ContractCall}
-use Rattle.cl_forms.specs.Heads.{row_of, native, is_reserved}
+use Rattle.cl_forms.specs.declared.version.Version.{Version}
+use Rattle.cl_forms.specs.declared.version.Version.TheVariants.{One, Two}
+use Rattle.cl_forms.specs.Heads.{row_of, native, words, is_reserved}
 use Rattle.cl_forms.specs.HeadNames.{name_of}
 use Rattle.cl_forms.specs.Names.{same, is_one_of}
 use Rattle.cl_forms.specs.Shapes.{trees_of, binding_of, bindings_of, and_binding}
 use Rattle.cl_forms.specs.Writes.{writing_natives, applying_natives, Call, calls_in, calls_of_list, calls_behind}
-use Rattle.cl_meaning.specs.Deployed.{Deployed, Function, contract_at, function_of}
+use Rattle.cl_meaning.specs.Deployed.{Deployed, Function, contract_at, native_of, function_of}
 use Rattle.cl_rules.specs.Faults.{shape_rules}
 use Rattle.cl_rules.specs.Context.{Context, Names, bind, is_taken, is_top_level, is_named}
 use Rattle.cl_rules.specs.Verdicts.{Found}
@@ -39,27 +41,29 @@ tuple_alone (OnToken MintFt) = refl
 tuple_alone (OnToken act) = refl
 tuple_alone head = refl
 
-tuple_reserved : is_reserved (codes "tuple") ≡ true
-unfolding is_reserved
-tuple_reserved = refl
+tuple_reserved : (version : Version) → is_reserved version (codes "tuple") ≡ true
+unfolding words is_reserved
+tuple_reserved One = refl
+tuple_reserved Two = refl
 
 -- a name that is not reserved isn't that of tuple
-not_tuple : (x : List ℕ) → is_reserved x ≡ false → same x (codes "tuple") ≡ false
-not_tuple x h = by (same x (codes "tuple")) refl
+not_tuple : (version : Version) (x : List ℕ) → is_reserved version x ≡ false → same x (codes "tuple") ≡ false
+not_tuple version x h = by (same x (codes "tuple")) refl
   where
     by : (b : Bool) → same x (codes "tuple") ≡ b → b ≡ false
-    by true e = sym tuple_reserved ∙ ap is_reserved (sym (keys_equal x (codes "tuple") e)) ∙ h
+    by true e = sym (tuple_reserved version) ∙ ap (is_reserved version) (sym (keys_equal x (codes "tuple") e)) ∙ h
     by false e = refl
 
-pub tuple_is_native : (x : List ℕ) → native x ≡ None → same x (codes "tuple") ≡ false
+pub tuple_is_native : (version : Version) (x : List ℕ) → native version x ≡ None → same x (codes "tuple") ≡ false
 unfolding native
-tuple_is_native x h = by (same x (codes "tuple")) refl
+tuple_is_native version x h = by (same x (codes "tuple")) refl
   where
-    none_found : native (codes "tuple") ≡ None → true ≡ false
-    none_found h = absurd cc
+    none_found : (version : Version) → native version (codes "tuple") ≡ None → true ≡ false
+    none_found One h = absurd cc
+    none_found Two h = absurd cc
 
     by : (b : Bool) → same x (codes "tuple") ≡ b → b ≡ false
-    by true e = none_found (ap native (sym (keys_equal x (codes "tuple") e)) ∙ h)
+    by true e = none_found version (ap (native version) (sym (keys_equal x (codes "tuple") e)) ∙ h)
     by false e = refl
 
 module _ (Apart : Call → Type 0) where
@@ -96,8 +100,10 @@ module _ (Apart : Call → Type 0) where
   binding_each x e false is h = all_front (calls_in e) [] h
   binding_each x e true is h = absurd cc
 
--- What is known of the calls in the code of a contract, in a context of it: where a call doesn't write, what it calls is quiet.
+-- What is known of the calls in the code of a contract, in a context of it: natives are those of its text's version, and where a
+-- call doesn't write, what it calls is quiet.
 pub record CallsAreQuiet (W : Deployed) (Q : Principal → Function → Type 0) (p : Principal) (G : Context) (Apart : Call → Type 0) : Type 0 where
+  pub versions : (x : List ℕ) → native_of x (contract_at p W) ≡ native G.version x
   pub natives : (x : List ℕ) (es : Forest) → Apart (record { operator = x; parts = es }) → is_one_of writing_natives x ≡ true → ⊥
   pub functions : (x : List ℕ) (es : Forest) → Apart (record { operator = x; parts = es }) → IsQuietOne W Q p (function_of x (contract_at p W))
   pub uses : (x : List ℕ) (es : Forest) → Apart (record { operator = x; parts = es }) → is_one_of applying_natives x ≡ true → IsQuietUse W Q p es
@@ -188,14 +194,14 @@ module _ (W : Deployed) (Q : Principal → Function → Type 0) (p : Principal) 
   let_quiet body (ListAt (Then (LeafAt (Named x) at) (Then e Empty)) at' ∷ bs) B C fs are free q h k =
       by (bindings_of bs) are fs q (λ f fs are q. let_quiet body bs (bind x f.type B) (bind x NoType C) fs are (or_right (is_taken G C x) (is_shadowed G (bind x NoType C) (filter_map bound_name bs)) free) q h.1 k)
     where
-      reserved : is_reserved x ≡ false
-      reserved = or_left (is_reserved x) (is_top_level G x) (or_left (is_reserved x || is_top_level G x) (is_named x C) (or_left (is_taken G C x) (is_shadowed G (bind x NoType C) (filter_map bound_name bs)) free))
+      reserved : is_reserved G.version x ≡ false
+      reserved = or_left (is_reserved G.version x) (is_top_level G x) (or_left (is_reserved G.version x || is_top_level G x) (is_named x C) (or_left (is_taken G C x) (is_shadowed G (bind x NoType C) (filter_map bound_name bs)) free))
 
       by : (o : Option (List (List ℕ × Tree))) → is_some (and_binding (Some (x, e)) o) ≡ true → (fs : List Found) → PlanQuiet (Gives B e (λ f. let_plan body (bind x f.type B) (filter_map binding_of bs))) fs →
           ((f : Found) (fs : List Found) → is_some o ≡ true → PlanQuiet (let_plan body (bind x f.type B) (filter_map binding_of bs)) fs → AllQuietPairs W Q p bs × AllQuiet W Q p body) → (IsQuiet W Q p e × AllQuietPairs W Q p bs) × AllQuiet W Q p body
       by (Some ps) are (f ∷ fs) q rest =
           let later = rest f fs refl q.1 in
-          ((q.0 (binding_each Apart x e (same x (codes "tuple")) (not_tuple x reserved) h.0.1), later.0), later.1)
+          ((q.0 (binding_each Apart x e (same x (codes "tuple")) (not_tuple G.version x reserved) h.0.1), later.0), later.1)
       by (Some ps) are [] q rest = absurd q
       by None are fs q rest = absurd cc
   let_quiet body (b ∷ bs) B C fs are free q h k = absurd cc

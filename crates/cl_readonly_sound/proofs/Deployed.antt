@@ -8,13 +8,13 @@ use Rattle.cl_c32.specs.declared.principal.Principal.{Principal}
 use Rattle.cl_sexpr.specs.Tree.{Tree, LeafAt, ListAt, TupleAt, Leaf, Named, Standing, Local, Forest, Then}
 use Rattle.cl_sexpr.specs.declared.sexpr.Span.{Span}
 use Rattle.cl_forms.specs.declared.head.Head.TheVariants.{ContractCall}
-use Rattle.cl_forms.specs.Heads.{row_of}
+use Rattle.cl_forms.specs.Heads.{row_of, native}
 use Rattle.cl_forms.specs.Forms.{Form, FunctionForm}
 use Rattle.cl_forms.specs.Shapes.{trees_of, beside}
 use Rattle.cl_forms.specs.Names.{is_one_of}
 use Rattle.cl_forms.specs.Writes.{writing_natives, applying_natives, Call, calls_in, Writes, WritesIn, has_writing_body, by_native, by_function, by_name, by_contract}
 use Rattle.cl_events.specs.State.{is_principal}
-use Rattle.cl_meaning.specs.Deployed.{Contract, Deployed, Function, contract_at, function_in, function_of}
+use Rattle.cl_meaning.specs.Deployed.{Contract, Deployed, Function, contract_at, function_in, function_of, native_of}
 use Rattle.cl_meaning.specs.Scope.{Frame, BoundValues}
 use Rattle.cl_meaning.specs.Calls.{callable, target_of, other_contract}
 use Rattle.cl_meaning.specs.Kept.{Whole}
@@ -266,8 +266,9 @@ module _ (costs : CostTable) (W : Deployed) where
       let bad = (fine_shape (contract_call_shape (row_of ContractCall) G B (trees_of (Then (TupleAt ps at) (Then (LeafAt (Named y) at') es)))).faults rules).literal_expected in absurd cc
   across_quiet p x d G home deployed B es rules apart = tt
 
-  calls_quiet : (p : Principal) (x : List ℕ) (d : DoesNotWrite costs W p x) (G : Context) → G.principal ≡ p → G.deployed ≡ d.text.before → CallsAreQuiet W IsQuietFunction p G (IsApart d.text.contract.forms (calls_public d.text.before p))
-  calls_quiet p x d G home deployed = record {
+  calls_quiet : (p : Principal) (x : List ℕ) (d : DoesNotWrite costs W p x) (G : Context) → G.principal ≡ p → G.version ≡ d.text.contract.version → G.deployed ≡ d.text.before → CallsAreQuiet W IsQuietFunction p G (IsApart d.text.contract.forms (calls_public d.text.before p))
+  calls_quiet p x d G home version deployed = record {
+    versions = λ y. ap (native_of y) d.text.there ∙ ap (λ v. native v y) (sym version);
     natives = λ y es apart. apart.natives;
     functions = λ y es apart. quiet_one p y (another y apart.functions);
     uses = λ y es apart applies. uses y es apart applies;
@@ -289,5 +290,5 @@ module _ (costs : CostTable) (W : Deployed) where
       let is = function_there f.name d.text.contract.forms f q.there in
       let form = form_there f.name d.text.contract.forms (FunctionForm f.access f.params f.body) is.form in
       let none : WritesIn d.text.contract.forms (calls_public d.text.before p) f.body → ⊥ = λ w. d.apart (has_writing_body (record { form = form.form; access = f.access; params = f.params; there = form.there; named = form.named; function = form.is }) w) in
-      typed_quiet W IsQuietFunction p b.context (IsApart d.text.contract.forms (calls_public d.text.before p)) (calls_quiet p f.name d b.context (b.principal ∙ d.text.home) b.deployed) b.typed
+      typed_quiet W IsQuietFunction p b.context (IsApart d.text.contract.forms (calls_public d.text.before p)) (calls_quiet p f.name d b.context (b.principal ∙ d.text.home) (b.version_is ∙ sym d.text.of_text.version) b.deployed) b.typed
       (all_apart (IsApart d.text.contract.forms (calls_public d.text.before p)) (calls_in f.body) (call_apart d.text.contract.forms (calls_public d.text.before p) f.body none))

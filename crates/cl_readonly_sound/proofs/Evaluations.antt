@@ -16,7 +16,7 @@ use Rattle.cl_values.specs.Wire.{wire, size_of}
 use Rattle.cl_shapes.specs.declared.name.CostName.TheVariants.{ReadVar, Lookup}
 use Rattle.cl_forms.specs.declared.head.Head.{Head}
 use Rattle.cl_forms.specs.declared.head.Head.TheVariants.{OnValues, OnToken, TupleOf, AsMaxLen, Get, VarGet, VarSet, MapGet, MapSet, MapInsert, MapDelete, FtBalance, FtSupply, StxBalance, NftOwner, Print, If, Let, Begin, And, Or, Asserts, Unwrap, UnwrapErr, Try, Match, AsContract, Map, Filter, Fold, ContractCall}
-use Rattle.cl_forms.specs.Heads.{Row, native}
+use Rattle.cl_forms.specs.Heads.{Row}
 use Rattle.cl_forms.specs.Shapes.{trees_of, binding_of, bindings_of, and_binding, pairs_of}
 use Rattle.cl_tokens.specs.Ledger.{Ledger}
 use Rattle.cl_maps.specs.Maps.{get}
@@ -24,7 +24,7 @@ use Rattle.cl_events.specs.State.{State}
 use Rattle.cl_forms.specs.declared.keyword.Keyword.{Keyword}
 use Rattle.cl_forms.specs.Keywords.{keyword_of}
 use Rattle.cl_meaning.specs.Answers.{Outcome, Given, Thrown, Aborted, Wrong, Deeper, Answer, Note, stop, and_then, then_on}
-use Rattle.cl_meaning.specs.Deployed.{Deployed, Function, contract_at, function_in, function_of, value_of, constant_of}
+use Rattle.cl_meaning.specs.Deployed.{Deployed, Function, contract_at, function_in, function_of, value_of, constant_of, native_of}
 use Rattle.cl_meaning.specs.Scope.{Frame, BoundValues, Callee, OwnFunction, ByName, Take, Enter, parts, taken_with, called, as_contract, Scope}
 use Rattle.cl_meaning.specs.Names.{standing, literal, keyword_or, known_form, name_form, leaf_form}
 use Rattle.cl_meaning.specs.Control.{if_form, begin_form, last_of, let_in, let_form, and_on, or_on, and_form, or_form, throwing, asserts_form, wanted_part, err_part, tried, unwrap_form, unwrap_err_form, try_form, match_optional, match_response, match_form, as_contract_form}
@@ -316,7 +316,7 @@ module _ (W : Deployed) (Q : Principal → Function → Type 0) where
     unfolding map_form
     leaves_map F E (Then (LeafAt (Named f) at) es) given q s =
         leaves_then (leaves_parts take t F E (trees_of es) q.1 s)
-        (λ vs u. leaves_charged _ _ (leaves_known (callee_of (scope W F E) f at) (λ g w is. leaves_mapped F E vs g (choice_quiet F.contract _ (row_quiet F.contract at (native f) _ given) g is) w) u))
+        (λ vs u. leaves_charged _ _ (leaves_known (callee_of (scope W F E) f at) (λ g w is. leaves_mapped F E vs g (choice_quiet F.contract _ (row_quiet F.contract at (native_of f (contract_at F.contract W)) _ given) g is) w) u))
     leaves_map F E es given q s = leaves_stop _ s
 
     leaves_sifted : (F : Frame) (E : BoundValues) (f : Callee) → IsQuietCallee F.contract f → (xs : List Val) (s : State) → Leaves s (sifted enter (scope W F E) f xs s)
@@ -336,7 +336,7 @@ module _ (W : Deployed) (Q : Principal → Function → Type 0) where
     unfolding filter_form
     leaves_filter F E (Then (LeafAt (Named f) at) (Then e Empty)) given q s =
         leaves_then (t F E e q.1.0 s)
-        (λ v u. leaves_charged _ _ (leaves_known (callee_of (scope W F E) f at) (λ g w is. leaves_filtered F E v g (choice_quiet F.contract _ (row_quiet F.contract at (native f) _ given) g is) w) u))
+        (λ v u. leaves_charged _ _ (leaves_known (callee_of (scope W F E) f at) (λ g w is. leaves_filtered F E v g (choice_quiet F.contract _ (row_quiet F.contract at (native_of f (contract_at F.contract W)) _ given) g is) w) u))
     leaves_filter F E es given q s = leaves_stop _ s
 
     leaves_folded : (F : Frame) (E : BoundValues) (f : Callee) → IsQuietCallee F.contract f → (xs : List Val) (result : Val) (s : State) → Leaves s (folded enter (scope W F E) f xs result s)
@@ -348,7 +348,7 @@ module _ (W : Deployed) (Q : Principal → Function → Type 0) where
     unfolding fold_form
     leaves_fold F E (Then (LeafAt (Named f) at) (Then e (Then i Empty))) given q s =
         leaves_then (t F E e q.1.0 s) (λ v u. leaves_then (t F E i q.1.1.0 u)
-        (λ w x. leaves_charged _ _ (leaves_known (callee_of (scope W F E) f at) (λ g y is. leaves_known (entries_of v) (λ xs z same. leaves_folded F E g (choice_quiet F.contract _ (row_quiet F.contract at (native f) _ given) g is) xs w z) y) x)))
+        (λ w x. leaves_charged _ _ (leaves_known (callee_of (scope W F E) f at) (λ g y is. leaves_known (entries_of v) (λ xs z same. leaves_folded F E g (choice_quiet F.contract _ (row_quiet F.contract at (native_of f (contract_at F.contract W)) _ given) g is) xs w z) y) x)))
     leaves_fold F E es given q s = leaves_stop _ s
 
     -- ---- calls
@@ -442,7 +442,7 @@ module _ (W : Deployed) (Q : Principal → Function → Type 0) where
     unfolding node
     leaves_node F E (LeafAt leaf at) q s = leaves_leaf F E leaf s
     leaves_node F E (TupleAt ps at) q s = leaves_tuple take t F E (pairs_of ps) (pair_parts F.contract ps q) s
-    leaves_node F E (ListAt (Then (LeafAt (Named x) at') es) at) q s = leaves_operator (native x) x F E es q.0 q.1 s
+    leaves_node F E (ListAt (Then (LeafAt (Named x) at') es) at) q s = leaves_operator (native_of x (contract_at F.contract W)) x F E es q.0 q.1 s
     leaves_node F E (ListAt es at) q s = leaves_stop _ s
 
   -- ---- applications

@@ -5,8 +5,8 @@ use Rattle.cl_c32.specs.declared.principal.Principal.{Principal}
 use Rattle.cl_sexpr.specs.Tree.{Tree, LeafAt, ListAt, TupleAt, Named, Forest, Empty, Then, Pairs, NoPair, Pair}
 use Rattle.cl_forms.specs.declared.head.Head.{Head}
 use Rattle.cl_forms.specs.declared.head.Head.TheVariants.{OnToken, TupleOf, VarSet, MapSet, MapInsert, MapDelete, Let, Map, Filter, Fold, ContractCall}
-use Rattle.cl_forms.specs.Heads.{Row, native}
-use Rattle.cl_meaning.specs.Deployed.{Contract, Deployed, Function, contract_at, function_in, function_of}
+use Rattle.cl_forms.specs.Heads.{Row}
+use Rattle.cl_meaning.specs.Deployed.{Contract, Deployed, Function, contract_at, function_in, native_of, function_of}
 use Rattle.cl_meaning.specs.Scope.{Frame, BoundValues, Scope}
 use Rattle.cl_meaning.specs.Calls.{callable, target_of, other_contract}
 
@@ -65,7 +65,7 @@ module _ (W : Deployed) (Q : Principal → Function → Type 0) (p : Principal) 
     IsQuiet (TupleAt ps at) = AreQuietPairs ps
 
     pub IsQuietList : Forest → Type 0
-    IsQuietList (Then (LeafAt (Named x) at) es) = IsQuietCall (native x) x es × AreQuietBehind (way_of (native x)) es
+    IsQuietList (Then (LeafAt (Named x) at) es) = IsQuietCall (native_of x (contract_at p W)) x es × AreQuietBehind (way_of (native_of x (contract_at p W))) es
     IsQuietList es = Unit {0}
 
     pub AreQuietBehind : Way → Forest → Type 0

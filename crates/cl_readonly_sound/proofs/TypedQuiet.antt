@@ -142,11 +142,11 @@ module _ (W : Deployed) (Q : Principal → Function → Type 0) (p : Principal) 
 
     -- ---- nodes
 
-    row_quiet : (x : List ℕ) (row : Row) → native x ≡ Some row → (B : Names) (es : Forest) (fs : List Found) → shape_rules (head_shape row.head row G B (trees_of es)).faults ≡ [] → type_rules ((head_shape row.head row G B (trees_of es)).verdict fs).faults ≡ [] → PlanQuiet W Q p G Apart (head_shape row.head row G B (trees_of es)).plan fs →
+    row_quiet : (x : List ℕ) (row : Row) → native G.version x ≡ Some row → (B : Names) (es : Forest) (fs : List Found) → shape_rules (head_shape row.head row G B (trees_of es)).faults ≡ [] → type_rules ((head_shape row.head row G B (trees_of es)).verdict fs).faults ≡ [] → PlanQuiet W Q p G Apart (head_shape row.head row G B (trees_of es)).plan fs →
         Apart (record { operator = x; parts = es }) → AllCalls Apart (calls_behind (same x (codes "tuple")) es) → IsQuietHead W Q p row.head es × AreQuietBehind W Q p (way_of_head row.head) es
     row_quiet x row found B es fs rules types q call h =
-        let name : x ≡ name_of row.head = named_alone x row.head (ap head_of_row found) in
-        let own : row ≡ row_of row.head = is_row x row found in
+        let name : x ≡ name_of row.head = named_alone G.version x row.head (ap head_of_row found) in
+        let own : row ≡ row_of row.head = is_row G.version x row found in
         subst (λ (r : Row). shape_rules (head_shape row.head r G B (trees_of es)).faults ≡ [] → type_rules ((head_shape row.head r G B (trees_of es)).verdict fs).faults ≡ [] → PlanQuiet W Q p G Apart (head_shape row.head r G B (trees_of es)).plan fs → IsQuietHead W Q p row.head es × AreQuietBehind W Q p (way_of_head row.head) es) (sym own)
         (λ rules types q. head_quiet row.head B es fs rules types q (subst (λ x. Apart (record { operator = x; parts = es })) name call) (subst (λ b. AllCalls Apart (calls_behind b es)) (ap (λ x. same x (codes "tuple")) name ∙ tuple_alone row.head) h)) rules types q
 
@@ -154,11 +154,11 @@ module _ (W : Deployed) (Q : Principal → Function → Type 0) (p : Principal) 
     call_quiet (Some f) B es fs rules q h = plain_quiet W Q p G Apart es (parts_quiet W Q p G Apart B (trees_of es) fs q (behind_each Apart es h))
     call_quiet None B es fs rules q h = absurd cc
 
-    operator_quiet : (x : List ℕ) (o : Option Row) → native x ≡ o → (f : Option Signature) (B : Names) (es : Forest) (fs : List Found) → shape_rules (operator_shape o f G B (trees_of es)).faults ≡ [] → type_rules ((operator_shape o f G B (trees_of es)).verdict fs).faults ≡ [] → PlanQuiet W Q p G Apart (operator_shape o f G B (trees_of es)).plan fs →
+    operator_quiet : (x : List ℕ) (o : Option Row) → native G.version x ≡ o → (f : Option Signature) (B : Names) (es : Forest) (fs : List Found) → shape_rules (operator_shape o f G B (trees_of es)).faults ≡ [] → type_rules ((operator_shape o f G B (trees_of es)).verdict fs).faults ≡ [] → PlanQuiet W Q p G Apart (operator_shape o f G B (trees_of es)).plan fs →
         Apart (record { operator = x; parts = es }) → AllCalls Apart (calls_behind (same x (codes "tuple")) es) → IsQuietCall W Q p o x es × AreQuietBehind W Q p (way_of o) es
     operator_quiet x (Some row) found f B es fs rules types q call h = row_quiet x row found B es fs rules types q call h
     operator_quiet x None found f B es fs rules types q call h =
-        (C.functions x es call, call_quiet f B es fs rules q (subst (λ b. AllCalls Apart (calls_behind b es)) (tuple_is_native x found) h))
+        (C.functions x es call, call_quiet f B es fs rules q (subst (λ b. AllCalls Apart (calls_behind b es)) (tuple_is_native G.version x found) h))
 
     pairs_parts : (ps : Pairs) → AllCalls Apart (calls_of_pairs ps) → EachCalls Apart (map (λ (b : List ℕ × Tree). b.1) (pairs_of ps))
     pairs_parts NoPair h = tt
@@ -172,7 +172,8 @@ module _ (W : Deployed) (Q : Principal → Function → Type 0) (p : Principal) 
     unfolding shape
     node_quiet B (LeafAt leaf at) fs rules types q h = tt
     node_quiet B (TupleAt ps at) fs rules types q h = all_pairs ps (parts_quiet W Q p G Apart B _ fs q (pairs_parts ps h))
-    node_quiet B (ListAt (Then (LeafAt (Named x) at') es) at) fs rules types q h = operator_quiet x (native x) refl (signature_in x G.functions) B es fs rules types q h.0 h.1
+    node_quiet B (ListAt (Then (LeafAt (Named x) at') es) at) fs rules types q h =
+        subst (λ o. IsQuietCall W Q p o x es × AreQuietBehind W Q p (way_of o) es) (sym (C.versions x)) (operator_quiet x (native G.version x) refl (signature_in x G.functions) B es fs rules types q h.0 h.1)
     node_quiet B (ListAt es at) fs rules types q h = absurd cc
 
     mutual

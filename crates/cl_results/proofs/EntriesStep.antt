@@ -2,6 +2,8 @@
 use Rattle.std.proofs.Common.{◌≡◌, ◌⊎◌, inl, inr, ℕ, List, [], ◌∷◌, Option, Some, None, refl}
 use Rattle.std.specs.List.{All}
 use Rattle.std.proofs.lemmas.List.Elements.{All-head, All-tail}
+use Rattle.cl_forms.specs.declared.version.Version.{Version}
+use Rattle.cl_forms.specs.Texts.{text_of}
 use Rattle.cl_sexpr.specs.declared.sexpr.Span.{Span}
 use Rattle.cl_sexpr.specs.declared.rule.Rule.{Rule}
 use Rattle.cl_meaning.specs.Limits.{Costs}
@@ -22,21 +24,21 @@ use Rattle.cl_results.specs.Laws.{EachSteps, EachRuns, EachCommits}
 -- ---- one entry
 
 module _ (answers : EachHasAnswer) (calls : CallsStep) (deployments : DeploymentsStep) (costs : Costs) (node : NodeSeen) (sound : IsSoundNode costs node) where
-  module _ (common : Common) (name source : List ℕ) (parts : HasParts (Deploy common name source)) where
+  module _ (common : Common) (name source : List ℕ) (version : Version) (parts : HasParts (Deploy common name source version)) where
     abbrev Comes : Type 0
-    Comes = (s : Stepped) × Steps costs node (Deploy common name source) s
+    Comes = (s : Stepped) × Steps costs node (Deploy common name source version) s
 
     new_comes : known_at (contract_of common.sender name) node.known ≡ None →
-        Accepted node.known (contract_of common.sender name) costs source ⊎ ((rule : Rule) × (span : Span) × (names : List (List ℕ)) × FirstBreakOf node.known (contract_of common.sender name) costs source rule span names) → Comes
-    new_comes new (inl accepted) = deployments costs node common name source parts sound new accepted
+        Accepted node.known (contract_of common.sender name) costs (text_of source version) ⊎ ((rule : Rule) × (span : Span) × (names : List (List ℕ)) × FirstBreakOf node.known (contract_of common.sender name) costs (text_of source version) rule span names) → Comes
+    new_comes new (inl accepted) = deployments costs node common name source version parts sound new accepted
     new_comes new (inr first) = (refused node (ContractRefused (record { rule = first.0; span = first.1; names = first.2 })), source_refused first.0 first.1 first.2 new first.3 refl)
 
     deployment_comes : (o : Option Known) → known_at (contract_of common.sender name) node.known ≡ o → Comes
     deployment_comes (Some known) there = (refused node NameTaken, name_taken known there refl)
-    deployment_comes None new = new_comes new (answers node.known (contract_of common.sender name) costs source)
+    deployment_comes None new = new_comes new (answers node.known (contract_of common.sender name) costs (text_of source version))
 
   entry_comes : (entry : Entry) → HasParts entry → (s : Stepped) × Steps costs node entry s
-  entry_comes (Deploy common name source) parts = deployment_comes common name source parts (known_at (contract_of common.sender name) node.known) refl
+  entry_comes (Deploy common name source version) parts = deployment_comes common name source version parts (known_at (contract_of common.sender name) node.known) refl
   entry_comes (Call common contract function args) parts = calls costs node common contract function args parts sound
   entry_comes (Block height) parts = (moved node height, refl)
 

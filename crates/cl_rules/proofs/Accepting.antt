@@ -8,6 +8,8 @@ use Rattle.cl_sexpr.specs.declared.rule.Rule.{Rule}
 use Rattle.cl_sexpr.specs.declared.rule.Break.{Break}
 use Rattle.cl_sexpr.specs.Tree.{Forest}
 use Rattle.cl_sexpr.specs.Text.{Reads, Breaks as BreaksText}
+use Rattle.cl_forms.specs.declared.version.Version.{Version}
+use Rattle.cl_forms.specs.Texts.{Text}
 use Rattle.cl_forms.specs.Forms.{Form}
 use Rattle.cl_forms.specs.FormBreaks.{AreForms, IsFirstBreak as IsFirstFormRule}
 use Rattle.cl_forms.specs.Order.{ordered}
@@ -21,8 +23,8 @@ use Rattle.cl_rules.proofs.FormWalk.{one_end, forms_never_both}
 
 -- what the reader's laws say
 pub record Reading : Type 0 where
-  pub one : (text : List ℕ) (a b : Forest) → Reads text a → Reads text b → a ≡ b
-  pub either : (text : List ℕ) (a : Forest) (b : Break) → Reads text a → BreaksText text b → ⊥
+  pub one : (bytes : List ℕ) (a b : Forest) → Reads bytes a → Reads bytes b → a ≡ b
+  pub either : (bytes : List ℕ) (a : Forest) (b : Break) → Reads bytes a → BreaksText bytes b → ⊥
 
 -- ---- lists
 
@@ -85,27 +87,27 @@ form_in forms (m ∷ ms) n form e = step_in forms (forms_at forms ms) (slice_get
 -- ---- what a text has is one
 
 module _ (reading : Reading) where
-  pub items_same : {text : List ℕ} {a b : Forest} → Reads text a → Reads text b → a ≡ b
-  items_same {text = text} {a = a} {b = b} x y = reading.one text a b x y
+  pub items_same : {bytes : List ℕ} {a b : Forest} → Reads bytes a → Reads bytes b → a ≡ b
+  items_same {bytes = bytes} {a = a} {b = b} x y = reading.one bytes a b x y
 
-  pub forms_same : {text : List ℕ} {a b : Forest} {f g : List Form} → Reads text a → AreForms (trees_of a) f → Reads text b → AreForms (trees_of b) g → f ≡ g
-  forms_same {f = f} {g = g} x h y k = let again = subst (λ items. AreForms (trees_of items) g) (items_same y x) k in all_same f g (sym h.forms_are ∙ again.forms_are)
+  pub forms_same : {bytes : List ℕ} {version : Version} {a b : Forest} {f g : List Form} → Reads bytes a → AreForms version (trees_of a) f → Reads bytes b → AreForms version (trees_of b) g → f ≡ g
+  forms_same {version = version} {f = f} {g = g} x h y k = let again = subst (λ items. AreForms version (trees_of items) g) (items_same y x) k in all_same f g (sym h.forms_are ∙ again.forms_are)
 
-  pub ordered_same : {text : List ℕ} {f g : List Form} {o p : List ℕ} → Ordered text f o → Ordered text g p → (f ≡ g) × (o ≡ p)
+  pub ordered_same : {text : Text} {f g : List Form} {o p : List ℕ} → Ordered text f o → Ordered text g p → (f ≡ g) × (o ≡ p)
   ordered_same {o = o} {p = p} x y = let e = forms_same x.reads x.are_forms y.reads y.are_forms in (e, ok_same o p x.order_is (ap ordered e ∙ y.order_is))
 
   -- a text with forms in an order has no break before
-  pub never_unordered : {text : List ℕ} {forms : List Form} {order : List ℕ} {rule : Rule} {span : Span} {names : List (List ℕ)} → Ordered text forms order → FirstUnordered text rule span names → ⊥
-  never_unordered {text = text} o (in_text b x e f g) = reading.either text o.items b o.reads x
-  never_unordered o (in_forms items b reads x e f g) =
-      let again = subst (λ i. IsFirstFormRule (trees_of i) b) (items_same reads o.reads) x in
+  pub never_unordered : {text : Text} {forms : List Form} {order : List ℕ} {rule : Rule} {span : Span} {names : List (List ℕ)} → Ordered text forms order → FirstUnordered text rule span names → ⊥
+  never_unordered {text = text} o (in_text b x e f g) = reading.either text.bytes o.items b o.reads x
+  never_unordered {text = text} o (in_forms items b reads x e f g) =
+      let again = subst (λ i. IsFirstFormRule text.version (trees_of i) b) (items_same reads o.reads) x in
       o.are_forms.unbroken again.place b again.breaks
   never_unordered {order = order} o (in_order items forms reads are x) =
       ok_err order x.places o.order_is (ap ordered (forms_same o.reads o.are_forms reads are) ∙ x.met)
 
-  module _ (deployed : List Known) (principal : Principal) (text : List ℕ) where
-    pub typed_along : {f g : List Form} {o p : List ℕ} {D : Defined} → f ≡ g → o ≡ p → FormsTyped (nothing_defined deployed principal (length text)) (forms_at f o) D → FormsTyped (nothing_defined deployed principal (length text)) (forms_at g p) D
-    typed_along {f = f} {p = p} {D = D} e h x = subst (λ forms. FormsTyped (nothing_defined deployed principal (length text)) (forms_at forms p) D) e (subst (λ order. FormsTyped (nothing_defined deployed principal (length text)) (forms_at f order) D) h x)
+  module _ (deployed : List Known) (principal : Principal) (text : Text) where
+    pub typed_along : {f g : List Form} {o p : List ℕ} {D : Defined} → f ≡ g → o ≡ p → FormsTyped (nothing_defined deployed principal text.version (length text.bytes)) (forms_at f o) D → FormsTyped (nothing_defined deployed principal text.version (length text.bytes)) (forms_at g p) D
+    typed_along {f = f} {p = p} {D = D} e h x = subst (λ forms. FormsTyped (nothing_defined deployed principal text.version (length text.bytes)) (forms_at forms p) D) e (subst (λ order. FormsTyped (nothing_defined deployed principal text.version (length text.bytes)) (forms_at f order) D) h x)
 
     pub defined_same : {f g : List Form} {o p : List ℕ} {D E : Defined} → TypedAs deployed principal text f o D → TypedAs deployed principal text g p E → D ≡ E
     defined_same x y = let e = ordered_same x.is_ordered y.is_ordered in one_end (typed_along e.0 e.1 x.are_typed) y.are_typed
@@ -118,7 +120,7 @@ module _ (reading : Reading) where
     typed_clean rule span names t none (unordered x) = never_unordered t.is_ordered x
     typed_clean {D = D} rule span names t none (in_typing forms order o x e) =
         let h = ordered_same t.is_ordered o in
-        forms_never_both (nothing_defined deployed principal (length text)) D (forms_at forms order) rule span (typed_along h.0 h.1 t.are_typed) x
+        forms_never_both (nothing_defined deployed principal text.version (length text.bytes)) D (forms_at forms order) rule span (typed_along h.0 h.1 t.are_typed) x
     typed_clean rule span names t none (in_writing forms order defined u x e f) =
         let h = ordered_same t.is_ordered u.is_ordered in
         none x.form

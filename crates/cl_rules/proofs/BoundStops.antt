@@ -9,6 +9,7 @@ use Rattle.cl_shapes.specs.declared.cost.Dimension.{Dimension}
 use Rattle.cl_shapes.specs.Costs.{first_above}
 use Rattle.cl_sexpr.specs.declared.sexpr.Span.{Span}
 use Rattle.cl_sexpr.specs.Tree.{Tree}
+use Rattle.cl_forms.specs.declared.version.Version.{Version}
 use Rattle.cl_forms.specs.Forms.{Form, FormKind, ConstantForm, VariableForm, MapForm, FungibleForm, NonFungibleForm, FunctionForm, ExpressionForm}
 use Rattle.cl_rules.specs.Bills.{Bill, cost_under}
 use Rattle.cl_rules.specs.Context.{CostTable, Signature, Known, Context, same, signature_in}
@@ -188,13 +189,13 @@ function_of D (NonFungibleForm t) name b h = absurd cc
 function_of D (FunctionForm access params body) name b h = h
 function_of D (ExpressionForm e) name b h = absurd cc
 
-module _ (deployed : List Known) (principal : Principal) (size : ℕ) (forms : List Form) (order : List ℕ) (D : Defined) (table : CostTable) (typed : FormsTyped (nothing_defined deployed principal size) (forms_at forms order) D) where
+module _ (deployed : List Known) (principal : Principal) (version : Version) (size : ℕ) (forms : List Form) (order : List ℕ) (D : Defined) (table : CostTable) (typed : FormsTyped (nothing_defined deployed principal version size) (forms_at forms order) D) where
   -- a function is among the forms in the order
   all_within : Within table D (forms_at forms order) → (form : Form) (b : Bill) → bound_of D form ≡ Some b → first_above most_cost (cost_under table b) ≡ None
   all_within within form b is =
       let name : List ℕ = unwrap_or form.name [] in
       let f = signed (signature_in name D.context.functions) b (function_of D form.kind name b is) in
-      elim (functions_from name f.0 (nothing_defined deployed principal size) D (forms_at forms order) typed f.1) as (λ _. first_above most_cost (cost_under table b) ≡ None) [
+      elim (functions_from name f.0 (nothing_defined deployed principal version size) D (forms_at forms order) typed f.1) as (λ _. first_above most_cost (cost_under table b) ≡ None) [
         | inl none ↦ absurd cc
         | inr among ↦ within among.0 among.1 b among.2 ((λ i. bound_by D (among.3.kind i) (among.3.name i)) ∙ ap bound_at f.1 ∙ ap (λ (c : Bill). Some c) f.2)
       ]

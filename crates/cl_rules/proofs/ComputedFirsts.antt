@@ -2,6 +2,7 @@
 use Rattle.std.proofs.Common.{◌≡◌, ℕ, true, List, [], length, codes, refl, subst}
 use Rattle.cl_sexpr.specs.declared.rule.Rule.{Rule}
 use Rattle.cl_sexpr.specs.declared.rule.Rule.TheVariants.{TooLarge, Undetermined, UnusedResponse}
+use Rattle.cl_forms.specs.declared.version.Version.TheVariants.{One}
 use Rattle.cl_rules.specs.FormRules.{nothing_defined}
 use Rattle.cl_rules.specs.Judging.{Fails, forms_judged}
 use Rattle.cl_rules.specs.Acceptance.{forms_at}
@@ -11,9 +12,9 @@ use Rattle.cl_rules.proofs.PlacedTest.{are_forms_placed, forms_placed_so}
 use Rattle.cl_rules.proofs.Judged.{FormsAreSo, forms_so}
 use Rattle.cl_rules.proofs.FormWalk.{forms_walk_is_first}
 
-first_in : (text : List ℕ) (rule : Rule) (start end : ℕ) → are_forms_placed (forms_at (program text).forms (program text).order) ≡ true → forms_judged (nothing_defined [] contract_f (length text)) (forms_at (program text).forms (program text).order) ≡ Fails rule (span start end) → IsFirstIn text rule start end
+first_in : (text : List ℕ) (rule : Rule) (start end : ℕ) → are_forms_placed (forms_at (program text).forms (program text).order) ≡ true → forms_judged (nothing_defined [] contract_f One (length text)) (forms_at (program text).forms (program text).order) ≡ Fails rule (span start end) → IsFirstIn text rule start end
 first_in text rule start end p h =
-    let D = nothing_defined [] contract_f (length text) in
+    let D = nothing_defined [] contract_f One (length text) in
     let forms = forms_at (program text).forms (program text).order in
     forms_walk_is_first D forms rule (span start end) (forms_placed_so forms p) (subst (FormsAreSo D forms) h (forms_so forms D))
 

@@ -9,6 +9,7 @@ use Rattle.cl_sexpr.specs.Rules.{number_of}
 use Rattle.cl_sexpr.specs.Tree.{Tree, LeafAt, ListAt, TupleAt, Leaf, Named, Signed, Unsigned, Bytes, Ascii, Unicode, Standing, Local, Forest, Empty, Then, Pairs, NoPair, Pair, span_of}
 use Rattle.cl_sexpr.specs.Placed.{IsPlaced, ArePlaced, ArePairsPlaced}
 use Rattle.cl_forms.specs.Names.{is_one_of}
+use Rattle.cl_forms.specs.declared.version.Version.{Version}
 use Rattle.cl_forms.specs.Heads.{is_reserved, left_out}
 use Rattle.cl_forms.specs.Items.{Item, Expression, Misshapen, Definition, item_of, kind_of}
 use Rattle.cl_forms.specs.FormBreaks.{params_of, uses_name, left_out_leaf, left_out_in, left_out_of, left_out_of_pairs, when, rules_of, broken_at, breaks_of, IsAmong, GoesBefore, IsFirstBreak}
@@ -116,27 +117,27 @@ among_when P true q qs h k r (inl e) = subst P (sym e) h
 among_when P true q qs h k r (inr x) = k r x
 among_when P false q qs h k r x = k r x
 
-item_rules : (items : List Item) (n : ℕ) (item : Item) (r : Rule) → RuleAmong r (rules_of items n item) → IsItemRule r
-item_rules items n (Expression e) r h = absurd h
-item_rules items n Misshapen r (inl e) = subst IsItemRule (sym e) (refl, λ h. omega (arith, h))
-item_rules items n Misshapen r (inr h) = absurd h
-item_rules items n (Definition name draft) r h =
-    among_when IsItemRule (is_none (kind_of draft)) BadType (when (is_reserved name || list_any is_reserved (params_of draft)) BadName (when (uses_name items n name (params_of draft)) NameUsed [])) (refl, λ x. omega (arith, x))
-    (among_when IsItemRule (is_reserved name || list_any is_reserved (params_of draft)) BadName (when (uses_name items n name (params_of draft)) NameUsed []) (refl, λ x. omega (arith, x))
+item_rules : (version : Version) (items : List Item) (n : ℕ) (item : Item) (r : Rule) → RuleAmong r (rules_of version items n item) → IsItemRule r
+item_rules version items n (Expression e) r h = absurd h
+item_rules version items n Misshapen r (inl e) = subst IsItemRule (sym e) (refl, λ h. omega (arith, h))
+item_rules version items n Misshapen r (inr h) = absurd h
+item_rules version items n (Definition name draft) r h =
+    among_when IsItemRule (is_none (kind_of draft)) BadType (when (is_reserved version name || list_any (is_reserved version) (params_of draft)) BadName (when (uses_name items n name (params_of draft)) NameUsed [])) (refl, λ x. omega (arith, x))
+    (among_when IsItemRule (is_reserved version name || list_any (is_reserved version) (params_of draft)) BadName (when (uses_name items n name (params_of draft)) NameUsed []) (refl, λ x. omega (arith, x))
     (among_when IsItemRule (uses_name items n name (params_of draft)) NameUsed [] (refl, λ x. omega (arith, x)) (λ q x. absurd x))) r h
 
 -- two breaks of one item whose spans end alike, of rules of one number, are one
-same_break : (items : List Item) (n : ℕ) (e : Tree) → IsPlaced e → (r q : Break) → r.span.end ≡ q.span.end → number_of r.rule ≡ number_of q.rule → ByName e r ⊎ ByRule e (rules_of items n (item_of e)) r → ByName e q ⊎ ByRule e (rules_of items n (item_of e)) q → r ≡ q
-same_break items n e p r q s m (inl x) (inl y) =
+same_break : (version : Version) (items : List Item) (n : ℕ) (e : Tree) → IsPlaced e → (r q : Break) → r.span.end ≡ q.span.end → number_of r.rule ≡ number_of q.rule → ByName e r ⊎ ByRule e (rules_of version items n (item_of e)) r → ByName e q ⊎ ByRule e (rules_of version items n (item_of e)) q → r ≡ q
+same_break version items n e p r q s m (inl x) (inl y) =
     let ends : x.0.end ≡ y.0.end = sym (ap (λ (b : Break). b.span.end) x.2) ∙ s ∙ ap (λ (b : Break). b.span.end) y.2 in
     x.2 ∙ ap (λ at. broken_at at NotInProfile) (one_end_in e p x.0 y.0 ends x.1 y.1) ∙ sym y.2
-same_break items n e p r q s m (inl x) (inr y) =
-    absurd ((item_rules items n (item_of e) y.0 y.1).1 (sym (ap (λ (b : Break). number_of b.rule) y.2) ∙ sym m ∙ ap (λ (b : Break). number_of b.rule) x.2))
-same_break items n e p r q s m (inr x) (inl y) =
-    absurd ((item_rules items n (item_of e) x.0 x.1).1 (sym (ap (λ (b : Break). number_of b.rule) x.2) ∙ m ∙ ap (λ (b : Break). number_of b.rule) y.2))
-same_break items n e p r q s m (inr x) (inr y) =
+same_break version items n e p r q s m (inl x) (inr y) =
+    absurd ((item_rules version items n (item_of e) y.0 y.1).1 (sym (ap (λ (b : Break). number_of b.rule) y.2) ∙ sym m ∙ ap (λ (b : Break). number_of b.rule) x.2))
+same_break version items n e p r q s m (inr x) (inl y) =
+    absurd ((item_rules version items n (item_of e) x.0 x.1).1 (sym (ap (λ (b : Break). number_of b.rule) x.2) ∙ m ∙ ap (λ (b : Break). number_of b.rule) y.2))
+same_break version items n e p r q s m (inr x) (inr y) =
     let numbers : number_of x.0 ≡ number_of y.0 = sym (ap (λ (b : Break). number_of b.rule) x.2) ∙ m ∙ ap (λ (b : Break). number_of b.rule) y.2 in
-    let rules : x.0 ≡ y.0 = sym (item_rules items n (item_of e) x.0 x.1).0 ∙ ap rule_at numbers ∙ (item_rules items n (item_of e) y.0 y.1).0 in
+    let rules : x.0 ≡ y.0 = sym (item_rules version items n (item_of e) x.0 x.1).0 ∙ ap rule_at numbers ∙ (item_rules version items n (item_of e) y.0 y.1).0 in
     x.2 ∙ ap (broken_at (span_of e)) rules ∙ sym y.2
 
 -- ---- the first of a text
@@ -158,12 +159,12 @@ there_placed [] n e p h = absurd (none_some e {o = slice_get [] n} refl h)
 there_placed (d ∷ ds) zero e p h = subst IsPlaced (some_same d e h) p.0
 there_placed (d ∷ ds) (suc n) e p h = there_placed ds n e p.1 h
 
-pub one_form_rule : (items : List Tree) → AllPlaced items → (r q : Break) → IsFirstBreak items r → IsFirstBreak items q → r ≡ q
-one_form_rule items p r q h k =
+pub one_form_rule : (version : Version) (items : List Tree) → AllPlaced items → (r q : Break) → IsFirstBreak version items r → IsFirstBreak version items q → r ≡ q
+one_form_rule version items p r q h k =
     let x = one_place h.place k.place r q (h.first k.place q k.breaks) (k.first h.place r h.breaks) in
     let e = some_same k.breaks.item h.breaks.item (sym k.breaks.there ∙ ap (slice_get items) (sym x.0) ∙ h.breaks.there) in
-    let here = subst (λ d. IsAmong q (breaks_of items k.place d)) e k.breaks.broken in
-    let also = subst (λ n. IsAmong q (breaks_of items n h.breaks.item)) (sym x.0) here in
-    same_break (map item_of items) h.place h.breaks.item (there_placed items h.place h.breaks.item p h.breaks.there) r q x.1 x.2
-    (in_breaks h.breaks.item (left_out_in h.breaks.item) (rules_of (map item_of items) h.place (item_of h.breaks.item)) r h.breaks.broken)
-    (in_breaks h.breaks.item (left_out_in h.breaks.item) (rules_of (map item_of items) h.place (item_of h.breaks.item)) q also)
+    let here = subst (λ d. IsAmong q (breaks_of version items k.place d)) e k.breaks.broken in
+    let also = subst (λ n. IsAmong q (breaks_of version items n h.breaks.item)) (sym x.0) here in
+    same_break version (map item_of items) h.place h.breaks.item (there_placed items h.place h.breaks.item p h.breaks.there) r q x.1 x.2
+    (in_breaks h.breaks.item (left_out_in h.breaks.item) (rules_of version (map item_of items) h.place (item_of h.breaks.item)) r h.breaks.broken)
+    (in_breaks h.breaks.item (left_out_in h.breaks.item) (rules_of version (map item_of items) h.place (item_of h.breaks.item)) q also)

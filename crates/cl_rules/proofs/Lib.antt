@@ -6,6 +6,7 @@ mod FormWalk
 mod ComputedBreaks
 mod ComputedBounds
 mod ComputedRows
+mod ComputedLater
 mod ComputedCalls
 mod Accepting
 mod PlacedTest

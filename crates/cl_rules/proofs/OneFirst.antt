@@ -6,6 +6,7 @@ use Rattle.cl_shapes.specs.Costs.{first_above}
 use Rattle.cl_sexpr.specs.declared.sexpr.Span.{Span}
 use Rattle.cl_sexpr.specs.declared.rule.Rule.{Rule}
 use Rattle.cl_sexpr.specs.declared.rule.Rule.TheVariants.{BoundTooLarge}
+use Rattle.cl_forms.specs.Texts.{Text}
 use Rattle.cl_forms.specs.Forms.{Form}
 use Rattle.cl_rules.specs.Bills.{Bill, cost_under}
 use Rattle.cl_rules.specs.Context.{CostTable, Known}
@@ -16,9 +17,9 @@ use Rattle.cl_rules.proofs.FormWalk.{forms_never_both, one_first_form}
 use Rattle.cl_rules.proofs.Accepting.{some_same, none_some, form_in, ordered_same, never_unordered, typed_along, defined_same, typed_clean}
 use Rattle.cl_rules.proofs.OneUnordered.{Firsts, Same, one_unordered}
 
-module _ (known : Firsts) (deployed : List Known) (principal : Principal) (table : CostTable) (text : List ℕ) where
+module _ (known : Firsts) (deployed : List Known) (principal : Principal) (table : CostTable) (text : Text) where
   abbrev Start : Defined
-  Start = nothing_defined deployed principal (length text)
+  Start = nothing_defined deployed principal text.version (length text.bytes)
 
   -- ---- a break in one pass, and nothing broken in it
 

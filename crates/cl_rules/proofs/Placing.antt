@@ -216,5 +216,5 @@ unfolding shape
 shape_placed G B (LeafAt l s) p = leaf_placed G B l s.start s.end
 shape_placed G B (TupleAt ps s) p = parts_placed B s.start s.end (expressions (pairs_of ps)) (pairs_placed s.start s.end ps p)
 shape_placed G B (ListAt (Then (LeafAt (Named x) u) args) s) p =
-    operator_placed (native x) (signature_in x G.functions) G B s.start s.end (trees_of args) (rest_placed s.start s.end (LeafAt (Named x) u) (trees_of args) (row_placed s.start s.end (Then (LeafAt (Named x) u) args) p))
+    operator_placed (native G.version x) (signature_in x G.functions) G B s.start s.end (trees_of args) (rest_placed s.start s.end (LeafAt (Named x) u) (trees_of args) (row_placed s.start s.end (Then (LeafAt (Named x) u) args) p))
 shape_placed G B (ListAt es s) p = tt

@@ -4,6 +4,8 @@ use Rattle.std.specs.List.{cons_option}
 use Rattle.cl_sexpr.specs.Tree.{Tree, Forest}
 use Rattle.cl_sexpr.specs.Text.{Reads}
 use Rattle.cl_sexpr.specs.Placed.{ArePlaced}
+use Rattle.cl_forms.specs.declared.version.Version.{Version}
+use Rattle.cl_forms.specs.Texts.{Text}
 use Rattle.cl_forms.specs.Forms.{Form, expression_of}
 use Rattle.cl_forms.specs.FormBreaks.{AreForms}
 use Rattle.cl_forms.specs.Shapes.{trees_of}
@@ -12,9 +14,9 @@ use Rattle.cl_rules.specs.Acceptance.{Ordered, forms_at}
 
 -- what is known of where items and expressions stand
 pub record Standing : Type 0 where
-  pub items : (text : List ℕ) (items : Forest) → Reads text items → ArePlaced 0 (length text + 1) items
+  pub items : (bytes : List ℕ) (items : Forest) → Reads bytes items → ArePlaced 0 (length bytes + 1) items
   pub each : (low high : ℕ) (items : Forest) → ArePlaced low high items → AllPlaced (trees_of items)
-  pub forms : (items : List Tree) (forms : List Form) → AllPlaced items → AreForms items forms → AreFormsPlaced forms
+  pub forms : (version : Version) (items : List Tree) (forms : List Form) → AllPlaced items → AreForms version items forms → AreFormsPlaced forms
 
 abbrev FormPlaced : Option Form → Type 0
 FormPlaced None = Unit {0}
@@ -35,10 +37,10 @@ at_places forms [] p = tt
 at_places forms (n ∷ ns) p = one_more_placed (slice_get forms n) (forms_at forms ns) (got_placed forms n p) (at_places forms ns p)
 
 -- the items of a text are placed each
-pub text_placed : Standing → (text : List ℕ) (items : Forest) → Reads text items → AllPlaced (trees_of items)
-text_placed known text items reads = known.each 0 (length text + 1) items (known.items text items reads)
+pub text_placed : Standing → (text : Text) (items : Forest) → Reads text.bytes items → AllPlaced (trees_of items)
+text_placed known text items reads = known.each 0 (length text.bytes + 1) items (known.items text.bytes items reads)
 
 -- the expressions of a text's forms in their order
-pub ordered_placed : Standing → (text : List ℕ) (forms : List Form) (order : List ℕ) → Ordered text forms order → AreFormsPlaced (forms_at forms order)
+pub ordered_placed : Standing → (text : Text) (forms : List Form) (order : List ℕ) → Ordered text forms order → AreFormsPlaced (forms_at forms order)
 ordered_placed known text forms order x =
-    at_places forms order (known.forms (trees_of x.items) forms (text_placed known text x.items x.reads) x.are_forms)
+    at_places forms order (known.forms text.version (trees_of x.items) forms (text_placed known text x.items x.reads) x.are_forms)

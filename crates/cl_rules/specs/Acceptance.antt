@@ -13,6 +13,7 @@ use Rattle.cl_sexpr.specs.declared.rule.Rule.TheVariants.{WritesInReadOnly, Boun
 use Rattle.cl_sexpr.specs.declared.rule.Break.{Break}
 use Rattle.cl_sexpr.specs.Tree.{Tree, Leaf, Forest}
 use Rattle.cl_sexpr.specs.Text.{Reads, Breaks as BreaksText}
+use Rattle.cl_forms.specs.Texts.{Text}
 use Rattle.cl_forms.specs.Forms.{Form, FormKind, FunctionForm}
 use Rattle.cl_forms.specs.FormBreaks.{AreForms, IsFirstBreak as IsFirstFormRule}
 pub use Rattle.cl_forms.specs.Order.{forms_at}
@@ -29,16 +30,16 @@ use Rattle.cl_rules.specs.FormTyping.{FormsTyped, FirstFormBreak}
 -- ---- the forms of a text, in the order of evaluation
 
 -- a text reads as items that break no rule of forms, and their forms have this order, by places
-pub record Ordered (text : List ℕ) (forms : List Form) (order : List ℕ) : Type 0 where
+pub record Ordered (text : Text) (forms : List Form) (order : List ℕ) : Type 0 where
   pub items : Forest
-  pub reads : Reads text items
-  pub are_forms : AreForms (trees_of items) forms
+  pub reads : Reads text.bytes items
+  pub are_forms : AreForms text.version (trees_of items) forms
   pub order_is : ordered forms ≡ Ok order
 
 -- the forms of a text are typed in their order, in the contract of this principal among deployed ones; this is defined
-pub record TypedAs (deployed : List Known) (principal : Principal) (text : List ℕ) (forms : List Form) (order : List ℕ) (defined : Defined) : Type 0 where
+pub record TypedAs (deployed : List Known) (principal : Principal) (text : Text) (forms : List Form) (order : List ℕ) (defined : Defined) : Type 0 where
   pub is_ordered : Ordered text forms order
-  pub are_typed : FormsTyped (nothing_defined deployed principal (length text)) (forms_at forms order) defined
+  pub are_typed : FormsTyped (nothing_defined deployed principal text.version (length text.bytes)) (forms_at forms order) defined
 
 -- ---- functions that write
 
@@ -126,7 +127,7 @@ pub record DeploymentAbove (defined : Defined) (forms : List Form) (table : Cost
 
 -- A text is accepted as a contract of this principal, after these deployed contracts and under this table: its forms are typed
 -- in their order, no read-only function writes, and no bound is above the limit.
-pub record Accepted (deployed : List Known) (principal : Principal) (table : CostTable) (text : List ℕ) : Type 0 where
+pub record Accepted (deployed : List Known) (principal : Principal) (table : CostTable) (text : Text) : Type 0 where
   pub forms : List Form
   pub order : List ℕ
   pub defined : Defined
@@ -142,30 +143,30 @@ known_of principal size defined = record { principal = principal; length = size;
 -- accepted after those before it.
 pub data AreDeployed (table : CostTable) : List Known → Type 0 where
   none_yet : {deployed : List Known} → deployed ≡ [] → AreDeployed table deployed
-  and_one : {before after : List Known} (principal : Principal) (text : List ℕ) (accepted : Accepted before principal table text) → AreDeployed table before → known_at principal before ≡ None → after ≡ before ++ known_of principal (length text) accepted.defined ∷ [] → AreDeployed table after
+  and_one : {before after : List Known} (principal : Principal) (text : Text) (accepted : Accepted before principal table text) → AreDeployed table before → known_at principal before ≡ None → after ≡ before ++ known_of principal (length text.bytes) accepted.defined ∷ [] → AreDeployed table after
 
 abbrev pub nowhere : Span
 nowhere = record { start = 0; end = 0 }
 
 -- The first break of a text before its forms are looked at one by one, with the names of the forms in a cycle: it isn't a row
 -- of items; an item is no form; or the forms name each other in a ring.
-pub data FirstUnordered (text : List ℕ) (rule : Rule) (span : Span) (names : List (List ℕ)) : Type 0 where
-  in_text : (b : Break) → BreaksText text b → rule ≡ b.rule → span ≡ b.span → names ≡ [] → FirstUnordered text rule span names
-  in_forms : (items : Forest) (b : Break) → Reads text items → IsFirstFormRule (trees_of items) b → rule ≡ b.rule → span ≡ b.span → names ≡ [] → FirstUnordered text rule span names
-  in_order : (items : Forest) (forms : List Form) → Reads text items → AreForms (trees_of items) forms → IsOfTheCycle forms rule span names → FirstUnordered text rule span names
+pub data FirstUnordered (text : Text) (rule : Rule) (span : Span) (names : List (List ℕ)) : Type 0 where
+  in_text : (b : Break) → BreaksText text.bytes b → rule ≡ b.rule → span ≡ b.span → names ≡ [] → FirstUnordered text rule span names
+  in_forms : (items : Forest) (b : Break) → Reads text.bytes items → IsFirstFormRule text.version (trees_of items) b → rule ≡ b.rule → span ≡ b.span → names ≡ [] → FirstUnordered text rule span names
+  in_order : (items : Forest) (forms : List Form) → Reads text.bytes items → AreForms text.version (trees_of items) forms → IsOfTheCycle forms rule span names → FirstUnordered text rule span names
 
 -- The first break of a text before its bounds are looked at, by phases: its rule and span, and for a cycle the names of the
 -- forms in it. In the first phase in which a rule is broken, it is the first there. No table of costs has a part in it.
-pub data FirstBreakBeforeBounds (deployed : List Known) (principal : Principal) (text : List ℕ) (rule : Rule) (span : Span) (names : List (List ℕ)) : Type 0 where
+pub data FirstBreakBeforeBounds (deployed : List Known) (principal : Principal) (text : Text) (rule : Rule) (span : Span) (names : List (List ℕ)) : Type 0 where
   -- the text has no forms in an order
   unordered : FirstUnordered text rule span names → FirstBreakBeforeBounds deployed principal text rule span names
   -- a form isn't typed
-  in_typing : (forms : List Form) (order : List ℕ) → Ordered text forms order → FirstFormBreak (nothing_defined deployed principal (length text)) (forms_at forms order) rule span → names ≡ [] → FirstBreakBeforeBounds deployed principal text rule span names
+  in_typing : (forms : List Form) (order : List ℕ) → Ordered text forms order → FirstFormBreak (nothing_defined deployed principal text.version (length text.bytes)) (forms_at forms order) rule span → names ≡ [] → FirstBreakBeforeBounds deployed principal text rule span names
   -- a read-only function writes
   in_writing : (forms : List Form) (order : List ℕ) (defined : Defined) → TypedAs deployed principal text forms order defined → FirstWriting deployed principal forms order span → rule ≡ WritesInReadOnly → names ≡ [] → FirstBreakBeforeBounds deployed principal text rule span names
 
 -- the first break of a text: one before its bounds are looked at, or else of them
-pub data FirstBreakOf (deployed : List Known) (principal : Principal) (table : CostTable) (text : List ℕ) (rule : Rule) (span : Span) (names : List (List ℕ)) : Type 0 where
+pub data FirstBreakOf (deployed : List Known) (principal : Principal) (table : CostTable) (text : Text) (rule : Rule) (span : Span) (names : List (List ℕ)) : Type 0 where
   before_bounds : FirstBreakBeforeBounds deployed principal text rule span names → FirstBreakOf deployed principal table text rule span names
   -- the bound of a function is above the limit
   in_bounds : (forms : List Form) (order : List ℕ) (defined : Defined) (dimension : Dimension) → TypedAs deployed principal text forms order defined → NoneWrites deployed principal forms → FirstBound defined forms order table dimension span → rule ≡ BoundTooLarge dimension → names ≡ [] → FirstBreakOf deployed principal table text rule span names

@@ -8,7 +8,7 @@ use Rattle.cl_rules.specs.FormRules.{Defined}
 use Rattle.cl_rules.specs.Judging.{Judged}
 use Rattle.cl_rules.specs.Acceptance.{FirstWriting}
 use Rattle.cl_rules.specs.PlainProgram.{Program, program_of, text_judged, line_by}
-use Rattle.cl_rules.specs.Samples.{contract_f, deployed, line, refused, span}
+use Rattle.cl_rules.specs.Samples.{contract_f, of_one, deployed, line, refused, span}
 
 -- ---- one contract calls another
 
@@ -21,7 +21,7 @@ calling = codes "(define-data-var w uint u0)(define-public (go (good bool) (mine
 pub record CallOfAnother : Type 0 where
   pub called_line : line (codes "set-it") called ≡ Some (cost5 10 0 0 1 17, ResponseType UintType UintType)
   -- the text of the called contract has 119 bytes
-  pub calling_line : line_by unit_function (codes "go") (text_judged (deployed (codes "b") called) contract_f calling) ≡ Some (cost5 25 1 119 2 34, ResponseType BoolType BoolType)
+  pub calling_line : line_by unit_function (codes "go") (text_judged (deployed (codes "b") called) contract_f (of_one calling)) ≡ Some (cost5 25 1 119 2 34, ResponseType BoolType BoolType)
 
 -- ---- what a call may break
 
@@ -30,7 +30,7 @@ library = codes "(define-private (p) 1)(define-read-only (h (x int)) (ok x))"
 
 -- a text judged beside the contract g
 abbrev pub beside_library : List ℕ → Judged Defined
-beside_library text = text_judged (deployed (codes "g") library) contract_f text
+beside_library text = text_judged (deployed (codes "g") library) contract_f (of_one text)
 
 pub record BreaksOfCalls : Type 0 where
   pub no_such_function : beside_library (codes "(define-read-only (f) (contract-call? .g other))") ≡ refused NoSuchFunction 22 47

@@ -106,7 +106,7 @@ abbrev pub usable_row : Option Row → Option Signature → Option Usable
 usable_row row f = given_by_name ANative AFunction row f
 
 abbrev pub usable : Context → List ℕ → Option Usable
-usable G x = usable_row (native x) (signature_in x G.functions)
+usable G x = usable_row (native G.version x) (signature_in x G.functions)
 
 -- what is to be applied: there is no such place; no function; this
 abbrev pub used : Context → List Tree → First Usable

@@ -12,6 +12,7 @@ use Rattle.cl_forms.specs.declared.keyword.Keyword.TheVariants as keys
 use Rattle.cl_forms.specs.Names.{is_one_of}
 pub use Rattle.cl_forms.specs.Names.{same, named_in}
 use Rattle.cl_forms.specs.Shapes.{open_to_others}
+use Rattle.cl_forms.specs.declared.version.Version.{Version}
 use Rattle.cl_forms.specs.Heads.{native, is_reserved, define_words}
 use Rattle.cl_rules.specs.Bills.{Bill}
 
@@ -32,10 +33,11 @@ pub record Known : Type 0 where
   pub length : ℕ
   pub functions : List Signature
 
--- The contract that is checked, the deployed ones, and the forms before: constants and variables with their types, maps with
+-- The contract that is checked, the version of its text, the deployed ones, and the forms before: constants and variables with their types, maps with
 -- the types of their keys and values, non-fungible tokens with the types of their assets' ids.
 pub record Context : Type 0 where
   pub principal : Principal
+  pub version : Version
   pub deployed : List Known
   pub constants : List (List ℕ × PlainType)
   pub variables : List (List ℕ × PlainType)
@@ -69,12 +71,12 @@ is_top_level G x =
 
 -- a name that no binding may have: it is reserved, top-level, or bound outside
 abbrev pub is_taken : Context → Names → List ℕ → Bool
-is_taken G B x = is_reserved x || is_top_level G x || is_named x B
+is_taken G B x = is_reserved G.version x || is_top_level G x || is_named x B
 
 -- a name that stands for no value: that of a native, a function, a variable, a map, a token, or a define word
 abbrev pub is_no_value : Context → List ℕ → Bool
 is_no_value G x =
-    is_some (native x) || is_some (signature_in x G.functions) || is_named x G.variables || is_named x G.maps
+    is_some (native G.version x) || is_some (signature_in x G.functions) || is_named x G.variables || is_named x G.maps
     || list_any (same x) G.fungibles || is_named x G.nonfungibles || is_one_of define_words x
 
 -- one more name that is bound

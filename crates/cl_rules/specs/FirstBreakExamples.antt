@@ -2,6 +2,7 @@
 use Rattle.std.specs.Prelude.{ℕ, List, [], codes, length}
 use Rattle.cl_sexpr.specs.declared.rule.Rule.{Rule}
 use Rattle.cl_sexpr.specs.declared.rule.Rule.TheVariants.{TooLarge, Undetermined, UnusedResponse}
+use Rattle.cl_forms.specs.declared.version.Version.TheVariants.{One}
 use Rattle.cl_rules.specs.FormRules.{nothing_defined}
 use Rattle.cl_rules.specs.FormTyping.{FirstFormBreak}
 use Rattle.cl_rules.specs.Acceptance.{forms_at}
@@ -14,7 +15,7 @@ program text = or_nothing (program_of text)
 
 -- the first break among the forms of a text, which are typed in their order
 abbrev pub IsFirstIn : List ℕ → Rule → ℕ → ℕ → Type 0
-IsFirstIn text rule start end = FirstFormBreak (nothing_defined [] contract_f (length text)) (forms_at (program text).forms (program text).order) rule (span start end)
+IsFirstIn text rule start end = FirstFormBreak (nothing_defined [] contract_f One (length text)) (forms_at (program text).forms (program text).order) rule (span start end)
 
 pub record FirstBreaks : Type 0 where
   pub undetermined : IsFirstIn (codes "(define-read-only (f) (unwrap-panic none))") Undetermined 22 41

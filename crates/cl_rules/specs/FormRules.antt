@@ -5,6 +5,7 @@ use Rattle.cl_types.specs.declared.sized.Access.{Access}
 use Rattle.cl_types.specs.declared.sized.Access.TheVariants.{Public}
 use Rattle.cl_c32.specs.declared.principal.Principal.{Principal}
 use Rattle.cl_shapes.specs.declared.name.CostName.TheVariants.{Call, Define, Deploy}
+use Rattle.cl_forms.specs.declared.version.Version.{Version}
 use Rattle.cl_forms.specs.Forms.{Form, FormKind, ConstantForm, VariableForm, MapForm, FungibleForm, NonFungibleForm, FunctionForm, ExpressionForm}
 use Rattle.cl_rules.specs.Faults.{FormFaults, sound_form}
 use Rattle.cl_types.specs.TypeKinds.{is_response}
@@ -23,10 +24,10 @@ pub record Defined : Type 0 where
   pub context : Context
   pub deploy : Bill
 
--- before all forms: the charge of a deployment, with the length of the text
-abbrev pub nothing_defined : List Known → Principal → ℕ → Defined
-nothing_defined deployed principal size = record {
-  context = record { principal = principal; deployed = deployed; constants = []; variables = []; maps = []; fungibles = []; nonfungibles = []; functions = [] };
+-- before all forms of a text of this version and length: the charge of a deployment, with that length
+abbrev pub nothing_defined : List Known → Principal → Version → ℕ → Defined
+nothing_defined deployed principal version size = record {
+  context = record { principal = principal; version = version; deployed = deployed; constants = []; variables = []; maps = []; fungibles = []; nonfungibles = []; functions = [] };
   deploy = Charge Deploy size;
 }
 

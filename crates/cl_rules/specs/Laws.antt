@@ -5,6 +5,8 @@ use Rattle.cl_shapes.specs.declared.cost.Dimension.{Dimension}
 use Rattle.cl_sexpr.specs.declared.sexpr.Span.{Span}
 use Rattle.cl_sexpr.specs.declared.rule.Rule.{Rule}
 use Rattle.cl_sexpr.specs.Tree.{Tree}
+use Rattle.cl_forms.specs.declared.version.Version.{Version}
+use Rattle.cl_forms.specs.Texts.{Text}
 use Rattle.cl_forms.specs.Forms.{Form}
 use Rattle.cl_rules.specs.Context.{CostTable, Known, Context, Names}
 use Rattle.cl_rules.specs.Verdicts.{Found}
@@ -83,37 +85,37 @@ FormsJudgedStop = (D : Defined) (forms : List Form) (r : Rule) (s : Span) → fo
 
 -- a text has one row of forms, in one order
 abbrev pub OneOrder : Type 0
-OneOrder = (text : List ℕ) (f g : List Form) (o p : List ℕ) → Ordered text f o → Ordered text g p → (f ≡ g) × (o ≡ p)
+OneOrder = (text : Text) (f g : List Form) (o p : List ℕ) → Ordered text f o → Ordered text g p → (f ≡ g) × (o ≡ p)
 
 -- a text whose forms have an order has no first break before that
 abbrev pub OrderedIsClean : Type 0
-OrderedIsClean = (text : List ℕ) (forms : List Form) (order : List ℕ) (rule : Rule) (span : Span) (names : List (List ℕ)) → Ordered text forms order → FirstUnordered text rule span names → ⊥
+OrderedIsClean = (text : Text) (forms : List Form) (order : List ℕ) (rule : Rule) (span : Span) (names : List (List ℕ)) → Ordered text forms order → FirstUnordered text rule span names → ⊥
 
 -- the first break before that is one
 abbrev pub OneFirstUnordered : Type 0
-OneFirstUnordered = (text : List ℕ) (r q : Rule) (s u : Span) (n m : List (List ℕ)) → FirstUnordered text r s n → FirstUnordered text q u m → (r ≡ q) × (s ≡ u) × (n ≡ m)
+OneFirstUnordered = (text : Text) (r q : Rule) (s u : Span) (n m : List (List ℕ)) → FirstUnordered text r s n → FirstUnordered text q u m → (r ≡ q) × (s ≡ u) × (n ≡ m)
 
 -- no accepted text has a first break
 abbrev pub AcceptedIsClean : Type 0
-AcceptedIsClean = (deployed : List Known) (principal : Principal) (table : CostTable) (text : List ℕ) (rule : Rule) (span : Span) (names : List (List ℕ)) → Accepted deployed principal table text → FirstBreakOf deployed principal table text rule span names → ⊥
+AcceptedIsClean = (deployed : List Known) (principal : Principal) (table : CostTable) (text : Text) (rule : Rule) (span : Span) (names : List (List ℕ)) → Accepted deployed principal table text → FirstBreakOf deployed principal table text rule span names → ⊥
 
 -- what a text defines is one
 abbrev pub OneDefined : Type 0
-OneDefined = (deployed : List Known) (principal : Principal) (table : CostTable) (text : List ℕ) (a b : Accepted deployed principal table text) → a.defined ≡ b.defined
+OneDefined = (deployed : List Known) (principal : Principal) (table : CostTable) (text : Text) (a b : Accepted deployed principal table text) → a.defined ≡ b.defined
 
 -- the first break of a text is one: its rule, its span and its names
 abbrev pub OneFirstOf : Type 0
-OneFirstOf = (deployed : List Known) (principal : Principal) (table : CostTable) (text : List ℕ) (r q : Rule) (s u : Span) (n m : List (List ℕ)) → FirstBreakOf deployed principal table text r s n → FirstBreakOf deployed principal table text q u m → (r ≡ q) × (s ≡ u) × (n ≡ m)
+OneFirstOf = (deployed : List Known) (principal : Principal) (table : CostTable) (text : Text) (r q : Rule) (s u : Span) (n m : List (List ℕ)) → FirstBreakOf deployed principal table text r s n → FirstBreakOf deployed principal table text q u m → (r ≡ q) × (s ≡ u) × (n ≡ m)
 
 -- the forms of a text in their order are typed, or have a first break
 abbrev pub TextDecided : Type 0
-TextDecided = (deployed : List Known) (principal : Principal) (text : List ℕ) (forms : List Form) (order : List ℕ) → Ordered text forms order →
-    ((E : Defined) × FormsTyped (nothing_defined deployed principal (length text)) (forms_at forms order) E)
-    ⊎ ((r : Rule) × (s : Span) × FirstFormBreak (nothing_defined deployed principal (length text)) (forms_at forms order) r s)
+TextDecided = (deployed : List Known) (principal : Principal) (text : Text) (forms : List Form) (order : List ℕ) → Ordered text forms order →
+    ((E : Defined) × FormsTyped (nothing_defined deployed principal text.version (length text.bytes)) (forms_at forms order) E)
+    ⊎ ((r : Rule) × (s : Span) × FirstFormBreak (nothing_defined deployed principal text.version (length text.bytes)) (forms_at forms order) r s)
 
 -- where a walk over them stops is the first break
 abbrev pub TextWalkIsFirst : Type 0
-TextWalkIsFirst = (D : Defined) (text : List ℕ) (forms : List Form) (order : List ℕ) (r : Rule) (s : Span) → Ordered text forms order → FormsStop D (forms_at forms order) r s → FirstFormBreak D (forms_at forms order) r s
+TextWalkIsFirst = (D : Defined) (text : Text) (forms : List Form) (order : List ℕ) (r : Rule) (s : Span) → Ordered text forms order → FormsStop D (forms_at forms order) r s → FirstFormBreak D (forms_at forms order) r s
 
 -- ---- bounds
 
@@ -124,10 +126,10 @@ IsFirstAboveLimit defined forms order table dimension span =
 
 -- where the plain program stops at a bound, it is the first above the limit
 abbrev pub BoundStopIsFirst : Type 0
-BoundStopIsFirst = (deployed : List Known) (principal : Principal) (size : ℕ) (forms : List Form) (order : List ℕ) (defined : Defined) (table : CostTable) (dimension : Dimension) (span : Span) →
-    FormsTyped (nothing_defined deployed principal size) (forms_at forms order) defined → bound_stop table defined (forms_at forms order) ≡ Some (dimension, span) → IsFirstAboveLimit defined forms order table dimension span
+BoundStopIsFirst = (deployed : List Known) (principal : Principal) (version : Version) (size : ℕ) (forms : List Form) (order : List ℕ) (defined : Defined) (table : CostTable) (dimension : Dimension) (span : Span) →
+    FormsTyped (nothing_defined deployed principal version size) (forms_at forms order) defined → bound_stop table defined (forms_at forms order) ≡ Some (dimension, span) → IsFirstAboveLimit defined forms order table dimension span
 
 -- where it doesn't stop, no bound is above the limit
 abbrev pub NoStopIsBounded : Type 0
-NoStopIsBounded = (deployed : List Known) (principal : Principal) (size : ℕ) (forms : List Form) (order : List ℕ) (defined : Defined) (table : CostTable) →
-    FormsTyped (nothing_defined deployed principal size) (forms_at forms order) defined → bound_stop table defined (forms_at forms order) ≡ None → Bounded defined forms table
+NoStopIsBounded = (deployed : List Known) (principal : Principal) (version : Version) (size : ℕ) (forms : List Form) (order : List ℕ) (defined : Defined) (table : CostTable) →
+    FormsTyped (nothing_defined deployed principal version size) (forms_at forms order) defined → bound_stop table defined (forms_at forms order) ≡ None → Bounded defined forms table

@@ -22,5 +22,6 @@ pub mod TokenExamples
 pub mod Chains
 pub mod BreakExamples
 pub mod RowExamples
+pub mod LaterExamples
 pub mod CallExamples
 pub mod FirstBreakExamples

@@ -2,7 +2,7 @@
 -- rules that are broken.
 use Rattle.std.specs.Prelude.{ℕ, ◌+◌, ◌&&◌, ◌||◌, not, nat_lt, nat_eq, Bool, true, false, List, [], ◌∷◌, length, if◌then◌else◌, Option, Some, None, Result, Ok, Err}
 use Rattle.std.specs.Cmp.Lexicographic.{pointwise}
-use Rattle.cl_types.specs.Types.{PlainType, NoType, IntType, UintType, BoolType, BuffType, AsciiType, Utf8Type, ListType, TupleType, OptionalType, ResponseType, Fields, NoField, Field, admits, depth_of}
+use Rattle.cl_types.specs.Types.{PlainType, NoType, IntType, UintType, BoolType, BuffType, AsciiType, Utf8Type, ListType, TupleType, OptionalType, ResponseType, Fields, NoField, Field, admits, depth_of, size_of}
 use Rattle.cl_types.specs.TypeKinds.{is_int, is_uint, is_bool, is_optional, is_response, are_numbers, is_hashed, is_sequence, entry_of, resized}
 use Rattle.cl_types.specs.Lattice.{least_supertype}
 use Rattle.cl_types.specs.declared.sized.TyRefusal.{TyRefusal}
@@ -10,7 +10,7 @@ use Rattle.cl_types.specs.declared.sized.TyRefusal.TheVariants.{Differ}
 use Rattle.cl_types.specs.Sized.{everywhere, is_within, most_depth, is_among, placed}
 use Rattle.cl_sexpr.specs.declared.rule.Rule.{Rule}
 use Rattle.cl_values.specs.declared.native.Native.{Native}
-use Rattle.cl_values.specs.declared.native.Native.TheVariants.{Add, Subtract, Multiply, Divide, Modulo, Power, Xor, SquareRoot, Log2, ToInt, ToUint, Not, Less, AtMost, Greater, AtLeast, Same, Sha256, Sha512, Sha512Of256, MakeSome, MakeOk, MakeErr, IsSome, IsNone, IsOk, IsErr, DefaultTo, UnwrapPanic, UnwrapErrPanic, MakeList, Merge, Append, Concat, Len, ElementAt, IndexOf}
+use Rattle.cl_values.specs.declared.native.Native.TheVariants.{Add, Subtract, Multiply, Divide, Modulo, Power, Xor, SquareRoot, Log2, ToInt, ToUint, Not, Less, AtMost, Greater, AtLeast, Same, Sha256, Sha512, Sha512Of256, MakeSome, MakeOk, MakeErr, IsSome, IsNone, IsOk, IsErr, DefaultTo, UnwrapPanic, UnwrapErrPanic, MakeList, Merge, Append, Concat, Len, ElementAt, IndexOf, ContentLess, ContentAtMost, ContentGreater, ContentAtLeast, BitAnd, BitOr, BitXor, BitNot, ShiftLeft, ShiftRight, Slice, ReplaceAt, EntryAt, PlaceOf, ToConsensusBuff}
 use Rattle.cl_rules.specs.Faults.{TypeFaults, sound_types, type_rules}
 
 -- What follows from the types of an expression's parts: what is broken, the type where nothing is, and the type that the
@@ -79,7 +79,7 @@ and_ruled r make = or_broken (type_rules r.faults) r (make r.type)
 
 -- ---- rows
 
--- a row of one or of two arguments; at any other number nothing is asked of it
+-- a row of one, of two or of three arguments; at any other number nothing is asked of it
 abbrev pub one : (PlainType → Ruled) → List PlainType → Ruled
 one row (t ∷ []) = row t
 one row ts = fine NoType
@@ -87,6 +87,10 @@ one row ts = fine NoType
 abbrev pub two : (PlainType → PlainType → Ruled) → List PlainType → Ruled
 two row (t ∷ u ∷ []) = row t u
 two row ts = fine NoType
+
+abbrev pub three : (PlainType → PlainType → PlainType → Ruled) → List PlainType → Ruled
+three row (t ∷ u ∷ s ∷ []) = row t u s
+three row ts = fine NoType
 
 abbrev pub first_of : List PlainType → PlainType
 first_of [] = NoType
@@ -98,6 +102,25 @@ number_row ts = of_kind (are_numbers ts) (first_of ts)
 
 abbrev pub compare_row : List PlainType → Ruled
 compare_row ts = of_kind (are_numbers ts) BoolType
+
+-- numbers, buffers or strings of one kind
+abbrev pub have_order : PlainType → PlainType → Bool
+have_order IntType IntType = true
+have_order UintType UintType = true
+have_order (BuffType m) (BuffType n) = true
+have_order (AsciiType m) (AsciiType n) = true
+have_order (Utf8Type m) (Utf8Type n) = true
+have_order t u = false
+
+abbrev pub content_row : PlainType → PlainType → Ruled
+content_row t u = of_kind (have_order t u) BoolType
+
+abbrev pub is_number : PlainType → Bool
+is_number t = is_int t || is_uint t
+
+-- a number and a uint of places
+abbrev pub shift_row : PlainType → PlainType → Ruled
+shift_row t u = of_kind (is_number t && is_uint u) t
 
 -- values with a common supertype
 abbrev pub equal_row : List PlainType → Ruled
@@ -160,6 +183,18 @@ element_row s i = if_kind (is_sequence s && is_uint i) (made (OptionalType (entr
 abbrev pub index_row : PlainType → PlainType → Ruled
 index_row s item = of_kind (is_sequence s && admits (entry_of s) item) (OptionalType UintType)
 
+-- a part of a sequence between two places
+abbrev pub slice_row : PlainType → PlainType → PlainType → Ruled
+slice_row s i j = if_kind (is_sequence s && is_uint i && is_uint j) (made (OptionalType s))
+
+-- a sequence with an item in a place, which the entry type admits
+abbrev pub replace_row : PlainType → PlainType → PlainType → Ruled
+replace_row s i item = if_kind (is_sequence s && is_uint i && admits (entry_of s) item) (made (OptionalType s))
+
+-- the wire form, which is no longer than the size of the type
+abbrev pub consensus_row : PlainType → Ruled
+consensus_row t = made (OptionalType (BuffType (size_of t)))
+
 -- ---- the table
 
 unfoldable pub native_type : Native → List PlainType → Ruled
@@ -200,6 +235,21 @@ native_type Concat ts = two concat_row ts
 native_type Len ts = one (λ t. of_kind (is_sequence t) UintType) ts
 native_type ElementAt ts = two element_row ts
 native_type IndexOf ts = two index_row ts
+native_type ContentLess ts = two content_row ts
+native_type ContentAtMost ts = two content_row ts
+native_type ContentGreater ts = two content_row ts
+native_type ContentAtLeast ts = two content_row ts
+native_type BitAnd ts = number_row ts
+native_type BitOr ts = number_row ts
+native_type BitXor ts = number_row ts
+native_type BitNot ts = number_row ts
+native_type ShiftLeft ts = two shift_row ts
+native_type ShiftRight ts = two shift_row ts
+native_type Slice ts = three slice_row ts
+native_type ReplaceAt ts = three replace_row ts
+native_type EntryAt ts = two element_row ts
+native_type PlaceOf ts = two index_row ts
+native_type ToConsensusBuff ts = one consensus_row ts
 
 -- ---- rows with a key or a length that isn't evaluated
 

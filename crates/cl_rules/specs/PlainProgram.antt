@@ -11,6 +11,8 @@ use Rattle.cl_sexpr.specs.declared.rule.Break.{Break}
 use Rattle.cl_sexpr.specs.Tree.{Tree, LeafAt, ListAt, TupleAt, Leaf, Named, forest, pairs}
 use Rattle.cl_sexpr.specs.Token.{Token, Opens, Closes, OpensTuple, ClosesTuple, Is}
 use Rattle.cl_sexpr.specs.Text.{token_at}
+use Rattle.cl_forms.specs.declared.version.Version.{Version}
+use Rattle.cl_forms.specs.Texts.{Text}
 use Rattle.cl_forms.specs.Forms.{Form}
 use Rattle.cl_forms.specs.Items.{form_of}
 use Rattle.cl_forms.specs.Order.{ordered}
@@ -111,13 +113,13 @@ program_of text = option_and_then (λ forms. program_by forms (ordered forms)) (
 
 -- ---- judging
 
-abbrev pub program_judged : List Known → Principal → ℕ → Option Program → Judged Defined
-program_judged deployed principal size None = Deeper
-program_judged deployed principal size (Some p) = forms_judged (nothing_defined deployed principal size) (forms_at p.forms p.order)
+abbrev pub program_judged : List Known → Principal → Version → ℕ → Option Program → Judged Defined
+program_judged deployed principal version size None = Deeper
+program_judged deployed principal version size (Some p) = forms_judged (nothing_defined deployed principal version size) (forms_at p.forms p.order)
 
 -- what the forms of a text define, or where the judgement stops
-abbrev pub text_judged : List Known → Principal → List ℕ → Judged Defined
-text_judged deployed principal text = program_judged deployed principal (length text) (program_of text)
+abbrev pub text_judged : List Known → Principal → Text → Judged Defined
+text_judged deployed principal text = program_judged deployed principal text.version (length text.bytes) (program_of text.bytes)
 
 -- ---- bounds
 

@@ -16,8 +16,10 @@ use Rattle.hex.specs.Hex.{decode_pairs}
 use Rattle.cl_sexpr.specs.Leaf.{run_token}
 use Rattle.cl_sexpr.specs.Quote.{escape_of, string_at, text_in}
 use Rattle.cl_sexpr.specs.Text.{token_at}
+use Rattle.cl_forms.specs.declared.version.Version.TheVariants.{One, Two}
+use Rattle.cl_forms.specs.Texts.{Text, text_of}
 use Rattle.cl_forms.specs.WrittenTypes.{written_type}
-use Rattle.cl_forms.specs.Heads.{native, is_reserved}
+use Rattle.cl_forms.specs.Heads.{native, words, is_reserved}
 use Rattle.cl_forms.specs.Items.{item_of}
 use Rattle.cl_forms.specs.Order.{visit, ordered}
 use Rattle.cl_rules.specs.Context.{CostTable, Known}
@@ -30,7 +32,7 @@ use Rattle.cl_rules.specs.PlainProgram.{read_on, program_of, text_judged, bound_
 
 -- all that an example opens
 unfoldable pub opened : Unit {0}
-unfolding native is_reserved item_of written_type visit ordered decode_pairs run_token escape_of text_in string_at token_at native_type head_shape shape judged form_judged forms_judged read_on log2 halvings
+unfolding native words is_reserved item_of written_type visit ordered decode_pairs run_token escape_of text_in string_at token_at native_type head_shape shape judged form_judged forms_judged read_on log2 halvings
 opened = tt
 
 -- the contract f of the address SP000000000000000000002Q6VF78
@@ -41,9 +43,17 @@ contract_f = record { address = record { version = 22; hash = replicate 20 0 }; 
 abbrev pub contract_named : List ℕ → Principal
 contract_named name = record contract_f { contract = Some name }
 
--- a text judged as the contract f, with no contract deployed
+-- a text of version 1
+abbrev pub of_one : List ℕ → Text
+of_one bytes = text_of bytes One
+
+-- a text of version 1 judged as the contract f, with no contract deployed
 abbrev pub checked : List ℕ → Judged Defined
-checked text = text_judged [] contract_f text
+checked text = text_judged [] contract_f (of_one text)
+
+-- the same of a text of version 2
+abbrev pub checked_two : List ℕ → Judged Defined
+checked_two text = text_judged [] contract_f (text_of text Two)
 
 abbrev pub span : ℕ → ℕ → Span
 span start end = record { start = start; end = end }
@@ -86,6 +96,13 @@ number_of (Some l) = Some (l.0.runtime, l.1)
 abbrev pub charged : List ℕ → List ℕ → Option (ℕ × PlainType)
 charged word text = number_of (line_by (only word) (codes "f") (checked text))
 
+-- the same of a text of version 2
+abbrev pub line_two : List ℕ → List ℕ → Option (Cost5 × PlainType)
+line_two name text = line_by unit_function name (checked_two text)
+
+abbrev pub charged_two : List ℕ → List ℕ → Option (ℕ × PlainType)
+charged_two word text = number_of (line_by (only word) (codes "f") (checked_two text))
+
 -- ---- deployed contracts
 
 abbrev pub known_by : Principal → ℕ → Judged Defined → List Known
@@ -95,4 +112,4 @@ known_by principal size Deeper = []
 
 -- the contract of this name and text, deployed alone
 abbrev pub deployed : List ℕ → List ℕ → List Known
-deployed name text = known_by (contract_named name) (length text) (text_judged [] (contract_named name) text)
+deployed name text = known_by (contract_named name) (length text) (text_judged [] (contract_named name) (of_one text))

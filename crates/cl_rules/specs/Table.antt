@@ -58,5 +58,5 @@ operator_shape None f G B es = call_shape f B es
 unfoldable pub shape : Context → Names → Tree → Shape
 shape G B (LeafAt leaf at) = leaf_shape G B leaf
 shape G B (TupleAt ps at) = tuple_shape sound_shape B (pairs_of ps)
-shape G B (ListAt (Then (LeafAt (Named x) at') es) at) = operator_shape (native x) (signature_in x G.functions) G B (trees_of es)
+shape G B (ListAt (Then (LeafAt (Named x) at') es) at) = operator_shape (native G.version x) (signature_in x G.functions) G B (trees_of es)
 shape G B (ListAt es at) = unlooked (record sound_shape { empty_form = true })

@@ -5,6 +5,7 @@ ghost use Rattle.cl_rules.specs.CallExamples.{CallOfAnother, BreaksOfCalls, Writ
 ghost use Rattle.cl_rules.specs.FirstBreakExamples.{FirstBreaks};
 ghost use Rattle.cl_rules.specs.Chains.{BoundsOfChains, HeightsOfChains};
 ghost use Rattle.cl_rules.specs.RowExamples.{LiteralRows, NumberRows, HashAndWrapRows, MakeRows, StateRows, ControlRows, BindRows, IterationRows};
+ghost use Rattle.cl_rules.specs.LaterExamples.{LaterLines, LaterRows, LaterBreaks, ReservedNames};
 ghost use Rattle.cl_rules.specs.BreakExamples.{BreaksByShape, BreaksByTypes, BreaksInMatch, BreaksOfForms, BreaksInOrder, AcceptedExamples};
 
 /// Types and bounds.
@@ -24,6 +25,14 @@ pub fn rows_of_the_table()
     ensures control { ControlRows }
     ensures bound { BindRows }
     ensures iterations { IterationRows }
+{}
+
+/// The rows that texts of version 2 alone have, and what the same texts are as version 1.
+pub fn rows_of_version_two()
+    ensures lines { LaterLines }
+    ensures rows { LaterRows }
+    ensures breaks { LaterBreaks }
+    ensures reserved { ReservedNames }
 {}
 
 /// Chains of functions, each of which applies the one before.

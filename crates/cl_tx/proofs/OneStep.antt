@@ -1,7 +1,8 @@
 -- What an entry makes of a node is one.
-use Rattle.std.proofs.Common.{◌≡◌, ℕ, List, [], ◌∷◌, sym, ap, ◌∙◌, subst}
+use Rattle.std.proofs.Common.{◌≡◌, List, [], ◌∷◌, sym, ap, ◌∙◌, subst}
 use Rattle.cl_c32.specs.declared.principal.Principal.{Principal}
 use Rattle.cl_events.specs.declared.event.Event.{Event}
+use Rattle.cl_forms.specs.Texts.{Text, text_of}
 use Rattle.cl_meaning.specs.Limits.{Costs}
 use Rattle.cl_rules.specs.Laws.{AcceptedIsClean, OneDefined, OneOrder, OneFirstOf}
 use Rattle.cl_file.specs.declared.entry.Common.{Common}
@@ -15,7 +16,7 @@ use Rattle.cl_tx.specs.Step.{run_deployment, DeploySteps, name_taken, source_ref
 use Rattle.cl_tx.proofs.StepCases.{some_same, none_some}
 
 module _ (clean : AcceptedIsClean) (one : OneDefined) (order : OneOrder) (first : OneFirstOf) where
-  deploy_one : (costs : Costs) (node : NodeSeen) (common : Common) (principal : Principal) (source : List ℕ) (s t : Stepped) → DeploySteps costs node common principal source s → DeploySteps costs node common principal source t → s ≡ t
+  deploy_one : (costs : Costs) (node : NodeSeen) (common : Common) (principal : Principal) (source : Text) (s t : Stepped) → DeploySteps costs node common principal source s → DeploySteps costs node common principal source t → s ≡ t
   deploy_one costs node common principal source s t (name_taken k e p) (name_taken l f q) = p ∙ sym q
   deploy_one costs node common principal source s t (name_taken k e p) (source_refused rule span names f b q) = absurd (none_some k _ f e)
   deploy_one costs node common principal source s t (name_taken k e p) (evaluated f a q) = absurd (none_some k _ f e)
@@ -32,7 +33,7 @@ module _ (clean : AcceptedIsClean) (one : OneDefined) (order : OneOrder) (first 
       some_same s t (sym p ∙ (λ i. run_deployment costs node common principal source (forms.0 i) (defined i)) ∙ q)
 
   pub step_one : (costs : Costs) (node : NodeSeen) (entry : Entry) (s t : Stepped) → Steps costs node entry s → Steps costs node entry t → s ≡ t
-  step_one costs node (Deploy common name source) s t x y = deploy_one costs node common (contract_of common.sender name) source s t x y
+  step_one costs node (Deploy common name source version) s t x y = deploy_one costs node common (contract_of common.sender name) (text_of source version) s t x y
   step_one costs node (Call common contract function args) s t x y = some_same s t (sym x ∙ y)
   step_one costs node (Block height) s t x y = x ∙ sym y
 

@@ -7,6 +7,7 @@ use Rattle.cl_shapes.specs.declared.cost.Cost5.{Cost5}
 use Rattle.cl_shapes.specs.Limits.{Purse}
 use Rattle.cl_values.specs.Tree.{Tree, ResponseV}
 use Rattle.cl_events.specs.State.{State}
+use Rattle.cl_forms.specs.Texts.{Text, text_of}
 use Rattle.cl_meaning.specs.Deployed.{Contract, Function, contract_at, function_in}
 use Rattle.cl_meaning.specs.Limits.{Costs, Limited, Gave, Threw, AbortedBy, Passed, Lost}
 use Rattle.cl_rules.specs.Context.{Known, known_at}
@@ -103,8 +104,8 @@ module _ (P : Stepped → Type 0) where
     deployment_holds common told known (Passed over purse) done = holds _ (stay _ _ _)
     deployment_holds common told known (Lost purse) done = nothing
 
-    module _ (costs : Costs) (done : (principal : Principal) (source : List ℕ) (accepted : Accepted node.known principal costs source) → known_at principal node.known ≡ None → (told : Told) (c : Contract) → c.principal ≡ principal → (cost : Cost5) (s : State) → P (moves_on (with_contract node c (known_of principal (length source) accepted.defined)) told Done cost s)) where
-      pub deploy_holds : (common : Common) (principal : Principal) (source : List ℕ) (s : Stepped) → DeploySteps costs node common principal source s → P s
+    module _ (costs : Costs) (done : (principal : Principal) (source : Text) (accepted : Accepted node.known principal costs source) → known_at principal node.known ≡ None → (told : Told) (c : Contract) → c.principal ≡ principal → (cost : Cost5) (s : State) → P (moves_on (with_contract node c (known_of principal (length source.bytes) accepted.defined)) told Done cost s)) where
+      pub deploy_holds : (common : Common) (principal : Principal) (source : Text) (s : Stepped) → DeploySteps costs node common principal source s → P s
       unfolding run_deployment
       deploy_holds common principal source s (name_taken known e p) = subst P (sym p) (stay _ _ _)
       deploy_holds common principal source s (source_refused rule span names e b p) = subst P (sym p) (stay _ _ _)
@@ -112,6 +113,6 @@ module _ (P : Stepped → Type 0) where
           deployment_holds common _ _ _ (λ c t purse is. done principal source a e _ c (principal_kept _ _ _ _ _ _ c t purse is) purse.spent t) s p
 
       pub step_holds : ((outcome : Outcome) → IsKept outcome → (cost : Cost5) (s : State) → P (moves_on node nothing_told outcome cost s)) → ((height : ℕ) → P (moved node height)) → (entry : Entry) (s : Stepped) → Steps costs node entry s → P s
-      step_holds go block (Deploy common name source) s x = deploy_holds common (contract_of common.sender name) source s x
+      step_holds go block (Deploy common name source version) s x = deploy_holds common (contract_of common.sender name) (text_of source version) s x
       step_holds go block (Call common contract function args) s x = call_holds node (λ outcome cost. stay nothing_told outcome cost) go costs common contract args function s x
       step_holds go block (Block height) s x = subst P (sym x) (block height)

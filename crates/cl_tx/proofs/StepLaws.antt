@@ -3,6 +3,7 @@ use Rattle.std.proofs.Common.{◌≡◌, ℕ, List, [], ◌∷◌, ◌++◌, len
 use Rattle.std.proofs.lemmas.List.{map-append}
 use Rattle.cl_c32.specs.declared.principal.Principal.{Principal}
 use Rattle.cl_values.specs.Tree.{Tree}
+use Rattle.cl_forms.specs.Texts.{Text, text_of}
 use Rattle.cl_meaning.specs.Deployed.{Contract}
 use Rattle.cl_meaning.specs.Limits.{Costs, Limited, Gave, Threw, AbortedBy, Passed, Lost}
 use Rattle.cl_rules.specs.Context.{Known, known_at}
@@ -43,13 +44,13 @@ module _ (costs : Costs) where
   abbrev EndsInNode : Stepped → Type 0
   EndsInNode s = IsNode costs s.node
 
-  one_more : (node : NodeSeen) (principal : Principal) (source : List ℕ) (a : Accepted node.known principal costs source) (c : Contract) → c.principal ≡ principal
+  one_more : (node : NodeSeen) (principal : Principal) (source : Text) (a : Accepted node.known principal costs source) (c : Contract) → c.principal ≡ principal
       → map (λ (d : Contract). d.principal) node.contracts ≡ map (λ (k : Known). k.principal) node.known
-      → map (λ (d : Contract). d.principal) (node.contracts ++ c ∷ []) ≡ map (λ (k : Known). k.principal) (node.known ++ known_of principal (length source) a.defined ∷ [])
+      → map (λ (d : Contract). d.principal) (node.contracts ++ c ∷ []) ≡ map (λ (k : Known). k.principal) (node.known ++ known_of principal (length source.bytes) a.defined ∷ [])
   one_more node principal source a c is same =
       map-append (λ (d : Contract). d.principal) node.contracts (c ∷ [])
       ∙ (λ i. same i ++ is i ∷ [])
-      ∙ sym (map-append (λ (k : Known). k.principal) node.known (known_of principal (length source) a.defined ∷ []))
+      ∙ sym (map-append (λ (k : Known). k.principal) node.known (known_of principal (length source.bytes) a.defined ∷ []))
 
   pub node_stays : (node : NodeSeen) (entry : Entry) (s : Stepped) → IsNode costs node → Steps costs node entry s → IsNode costs s.node
   node_stays node entry s is x =
@@ -76,7 +77,7 @@ module _ (costs : Costs) where
 
 -- ---- bounds
 
-pub told_accepted : (costs : Costs) (node : NodeSeen) (common : Common) (principal : Principal) (source : List ℕ) (s : Stepped) → DeploySteps costs node common principal source s → IsSome s.result.bounds → Accepted node.known principal costs source
+pub told_accepted : (costs : Costs) (node : NodeSeen) (common : Common) (principal : Principal) (source : Text) (s : Stepped) → DeploySteps costs node common principal source s → IsSome s.result.bounds → Accepted node.known principal costs source
 told_accepted costs node common principal source s (name_taken known e p) h = absurd (true≢false (sym (subst (λ z. IsSome z.result.bounds) p h)))
 told_accepted costs node common principal source s (source_refused rule span names e b p) h = absurd (true≢false (sym (subst (λ z. IsSome z.result.bounds) p h)))
 told_accepted costs node common principal source s (evaluated e a p) h = a
@@ -92,7 +93,7 @@ tells common node told known (AbortedBy why purse) s e = ap (λ z. z.result.boun
 tells common node told known (Passed over purse) s e = ap (λ z. z.result.bounds) (sym (some_same _ s e))
 tells common node told known (Lost purse) s e = absurd (none_some s None refl e)
 
-pub accepted_told : AcceptedIsClean → (costs : Costs) (node : NodeSeen) (common : Common) (principal : Principal) (source : List ℕ) (s : Stepped) → DeploySteps costs node common principal source s → known_at principal node.known ≡ None → Accepted node.known principal costs source → IsSome s.result.bounds
+pub accepted_told : AcceptedIsClean → (costs : Costs) (node : NodeSeen) (common : Common) (principal : Principal) (source : Text) (s : Stepped) → DeploySteps costs node common principal source s → known_at principal node.known ≡ None → Accepted node.known principal costs source → IsSome s.result.bounds
 unfolding run_deployment
 accepted_told clean costs node common principal source s (name_taken known e p) none a = absurd (none_some known _ none e)
 accepted_told clean costs node common principal source s (source_refused rule span names e b p) none a = absurd (clean node.known principal costs source rule span names a b)
@@ -111,8 +112,8 @@ abbrev HasHeight : ℕ → Stepped → Type 0
 HasHeight height s = s.node.height ≡ height
 
 height_next : (costs : Costs) (node : NodeSeen) (entry : Entry) (s : Stepped) → Steps costs node entry s → s.node.height ≡ height_after node.height entry
-height_next costs node (Deploy common name source) s x =
-    deploy_holds (HasHeight node.height) node (λ told outcome cost. refl) costs (λ principal text a e told c is cost t. refl) common (contract_of common.sender name) source s x
+height_next costs node (Deploy common name source version) s x =
+    deploy_holds (HasHeight node.height) node (λ told outcome cost. refl) costs (λ principal text a e told c is cost t. refl) common (contract_of common.sender name) (text_of source version) s x
 height_next costs node (Call common contract function args) s x =
     call_holds (HasHeight node.height) node (λ outcome cost. refl) (λ outcome kept cost t. refl) costs common contract args function s x
 height_next costs node (Block height) s x = ap (λ (z : Stepped). z.node.height) x

@@ -1,5 +1,7 @@
 -- The laws of steps.
 use Rattle.std.specs.Prelude.{◌≡◌, ℕ, List, [], map, None, IsSome}
+use Rattle.cl_forms.specs.declared.version.Version.{Version}
+use Rattle.cl_forms.specs.Texts.{text_of}
 use Rattle.cl_c32.specs.declared.principal.Principal.{Principal}
 use Rattle.cl_values.specs.Tree.{Tree}
 use Rattle.cl_events.specs.declared.event.Event.{Event}
@@ -65,11 +67,11 @@ RunsEndInNodes = (costs : Costs) (file : FileSeen) (results : List TxResult) (af
 
 -- where a result has bounds, a deployment's source was accepted
 abbrev pub ToldIsAccepted : Type 0
-ToldIsAccepted = (costs : Costs) (node : NodeSeen) (common : Common) (name source : List ℕ) (s : Stepped) → Steps costs node (Deploy common name source) s → IsSome s.result.bounds → Accepted node.known (contract_of common.sender name) costs source
+ToldIsAccepted = (costs : Costs) (node : NodeSeen) (common : Common) (name source : List ℕ) (version : Version) (s : Stepped) → Steps costs node (Deploy common name source version) s → IsSome s.result.bounds → Accepted node.known (contract_of common.sender name) costs (text_of source version)
 
 -- where the source of a new contract is accepted, the result has bounds
 abbrev pub AcceptedIsTold : Type 0
-AcceptedIsTold = (costs : Costs) (node : NodeSeen) (common : Common) (name source : List ℕ) (s : Stepped) → Steps costs node (Deploy common name source) s → known_at (contract_of common.sender name) node.known ≡ None → Accepted node.known (contract_of common.sender name) costs source → IsSome s.result.bounds
+AcceptedIsTold = (costs : Costs) (node : NodeSeen) (common : Common) (name source : List ℕ) (version : Version) (s : Stepped) → Steps costs node (Deploy common name source version) s → known_at (contract_of common.sender name) node.known ≡ None → Accepted node.known (contract_of common.sender name) costs (text_of source version) → IsSome s.result.bounds
 
 -- a call has none
 abbrev pub CallTellsNone : Type 0

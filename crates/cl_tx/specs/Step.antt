@@ -10,6 +10,7 @@ use Rattle.cl_sexpr.specs.declared.sexpr.Span.{Span}
 use Rattle.cl_sexpr.specs.declared.rule.Rule.{Rule}
 use Rattle.cl_values.specs.Tree.{Tree}
 use Rattle.cl_values.specs.Inhabits.{inhabits}
+use Rattle.cl_forms.specs.Texts.{Text, text_of}
 use Rattle.cl_forms.specs.Forms.{Form, FormKind, FunctionForm}
 use Rattle.cl_events.specs.State.{genesis}
 use Rattle.cl_events.specs.declared.event.Event.{Event}
@@ -90,15 +91,15 @@ told_of costs defined forms = record {
 }
 
 -- a contract whose constants have no values yet
-abbrev pub contract_with : Principal → List ℕ → List Form → Contract
-contract_with principal source forms = record { principal = principal; forms = forms; source_length = length source; constants = [] }
+abbrev pub contract_with : Principal → Text → List Form → Contract
+contract_with principal source forms = record { principal = principal; version = source.version; forms = forms; source_length = length source.bytes; constants = [] }
 
 -- the deployment of an accepted source of these forms, which define this
-unfoldable pub run_deployment : Costs → NodeSeen → Common → Principal → List ℕ → List Form → Defined → Option Stepped
-run_deployment costs node common principal source forms defined = deployment_ended common node (told_of costs defined forms) (known_of principal (length source) defined) (limited costs (purse_of common) (deployment node.contracts (frame_of node common.sender principal) (contract_with principal source forms) node.state))
+unfoldable pub run_deployment : Costs → NodeSeen → Common → Principal → Text → List Form → Defined → Option Stepped
+run_deployment costs node common principal source forms defined = deployment_ended common node (told_of costs defined forms) (known_of principal (length source.bytes) defined) (limited costs (purse_of common) (deployment node.contracts (frame_of node common.sender principal) (contract_with principal source forms) node.state))
 
 -- what a deployment comes to
-pub data DeploySteps (costs : Costs) (node : NodeSeen) (common : Common) (principal : Principal) (source : List ℕ) (s : Stepped) : Type 0 where
+pub data DeploySteps (costs : Costs) (node : NodeSeen) (common : Common) (principal : Principal) (source : Text) (s : Stepped) : Type 0 where
   -- a contract of this name is deployed
   name_taken : (known : Known) → known_at principal node.known ≡ Some known → s ≡ refused node NameTaken → DeploySteps costs node common principal source s
   -- the source breaks a rule
@@ -111,7 +112,7 @@ pub data DeploySteps (costs : Costs) (node : NodeSeen) (common : Common) (princi
 -- What an entry makes of a node. The evaluations go to a depth of 256. What is charged above the entry's limit, what aborts, what
 -- an entry's conditions don't let pass, and a public function's err leave the node as it was.
 abbrev pub Steps : Costs → NodeSeen → Entry → Stepped → Type 0
-Steps costs node (Deploy common name source) s = DeploySteps costs node common (contract_of common.sender name) source s
+Steps costs node (Deploy common name source version) s = DeploySteps costs node common (contract_of common.sender name) (text_of source version) s
 Steps costs node (Call common contract function args) s = call_step costs node common contract function args ≡ Some s
 Steps costs node (Block height) s = s ≡ moved node height
 

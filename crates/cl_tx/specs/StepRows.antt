@@ -6,6 +6,7 @@ use Rattle.cl_shapes.specs.declared.cost.Cost5.{Cost5}
 use Rattle.cl_values.specs.Tree.{Tree, UintV, PrincipalV}
 use Rattle.cl_events.specs.State.{State, genesis}
 use Rattle.cl_events.specs.declared.event.Event.{Event}
+use Rattle.cl_forms.specs.Texts.{Text}
 use Rattle.cl_meaning.specs.Deployed.{Deployed}
 use Rattle.cl_meaning.specs.Samples.{P0, P1, of_P0, unit, uint, function, contract}
 use Rattle.cl_meaning.specs.PayRow.{pay_forms}
@@ -13,7 +14,7 @@ use Rattle.cl_meaning.specs.Opened.{opened as meaning_opened}
 use Rattle.cl_rules.specs.FormRules.{Defined}
 use Rattle.cl_rules.specs.Judging.{Judged, Holds}
 use Rattle.cl_rules.specs.PlainProgram.{Program, program_of, text_judged}
-use Rattle.cl_rules.specs.Samples.{opened as rules_opened}
+use Rattle.cl_rules.specs.Samples.{opened as rules_opened, of_one}
 use Rattle.cl_file.specs.declared.entry.Common.{Common}
 use Rattle.cl_file.specs.Entries.{no_limit}
 use Rattle.cl_post.specs.declared.condition.Mode.{Mode}
@@ -85,12 +86,12 @@ pays mode conditions = called_on (terms P1 no_limit mode conditions) payer rich 
 
 -- ---- deployments, by P0 on the first node
 
-abbrev pub run_by : Principal → List ℕ → Option Program → Judged Defined → Option Stepped
+abbrev pub run_by : Principal → Text → Option Program → Judged Defined → Option Stepped
 run_by principal text (Some p) (Holds defined) = run_deployment unit (first_node []) (by P0) principal text p.forms defined
 run_by principal text p judged = None
 
 abbrev pub deployed : List ℕ → List ℕ → Option Stepped
-deployed name text = run_by (of_P0 name) text (program_of text) (text_judged [] (of_P0 name) text)
+deployed name text = run_by (of_P0 name) (of_one text) (program_of text) (text_judged [] (of_P0 name) (of_one text))
 
 abbrev pub result_in : Option Stepped → Option TxResult
 result_in None = None

@@ -9,4 +9,4 @@ pub returns-in_err-sender-clause-broken : goal.returns-in_err-sender-clause-brok
 returns-in_err-sender-clause-broken c v = passes c.from_residual.result _ (λ r h. deploy_is _ _ _ ∙ then_err _ _ _ h) c.from_residual.ensures.1 (c.in_err-sender.ensures.broken v)
 
 pub returns-clause-found : goal.returns-clause-found
-returns-clause-found c v = filled_deploy _ _ _ _ _ c.common.ensures (deploy_is _ _ _ ∙ then_ok _ _ _ (c.in_ok-sender.ensures.found v))
+returns-clause-found c v = filled_deploy _ _ _ _ _ _ _ c.common.ensures c.unwrap_or.ensures (deploy_is _ _ _ ∙ then_ok _ _ _ (c.in_ok-sender.ensures.found v))

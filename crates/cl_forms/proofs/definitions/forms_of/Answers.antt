@@ -11,13 +11,13 @@ use Rattle.cl_forms.proofs.definitions.forms_of.Goals as goal
 pub returns-clause-found : goal.returns-clause-found
 returns-clause-found c =
     ok_so _ _ c.forms_or_break.result
-    (λ v. forms_found c.args.items.items c.in_ok-entries.entries.items (get same c.in_ok-names.names) c.in_ok-entries.ensures
-    (λ x. c.in_ok-names.ensures x ∙ ap (λ (es : List Entry). first_from 0 (map (λ e. plain_item e.item) es) x) c.deref.ensures.value) v.items)
+    (λ v. forms_found c.args.version c.args.items.items c.in_ok-entries.entries.items (get same c.in_ok-first.first) c.in_ok-entries.ensures
+    (λ x. c.in_ok-first.ensures x ∙ ap (λ (es : List Entry). first_from 0 (map (λ e. plain_item e.item) es) x) c.deref.ensures.value) v.items)
     c.forms_or_break.ensures.found
 
 pub returns-clause-broken : goal.returns-clause-broken
 returns-clause-broken c =
     refused_so _ _ c.forms_or_break.result
-    (λ r. forms_broken c.args.items.items c.in_ok-entries.entries.items (get same c.in_ok-names.names) c.in_ok-entries.ensures
-    (λ x. c.in_ok-names.ensures x ∙ ap (λ (es : List Entry). first_from 0 (map (λ e. plain_item e.item) es) x) c.deref.ensures.value) r)
+    (λ r. forms_broken c.args.version c.args.items.items c.in_ok-entries.entries.items (get same c.in_ok-first.first) c.in_ok-entries.ensures
+    (λ x. c.in_ok-first.ensures x ∙ ap (λ (es : List Entry). first_from 0 (map (λ e. plain_item e.item) es) x) c.deref.ensures.value) r)
     c.forms_or_break.ensures.broken

@@ -7,6 +7,6 @@ use Rattle.cl_forms.proofs.definitions.forms_or_break.Given as goal
 
 abbrev pub invariant-loop-entry : goal.invariant-loop-entry
 invariant-loop-entry l = record {
-  unbroken : first_broken (get same l.names) (length l.forms.items) (map plain_entry (into_iter_items l.entry-iterator)) ≡ first_broken (get same l.names) 0 (map plain_entry l.fn.entries.items);
+  unbroken : first_broken l.names.version (get same l.names.first) (length l.forms.items) (map plain_entry (into_iter_items l.entry-iterator)) ≡ first_broken l.names.version (get same l.names.first) 0 (map plain_entry l.fn.entries.items);
   forms_are : map Some l.forms.items ++ map form_at (map plain_entry (into_iter_items l.entry-iterator)) ≡ map form_at (map plain_entry l.fn.entries.items);
 }

@@ -5,4 +5,4 @@ pub returns-clause-items : goal.returns-clause-items
 returns-clause-items c = items_placed
 
 pub returns-clause-forms : goal.returns-clause-forms
-returns-clause-forms c = expressions_placed
+returns-clause-forms c = λ version items forms. expressions_placed {version = version} items forms

@@ -2,4 +2,4 @@ use Rattle.cl_forms.proofs.Nesting.{nest_as_items}
 use Rattle.cl_forms.proofs.placed.expressions_nest_as_items.Goals as goal
 
 pub returns : goal.returns
-returns c = nest_as_items
+returns c = λ version items forms. nest_as_items {version = version} items forms

@@ -18,5 +18,5 @@ returns-clause-one_first c = λ deployed principal table text r q s u n m x y.
     one_first_of (record {
       reading = record { one = c.one_reading.ensures.reading; either = c.one_reading.ensures.either };
       first = c.one_reading.ensures.first;
-      rules = λ t items b d reads h k. one_form_rule (trees_of items) (text_placed (record { items = c.items_stand_in_order.ensures; each = c.expressions_are_placed.ensures.items; forms = c.expressions_are_placed.ensures.forms }) t items reads) b d h k;
+      rules = λ t items b d reads h k. one_form_rule t.version (trees_of items) (text_placed (record { items = c.items_stand_in_order.ensures; each = c.expressions_are_placed.ensures.items; forms = c.expressions_are_placed.ensures.forms }) t items reads) b d h k;
     }) deployed principal table text r q s u n m x y
