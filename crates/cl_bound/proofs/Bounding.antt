@@ -31,18 +31,18 @@ in_order ds (p ∷ ps) =
     ∙ (λ i. cons_option (sym (slice_get-map form_defined ds p) i) (in_order ds ps i))
 
 module _ (typing : StandingIsTyped) (known : List Known) (checked : Checked) (D : Defined) (stands : StandsAfter known checked D) where
-  forms_typed : FormsTyped (nothing_defined known checked.principal checked.source_length) (forms_at (forms_of checked) checked.order.items) D
+  forms_typed : FormsTyped (nothing_defined known checked.principal checked.version checked.source_length) (forms_at (forms_of checked) checked.order.items) D
   forms_typed =
-      subst (λ (forms : List Form). FormsTyped (nothing_defined known checked.principal checked.source_length) forms D) (in_order checked.definitions.items checked.order.items)
-      (typing (nothing_defined known checked.principal checked.source_length) D (definitions_in_order checked) stands)
+      subst (λ (forms : List Form). FormsTyped (nothing_defined known checked.principal checked.version checked.source_length) forms D) (in_order checked.definitions.items checked.order.items)
+      (typing (nothing_defined known checked.principal checked.version checked.source_length) D (definitions_in_order checked) stands)
 
   pub all_bounded : NoStopIsBounded → (other costs : List CostFn) → other ≡ costs → None ≡ bound_stop (function_of other) D (forms_at (forms_of checked) checked.order.items) → Bounded D (forms_of checked) (function_of costs)
   all_bounded law other costs same none =
       subst (λ (t : List CostFn). Bounded D (forms_of checked) (function_of t)) same
-      (law known checked.principal checked.source_length (forms_of checked) checked.order.items D (function_of other) forms_typed (sym none))
+      (law known checked.principal checked.version checked.source_length (forms_of checked) checked.order.items D (function_of other) forms_typed (sym none))
 
   pub first_above_all : BoundStopIsFirst → (other costs : List CostFn) (d : Dimension) (s u : Span) → other ≡ costs → u ≡ s → Some (d, s) ≡ bound_stop (function_of other) D (forms_at (forms_of checked) checked.order.items) → IsFirstAboveLimit D (forms_of checked) checked.order.items (function_of costs) d u
   first_above_all law other costs d s u same at some =
       subst (λ (v : Span). IsFirstAboveLimit D (forms_of checked) checked.order.items (function_of costs) d v) (sym at)
       (subst (λ (t : List CostFn). IsFirstAboveLimit D (forms_of checked) checked.order.items (function_of t) d s) same
-      (law known checked.principal checked.source_length (forms_of checked) checked.order.items D (function_of other) d s forms_typed (sym some)))
+      (law known checked.principal checked.version checked.source_length (forms_of checked) checked.order.items D (function_of other) d s forms_typed (sym some)))

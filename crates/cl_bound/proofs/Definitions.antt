@@ -73,11 +73,11 @@ defined_shows c n D fs f a kept access bound shows stands =
 -- After the definitions before these, whatever the contract stands for: their context is shown, and this is charged.
 abbrev pub Walked : Prices → Checked → List Definition → Prices → Sum → Type 0
 Walked c checked rest n sum =
-    (known : List Known) (principal : Principal) (E : Defined) → ShowsPrices c (nothing_defined known principal checked.source_length).context → AllStand (nothing_defined known principal checked.source_length) (definitions_in_order checked) E →
+    (known : List Known) (principal : Principal) (E : Defined) → ShowsPrices c (nothing_defined known principal checked.version checked.source_length).context → AllStand (nothing_defined known principal checked.version checked.source_length) (definitions_in_order checked) E →
     (D : Defined) × ShowsPrices n D.context × AllStand D rest E × (sum ≡ told (cost_under (function_of c.costs) D.deploy))
 
-pub walked_none : (c : Prices) (checked : Checked) (sum : Sum) → ((known : List Known) (principal : Principal) → sum ≡ told (cost_under (function_of c.costs) (nothing_defined known principal checked.source_length).deploy)) → Walked c checked (at_places checked checked.order.items) c sum
-walked_none c checked sum is known principal E shows stand = (nothing_defined known principal checked.source_length, shows, stand, is known principal)
+pub walked_none : (c : Prices) (checked : Checked) (sum : Sum) → ((known : List Known) (principal : Principal) → sum ≡ told (cost_under (function_of c.costs) (nothing_defined known principal checked.version checked.source_length).deploy)) → Walked c checked (at_places checked checked.order.items) c sum
+walked_none c checked sum is known principal E shows stand = (nothing_defined known principal checked.version checked.source_length, shows, stand, is known principal)
 
 -- a definition is taken in
 abbrev pub ShowsAfter : Prices → Prices → Definition → Type 0
@@ -107,7 +107,7 @@ walked_more c n m checked i place d s t u lt at is costs charged shown add walke
     )
 
 pub walked_all : (c n : Prices) (checked : Checked) (i : ℕ) (sum : Sum) → length checked.order.items ≤ i → Walked c checked (at_places checked (drop i checked.order.items)) n sum →
-    (known : List Known) (principal : Principal) (E : Defined) → ShowsPrices c (nothing_defined known principal checked.source_length).context → AllStand (nothing_defined known principal checked.source_length) (definitions_in_order checked) E → ShowsPrices n E.context × (sum ≡ told (cost_under (function_of c.costs) E.deploy))
+    (known : List Known) (principal : Principal) (E : Defined) → ShowsPrices c (nothing_defined known principal checked.version checked.source_length).context → AllStand (nothing_defined known principal checked.version checked.source_length) (definitions_in_order checked) E → ShowsPrices n E.context × (sum ≡ told (cost_under (function_of c.costs) E.deploy))
 walked_all c n checked i sum far walked known principal E shows stand =
     let here = walked known principal E shows stand in
     let same_one : here.0 ≡ E = subst (λ (ps : List ℕ). AllStand here.0 (at_places checked ps) E) (drop_all i checked.order.items far) here.2 in

@@ -1,43 +1,29 @@
 -- Natives in front of their arguments.
-use Rattle.std.proofs.Common.{◌≡◌, ℕ, Bool, true, false, List, [], ◌∷◌, Option, Some, None, refl, ap, sym, ◌∙◌}
+use Rattle.std.proofs.Common.{◌≡◌, ℕ, Bool, true, false, List, [], ◌∷◌, Option, Some, None, refl, ap, ◌∙◌}
 use Rattle.std.specs.Prelude.{not, ◌==◌, ◌||◌, is_some}
 use Rattle.std.proofs.lemmas.Bool.{eqb-true}
 use Rattle.cl_sexpr.specs.declared.sexpr.Span.{Span}
 use Rattle.cl_sexpr.specs.declared.rule.Rule.{Rule}
 use Rattle.cl_sexpr.specs.Tree.{Tree, forest}
-use Rattle.cl_forms.specs.Heads.{Row, native, row_of}
-use Rattle.cl_forms.proofs.Found.{found_by_name, is_row}
+use Rattle.cl_forms.specs.Heads.{Row, row_of}
 use Rattle.cl_forms.specs.declared.head.Head.{Head}
-use Rattle.cl_forms.specs.HeadNames.{name_of, head_of_row}
+use Rattle.cl_forms.specs.HeadNames.{name_of, has_head}
 use Rattle.cl_forms.specs.Shapes.{trees_of}
 use Rattle.cl_rules.specs.Faults.{when}
 use Rattle.cl_rules.specs.Context.{Context, Names, signature_in}
 use Rattle.cl_rules.specs.Table.{head_shape, operator_shape, shape}
 use Rattle.cl_code.specs.Expression.{headed}
-
-row_there : (h : Head) (o : Option Row) → ((row : Row) → o ≡ Some row → row ≡ row_of row.head) → head_of_row o ≡ Some h → o ≡ Some (row_of h)
-row_there h None rows found = absurd cc
-row_there h (Some row) rows found =
-    let same : row.head ≡ h = cc in
-    ap (λ (r : Row). Some r) (rows row refl) ∙ ap (λ (d : Head). Some (row_of d)) same
-
--- each native is found under its name, with its row
-pub row_found : (h : Head) → native (name_of h) ≡ Some (row_of h)
-row_found h = row_there h (native (name_of h)) (is_row (name_of h)) (found_by_name h)
-
-row_head : (h : Head) → (row_of h).head ≡ h
-row_head h =
-    let both : Some (row_of h).head ≡ Some h = ap head_of_row (sym (row_found h)) ∙ found_by_name h in
-    cc
+use Rattle.cl_code.proofs.Versions.{row_by_name, row_head}
 
 pub trees_forest : (es : List Tree) → trees_of (forest es) ≡ es
 trees_forest [] = refl
 trees_forest (e ∷ es) = ap (λ (ts : List Tree). e ∷ ts) (trees_forest es)
 
-pub headed_shape : (h : Head) (head at : Span) (es : List Tree) (G : Context) (B : Names) → shape G B (headed (name_of h) head es at) ≡ head_shape h (row_of h) G B es
+-- a native that the version of the text has
+pub headed_shape : (h : Head) (head at : Span) (es : List Tree) (G : Context) (B : Names) → has_head G.version h ≡ true → shape G B (headed (name_of h) head es at) ≡ head_shape h (row_of h) G B es
 unfolding shape
-headed_shape h head at es G B =
-    ap (λ (o : Option Row). operator_shape o (signature_in (name_of h) G.functions) G B (trees_of (forest es))) (row_found h)
+headed_shape h head at es G B had =
+    ap (λ (o : Option Row). operator_shape o (signature_in (name_of h) G.functions) G B (trees_of (forest es))) (row_by_name G.version h had)
     ∙ ap (λ (d : Head). head_shape d (row_of h) G B (trees_of (forest es))) (row_head h)
     ∙ ap (λ (ts : List Tree). head_shape h (row_of h) G B ts) (trees_forest es)
 

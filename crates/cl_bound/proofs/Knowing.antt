@@ -6,6 +6,7 @@ use Rattle.std.specs.Map.{lookup}
 use Rattle.cl_c32.specs.declared.principal.Principal.{Principal}
 use Rattle.cl_c32.specs.contracts.principal.PrincipalPartialEq.TheImpl.{eq-value}
 use Rattle.cl_costs.specs.Tables.{function_of}
+use Rattle.cl_forms.specs.declared.version.Version.{Version}
 use Rattle.cl_rules.specs.Context.{CostTable, Known, same_principal, known_at, named_in}
 use Rattle.cl_rules.specs.FormRules.{Defined, nothing_defined}
 use Rattle.cl_rules.specs.Acceptance.{known_of}
@@ -81,8 +82,8 @@ deployed_more table ks k v old new shows length functions kept p =
 
 -- ---- prices before the first definition
 
-pub begins : (c : Prices) (k : Principal) (ks : List Known) (size : ℕ) → c.principal ≡ k → c.functions.entries ≡ [] → ShowDeployed (function_of c.costs) ks c.deployed.now.contracts.entries → ShowsPrices c (nothing_defined ks k size).context
-begins c k ks size own none shows = record { principal = own; functions = λ x. ap (named_in x) none; deployed = shows }
+pub begins : (c : Prices) (k : Principal) (ks : List Known) (version : Version) (size : ℕ) → c.principal ≡ k → c.functions.entries ≡ [] → ShowDeployed (function_of c.costs) ks c.deployed.now.contracts.entries → ShowsPrices c (nothing_defined ks k version size).context
+begins c k ks version size own none shows = record { principal = own; functions = λ x. ap (named_in x) none; deployed = shows }
 
 -- ---- the bounds of no contract, and of the same ones
 

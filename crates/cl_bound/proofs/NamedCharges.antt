@@ -30,11 +30,12 @@ use Rattle.cl_code.specs.declared.op.Applied.{Applied}
 use Rattle.cl_code.specs.declared.op.Applied.TheVariants.{Function, OnValues as OnValuesBy, And as AndBy, Or as OrBy}
 use Rattle.cl_code.specs.declared.op.Op.TheVariants.{OnName}
 use Rattle.cl_code.specs.OpNames.{name_head, iteration_head}
-use Rattle.cl_code.specs.Nodes.{has_own_applied}
+use Rattle.cl_code.specs.Nodes.{has_own_applied, goes_applied}
+use Rattle.cl_code.proofs.Versions.{row_by_name}
 use Rattle.cl_code.specs.Expression.{word, applied_name}
 use Rattle.cl_bound.specs.Own.{own, inside, iterated, iteration, given}
 use Rattle.cl_bound.specs.Charged.{Charges}
-use Rattle.cl_bound.proofs.Heads.{when_more, taken_or, row_found, no_native}
+use Rattle.cl_bound.proofs.Heads.{when_more, taken_or, no_native}
 
 module _ {A : Type 0} (B : Names) (row : Row) (e : Tree) (es : List Tree) (n : ℕ) (own : PlainType → List PlainType → Bill) (verdict : A → List Found → Verdict) (each : (a : A) (fs : List Found) → (verdict a fs).found.bound ≡ Both (own (verdict a fs).found.type (types_of fs)) (sum_of fs)) where
   variable_charges : (o : Option A) → Charges (named_shape (record (named_faults row (e ∷ es) (there_or_not o)) { no_such_variable = is_no_such (there_or_not o) }) (there_or_not o) verdict B (e ∷ es)) n own sum_of
@@ -111,13 +112,13 @@ module _ (G : Context) (B : Names) (es : List Tree) where
   abbrev Applies : Iteration → Applied → Option Usable → Type 0
   Applies k a u = Charges (head_shape (iteration_head k) (row_of (iteration_head k)) G B (applied_name a ∷ es)) (length es) (iteration k u) sum_of
 
-  pub applied_charges : (k : Iteration) (a : Applied) → has_own_applied a ≡ true → Applies k a (given G a)
-  unfolding has_own_applied
-  applied_charges k (Function f) h = subst (Applies k (Function f)) (ap (λ (o : Option Row). usable_row o (signature_in f.name G.functions)) (no_native (native f.name) h)) (iteration_charges k f.name f.span)
-  applied_charges k (OnValuesBy n at) h =
+  pub applied_charges : (k : Iteration) (a : Applied) → has_own_applied a ≡ true → goes_applied G.version a ≡ true → Applies k a (given G a)
+  unfolding has_own_applied goes_applied
+  applied_charges k (Function f) named goes = subst (Applies k (Function f)) (ap (λ (o : Option Row). usable_row o (signature_in f.name G.functions)) (no_native (native G.version f.name) goes)) (iteration_charges k f.name f.span)
+  applied_charges k (OnValuesBy n at) named goes =
       subst (Applies k (OnValuesBy n at))
-      (ap (λ (o : Option Row). usable_row o (signature_in (name_of (heads.OnValues n)) G.functions)) (row_found (heads.OnValues n))
-      ∙ ap (λ (b : Bool). if b then Some (ANative (row_of (heads.OnValues n))) else None) h)
+      (ap (λ (o : Option Row). usable_row o (signature_in (name_of (heads.OnValues n)) G.functions)) (row_by_name G.version (heads.OnValues n) goes)
+      ∙ ap (λ (b : Bool). if b then Some (ANative (row_of (heads.OnValues n))) else None) named)
       (iteration_charges k (name_of (heads.OnValues n)) at)
-  applied_charges k (AndBy at) h = subst (Applies k (AndBy at)) (ap (λ (o : Option Row). usable_row o (signature_in (name_of heads.And) G.functions)) (row_found heads.And)) (iteration_charges k (name_of heads.And) at)
-  applied_charges k (OrBy at) h = subst (Applies k (OrBy at)) (ap (λ (o : Option Row). usable_row o (signature_in (name_of heads.Or) G.functions)) (row_found heads.Or)) (iteration_charges k (name_of heads.Or) at)
+  applied_charges k (AndBy at) named goes = subst (Applies k (AndBy at)) (ap (λ (o : Option Row). usable_row o (signature_in (name_of heads.And) G.functions)) (row_by_name G.version heads.And refl)) (iteration_charges k (name_of heads.And) at)
+  applied_charges k (OrBy at) named goes = subst (Applies k (OrBy at)) (ap (λ (o : Option Row). usable_row o (signature_in (name_of heads.Or) G.functions)) (row_by_name G.version heads.Or refl)) (iteration_charges k (name_of heads.Or) at)

@@ -13,7 +13,7 @@ use Rattle.cl_sexpr.specs.Tree.{Tree, LeafAt, ListAt, Standing, Local, Unsigned,
 use Rattle.cl_forms.specs.Heads.{Row, native, row_of}
 use Rattle.cl_forms.specs.declared.head.Head.{Head}
 use Rattle.cl_forms.specs.declared.head.Head.TheVariants as heads
-use Rattle.cl_forms.specs.HeadNames.{name_of}
+use Rattle.cl_forms.specs.HeadNames.{name_of, has_head}
 use Rattle.cl_forms.specs.Shapes.{trees_of}
 use Rattle.cl_c32.specs.declared.principal.Principal.{Principal}
 use Rattle.cl_rules.specs.Faults.{sound_shape, type_rules, when}
@@ -38,7 +38,8 @@ use Rattle.cl_forms.proofs.Keywords.{keyless}
 use Rattle.cl_code.specs.declared.op.Op.{Op}
 use Rattle.cl_code.specs.declared.op.Op.TheVariants as ops
 use Rattle.cl_code.specs.OpNames.{parts_head, name_head, iteration_head}
-use Rattle.cl_code.specs.Nodes.{has_own_name}
+use Rattle.cl_code.specs.Nodes.{has_own_name, goes_op}
+use Rattle.cl_code.proofs.Versions.{parts_had, name_had, iteration_had}
 use Rattle.cl_code.specs.Expression.{word, applied_name, target, headed, bound_items, behind_first, optional_branches, response_branches, expression}
 use Rattle.cl_bound.specs.Own.{own, inside, of_branches, branch_by, good_part, bad_part, applied, called_at}
 use Rattle.cl_bound.specs.declared.branches.Branch.TheVariants.{Plain, Good, Bad}
@@ -47,8 +48,8 @@ use Rattle.cl_bound.proofs.Heads.{headed_shape, trees_forest, when_more, when_no
 use Rattle.cl_bound.proofs.NativeCharges.{values_charges, parts_charges}
 use Rattle.cl_bound.proofs.NamedCharges.{named_charges, applied_charges}
 
-by_head : (h : Head) (head at : Span) (args : List Tree) (G : Context) (B : Names) (n : ℕ) (own : PlainType → List PlainType → Bill) (inside : List Found → Bill) → Charges (head_shape h (row_of h) G B args) n own inside → Charges (shape G B (headed (name_of h) head args at)) n own inside
-by_head h head at args G B n own inside law = subst (λ (s : Shape). Charges s n own inside) (sym (headed_shape h head at args G B)) law
+by_head : (h : Head) (head at : Span) (args : List Tree) (G : Context) (B : Names) (n : ℕ) (own : PlainType → List PlainType → Bill) (inside : List Found → Bill) → has_head G.version h ≡ true → Charges (head_shape h (row_of h) G B args) n own inside → Charges (shape G B (headed (name_of h) head args at)) n own inside
+by_head h head at args G B n own inside had law = subst (λ (s : Shape). Charges s n own inside) (sym (headed_shape h head at args G B had)) law
 
 -- ---- rules that are broken
 
@@ -205,12 +206,12 @@ module _ (G : Context) (B : Names) where
 -- ---- calls
 
 module _ (G : Context) (B : Names) (es : List Tree) where
-  own_call : (w : Word) (at : Span) → not (is_some (native w.name)) ≡ true → Charges (shape G B (headed w.name w.span es at)) (length es) (own G (ops.Call w)) sum_of
+  own_call : (w : Word) (at : Span) → not (is_some (native G.version w.name)) ≡ true → Charges (shape G B (headed w.name w.span es at)) (length es) (own G (ops.Call w)) sum_of
   unfolding shape
   own_call w at h =
       subst (λ (s : Shape). Charges s (length es) (own G (ops.Call w)) sum_of)
       (ap (λ (ts : List Tree). call_shape (signature_in w.name G.functions) B ts) (sym (trees_forest es))
-      ∙ ap (λ (o : Option Row). operator_shape o (signature_in w.name G.functions) G B (trees_of (forest es))) (sym (no_native (native w.name) h)))
+      ∙ ap (λ (o : Option Row). operator_shape o (signature_in w.name G.functions) G B (trees_of (forest es))) (sym (no_native (native G.version w.name) h)))
       (call_charges G B es (signature_in w.name G.functions))
 
   -- a call of a function of another contract
@@ -247,27 +248,27 @@ module _ (G : Context) (B : Names) (es : List Tree) where
 
 -- ---- all kinds
 
-pub op_charges : (G : Context) (B : Names) (op : Op) (es : List Tree) (at : Span) → has_own_name op ≡ true → Charges (shape G B (expression op es at)) (length es) (own G op) (inside op)
-unfolding shape has_own_name
-op_charges G B (ops.Int z) es at named = λ fs sound count fine. refl
-op_charges G B (ops.Uint n) es at named = λ fs sound count fine. refl
-op_charges G B (ops.Buff bytes) es at named = λ fs sound count fine. refl
-op_charges G B (ops.Ascii text) es at named = λ fs sound count fine. refl
-op_charges G B (ops.Utf8 text) es at named = λ fs sound count fine. refl
-op_charges G B (ops.Standing p) es at named = λ fs sound count fine. refl
-op_charges G B (ops.Local c) es at named = λ fs sound count fine. refl
-op_charges G B (ops.Keyword k) es at named = keyword_charges G B es k at
-op_charges G B (ops.Bound x) es at named = name_charges G B es x (keyless x (not_true (is_one_of keywords x) named))
-op_charges G B (ops.Constant x) es at named = name_charges G B es x (keyless x (not_true (is_one_of keywords x) named))
-op_charges G B (ops.OnValues n head) es at named = by_head (heads.OnValues n) head at (es) G B (length es) (own G (ops.OnValues n head)) (inside (ops.OnValues n head)) (values_charges G B es n head)
-op_charges G B (ops.OnParts n head) es at named = by_head (parts_head n) head at (es) G B (length es) (own G (ops.OnParts n head)) (inside (ops.OnParts n head)) (parts_charges G B es n head)
-op_charges G B (ops.OnName n head w) es at named = by_head (name_head n) head at (word w ∷ es) G B (length es) (own G (ops.OnName n head w)) (inside (ops.OnName n head w)) (named_charges G B w head es n)
-op_charges G B (ops.Iterate k head a) es at named = by_head (iteration_head k) head at (applied_name a ∷ es) G B (length es) (own G (ops.Iterate k head a)) (inside (ops.Iterate k head a)) (applied_charges G B es k a named)
-op_charges G B (ops.AsMaxLen head most lit) es at named = by_head heads.AsMaxLen head at (behind_first (λ e more. e ∷ LeafAt (Unsigned most) lit ∷ more) es) G B (length es) (own G (ops.AsMaxLen head most lit)) (inside (ops.AsMaxLen head most lit)) (length_charges G B es head lit most)
-op_charges G B (ops.Tuple names) es at named = λ fs sound count fine. refl
-op_charges G B (ops.TupleOf head pairs) es at named = by_head heads.TupleOf head at (bound_items pairs.items es) G B (length es) (own G (ops.TupleOf head pairs)) (inside (ops.TupleOf head pairs)) (pairs_charges G B es head pairs)
-op_charges G B (ops.Let head brackets bs) es at named = by_head heads.Let head at (ListAt (forest (bound_items bs.items es)) brackets ∷ drop (length bs.items) es) G B (length es) (own G (ops.Let head brackets bs)) (inside (ops.Let head brackets bs)) (let_charges G B es head brackets bs)
-op_charges G B (ops.MatchOptional head part) es at named = by_head heads.Match head at (optional_branches part es) G B (length es) (own G (ops.MatchOptional head part)) (inside (ops.MatchOptional head part)) (optional_charges G B es head part)
-op_charges G B (ops.MatchResponse head good bad) es at named = by_head heads.Match head at (response_branches good bad es) G B (length es) (own G (ops.MatchResponse head good bad)) (inside (ops.MatchResponse head good bad)) (response_charges G B es head good bad)
-op_charges G B (ops.Call w) es at named = own_call G B es w at named
-op_charges G B (ops.ContractCall head c w callee) es at named = by_head heads.ContractCall head at (target c ∷ word w ∷ es) G B (length es) (own G (ops.ContractCall head c w callee)) (inside (ops.ContractCall head c w callee)) (contract_charges G B es head c w callee)
+pub op_charges : (G : Context) (B : Names) (op : Op) (es : List Tree) (at : Span) → has_own_name op ≡ true → goes_op G.version op ≡ true → Charges (shape G B (expression op es at)) (length es) (own G op) (inside op)
+unfolding shape has_own_name goes_op
+op_charges G B (ops.Int z) es at named goes = λ fs sound count fine. refl
+op_charges G B (ops.Uint n) es at named goes = λ fs sound count fine. refl
+op_charges G B (ops.Buff bytes) es at named goes = λ fs sound count fine. refl
+op_charges G B (ops.Ascii text) es at named goes = λ fs sound count fine. refl
+op_charges G B (ops.Utf8 text) es at named goes = λ fs sound count fine. refl
+op_charges G B (ops.Standing p) es at named goes = λ fs sound count fine. refl
+op_charges G B (ops.Local c) es at named goes = λ fs sound count fine. refl
+op_charges G B (ops.Keyword k) es at named goes = keyword_charges G B es k at
+op_charges G B (ops.Bound x) es at named goes = name_charges G B es x (keyless x (not_true (is_one_of keywords x) named))
+op_charges G B (ops.Constant x) es at named goes = name_charges G B es x (keyless x (not_true (is_one_of keywords x) named))
+op_charges G B (ops.OnValues n head) es at named goes = by_head (heads.OnValues n) head at (es) G B (length es) (own G (ops.OnValues n head)) (inside (ops.OnValues n head)) goes (values_charges G B es n head)
+op_charges G B (ops.OnParts n head) es at named goes = by_head (parts_head n) head at (es) G B (length es) (own G (ops.OnParts n head)) (inside (ops.OnParts n head)) (parts_had G.version n) (parts_charges G B es n head)
+op_charges G B (ops.OnName n head w) es at named goes = by_head (name_head n) head at (word w ∷ es) G B (length es) (own G (ops.OnName n head w)) (inside (ops.OnName n head w)) (name_had G.version n) (named_charges G B w head es n)
+op_charges G B (ops.Iterate k head a) es at named goes = by_head (iteration_head k) head at (applied_name a ∷ es) G B (length es) (own G (ops.Iterate k head a)) (inside (ops.Iterate k head a)) (iteration_had G.version k) (applied_charges G B es k a named goes)
+op_charges G B (ops.AsMaxLen head most lit) es at named goes = by_head heads.AsMaxLen head at (behind_first (λ e more. e ∷ LeafAt (Unsigned most) lit ∷ more) es) G B (length es) (own G (ops.AsMaxLen head most lit)) (inside (ops.AsMaxLen head most lit)) refl (length_charges G B es head lit most)
+op_charges G B (ops.Tuple names) es at named goes = λ fs sound count fine. refl
+op_charges G B (ops.TupleOf head pairs) es at named goes = by_head heads.TupleOf head at (bound_items pairs.items es) G B (length es) (own G (ops.TupleOf head pairs)) (inside (ops.TupleOf head pairs)) refl (pairs_charges G B es head pairs)
+op_charges G B (ops.Let head brackets bs) es at named goes = by_head heads.Let head at (ListAt (forest (bound_items bs.items es)) brackets ∷ drop (length bs.items) es) G B (length es) (own G (ops.Let head brackets bs)) (inside (ops.Let head brackets bs)) refl (let_charges G B es head brackets bs)
+op_charges G B (ops.MatchOptional head part) es at named goes = by_head heads.Match head at (optional_branches part es) G B (length es) (own G (ops.MatchOptional head part)) (inside (ops.MatchOptional head part)) refl (optional_charges G B es head part)
+op_charges G B (ops.MatchResponse head good bad) es at named goes = by_head heads.Match head at (response_branches good bad es) G B (length es) (own G (ops.MatchResponse head good bad)) (inside (ops.MatchResponse head good bad)) refl (response_charges G B es head good bad)
+op_charges G B (ops.Call w) es at named goes = own_call G B es w at goes
+op_charges G B (ops.ContractCall head c w callee) es at named goes = by_head heads.ContractCall head at (target c ∷ word w ∷ es) G B (length es) (own G (ops.ContractCall head c w callee)) (inside (ops.ContractCall head c w callee)) refl (contract_charges G B es head c w callee)

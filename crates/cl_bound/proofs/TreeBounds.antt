@@ -13,7 +13,8 @@ use Rattle.cl_rules.specs.Verdicts.{Found, type_at, types_of, sum_of}
 use Rattle.cl_rules.specs.Table.{shape}
 use Rattle.cl_rules.specs.Shapes.{Plan, Ends, Part, Gives}
 use Rattle.cl_code.specs.declared.op.Op.{Op}
-use Rattle.cl_code.specs.Nodes.{has_own_name}
+use Rattle.cl_code.specs.Nodes.{has_own_name, versions_of}
+use Rattle.cl_code.proofs.Versions.{has_goes}
 use Rattle.cl_code.specs.Expression.{expression}
 use Rattle.cl_code.specs.Typed.{Typed, TypedAs, typeds, expression_of, type_of}
 use Rattle.cl_contracts.specs.Standing.{Stands, StandAll}
@@ -27,7 +28,7 @@ use Rattle.cl_bound.proofs.Adding.{Adds, adds_more, adds_end, both_more, all_mor
 use Rattle.cl_bound.proofs.OpCharges.{op_charges}
 
 type_stands : (G : Context) (B : Names) (q : Typed) (f : Found) → Stands G B q f → f.type ≡ type_of q
-type_stands G B (TypedAs e t ps) f s = sym s.5
+type_stands G B (TypedAs e t vs ps) f s = sym s.5
 
 pub types_stand : (G : Context) (p : Plan) (qs : List Typed) (fs : List Found) → StandAll G p (typeds qs) fs → types_of fs ≡ map type_of qs
 types_stand G Ends [] [] s = refl
@@ -44,17 +45,17 @@ counts : (fs : List Found) (qs : List Typed) → types_of fs ≡ map type_of qs 
 counts fs qs same = sym (length-map fs type_at) ∙ ap length same ∙ length-map qs type_of ∙ sym (length-map qs expression_of)
 
 -- the bound of a tree is more, where its own charges are and then what is inside
-pub bound_is : (G : Context) (B : Names) (f : Found) (table : CostTable) (op : Op) (qs : List Typed) (at : Span) (t : PlainType) (code : Typed) (old mine new : Sum) → has_own_name op ≡ true → TypedAs (expression op (map expression_of qs) at) t (typeds qs) ≡ code → Stands G B code f →
+pub bound_is : (G : Context) (B : Names) (f : Found) (table : CostTable) (op : Op) (qs : List Typed) (at : Span) (t : PlainType) (code : Typed) (old mine new : Sum) → has_own_name op ≡ true → TypedAs (expression op (map expression_of qs) at) t (versions_of op) (typeds qs) ≡ code → Stands G B code f →
     Increases old mine (cost_under table (own G op t (map type_of qs))) →
     ((p : Plan) (fs : List Found) → StandAll G p (typeds qs) fs → Increases mine new (cost_under table (inside op fs))) → Increases old new (cost_under table f.bound)
 bound_is G B f table op qs at t code old mine new named is stands own_more inside_more =
-    let s : Stands G B (TypedAs (expression op (map expression_of qs) at) t (typeds qs)) f = subst (λ (q : Typed). Stands G B q f) (sym is) stands in
+    let s : Stands G B (TypedAs (expression op (map expression_of qs) at) t (versions_of op) (typeds qs)) f = subst (λ (q : Typed). Stands G B q f) (sym is) stands in
     let types = types_stand G (shape G B (expression op (map expression_of qs) at)).plan qs s.0 s.2 in
     subst (Increases old new)
     (ap (cost_under table)
     ((λ i. Both (own G op (s.5 i) (sym types i)) (inside op s.0))
     ∙ ap (λ (u : PlainType). Both (own G op u (types_of s.0)) (inside op s.0)) (sym (ap type_at s.4))
-    ∙ sym (op_charges G B op (map expression_of qs) at named s.0 s.1 (counts s.0 qs types) s.3)
+    ∙ sym (op_charges G B op (map expression_of qs) at named (sym (has_goes G.version op) ∙ s.6) s.0 s.1 (counts s.0 qs types) s.3)
     ∙ ap (λ (g : Found). g.bound) s.4))
     (both_more old mine new (cost_under table (own G op t (map type_of qs))) (cost_under table (inside op s.0)) own_more (inside_more (shape G B (expression op (map expression_of qs) at)).plan s.0 s.2))
 

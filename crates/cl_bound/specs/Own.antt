@@ -16,7 +16,6 @@ use Rattle.cl_rules.specs.ControlShapes.{binds, bound_branch}
 use Rattle.cl_rules.specs.CallShapes.{Usable, ANative, use_bound, usable_function, least_length, target_or_not, contract_literal}
 use Rattle.cl_rules.specs.Shapes.{First, There}
 use Rattle.cl_code.specs.Expression.{target_leaf}
-use Rattle.cl_code.specs.declared.op.PartsNative.{PartsNative}
 use Rattle.cl_code.specs.declared.op.PartsNative.TheVariants.{If}
 use Rattle.cl_code.specs.declared.op.NameNative.{NameNative}
 use Rattle.cl_code.specs.declared.op.NameNative.TheVariants.{VarGet, MapGet}
@@ -29,14 +28,6 @@ use Rattle.cl_code.specs.declared.op.Op.TheVariants.{Keyword as KeywordOp, Bound
 use Rattle.cl_code.specs.OpNames.{parts_head, name_head}
 use Rattle.cl_bound.specs.declared.branches.Branch.{Branch}
 use Rattle.cl_bound.specs.declared.branches.Branch.TheVariants.{Plain, Good, Bad}
-
--- ---- by name
-
-abbrev pub parts_cost : PartsNative → CostName
-parts_cost native = (row_of (parts_head native)).cost
-
-abbrev pub name_cost : NameNative → CostName
-name_cost native = (row_of (name_head native)).cost
 
 -- ---- the expression itself
 
@@ -69,7 +60,7 @@ given G (OrBy at) = Some (ANative (row_of heads.Or))
 abbrev pub named : NameNative → PlainType → List PlainType → Bill
 named VarGet t ts = Charge ReadVar (size_of t)
 named MapGet t ts = Charge ReadMap (sizes_of ts + size_of t)
-named native t ts = counted (name_cost native) ts
+named native t ts = counted (row_of (name_head native)).cost ts
 
 -- the iteration over arguments of these types that applies this, of this type
 abbrev pub iteration : Iteration → Option Usable → PlainType → List PlainType → Bill
@@ -88,7 +79,7 @@ own G (KeywordOp k) t ts = Charge (keyword_cost k) (size_of t)
 own G (BoundOp x) t ts = Charge Lookup (size_of t)
 own G (Constant x) t ts = Charge Lookup (size_of t)
 own G (OnValues native head) t ts = counted (row_of (heads.OnValues native)).cost ts
-own G (OnParts native head) t ts = counted (parts_cost native) ts
+own G (OnParts native head) t ts = counted (row_of (parts_head native)).cost ts
 own G (OnName native head name) t ts = named native t ts
 own G (IterateOp kind head what) t ts = iteration kind (given G what) t ts
 own G (AsMaxLen head most at) t ts = counted Make ts

@@ -75,8 +75,10 @@ fn take_in(prices: &mut Prices, definition: &Definition) -> Result<Sum, NoMemory
 /// Takes in the definitions of a contract in the order of evaluation. Gives the bound of its deployment.
 pub(crate) fn deployment(prices: &mut Prices, checked: &Checked) -> Result<Sum, NoMemory>
     ensures costs { prices.new.costs ≡ prices.old.costs }
-    ensures defined { IfOk result (λ sum. (known : List Known) (principal : Principal) (E : Defined) → ShowsPrices prices.old (nothing_defined known principal checked.now.source_length).context →
-        AllStand (nothing_defined known principal checked.now.source_length) (definitions_in_order checked.now) E → ShowsPrices prices.new E.context × (sum ≡ told (cost_under (function_of prices.old.costs) E.deploy))) }
+    ensures defined { IfOk result (λ sum. (known : List Known) (principal : Principal) (E : Defined) →
+        let before = nothing_defined known principal checked.now.version checked.now.source_length in
+        ShowsPrices prices.old before.context → AllStand before (definitions_in_order checked.now) E →
+        ShowsPrices prices.new E.context × (sum ≡ told (cost_under (function_of prices.old.costs) E.deploy))) }
 {
     let mut sum = prices.charge_length(CostName::Deploy, checked.source_length);
     for place in &checked.order {

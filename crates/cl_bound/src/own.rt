@@ -14,11 +14,13 @@ ghost use Rattle.cl_code.specs.Nodes.{has_parts};
 ghost use Rattle.cl_code.specs.OpNames.{name_head};
 ghost use Rattle.cl_forms.specs.Heads.{row_of, takes};
 
-use crate::native_costs::{keyword_cost, name_cost, parts_cost};
+use crate::keywords::keyword_cost;
+use crate::native_heads::{name_head, parts_head};
 use crate::prices::Prices;
 use crate::sizes::{entry_sizes, first_sequence, least_length, number, sizes};
 use crate::using::{Values, iterated};
 use cl_code::{Applied, Code, Iteration, NameNative, Op, native_cost};
+use cl_forms::cost_of;
 use cl_shapes::CostName;
 use cl_sums::Sum;
 use cl_types::{SizedTy, size};
@@ -117,7 +119,7 @@ fn add_named(prices: &Prices, native: NameNative, ty: &SizedTy, parts: &[Code], 
             sizes(parts) + u64::from(size(ty)),
             sum,
         ),
-        _ => add_counted(prices, name_cost(native), parts, sum),
+        _ => add_counted(prices, cost_of(name_head(native)), parts, sum),
     }
 }
 
@@ -131,7 +133,7 @@ pub(crate) fn add_own(prices: &Prices, op: &Op, ty: &SizedTy, parts: &[Code], su
         Op::Keyword(keyword) => add_sized(prices, keyword_cost(*keyword), ty, sum),
         Op::Bound(_) | Op::Constant(_) => add_sized(prices, CostName::Lookup, ty, sum),
         Op::OnValues { native, .. } => add_counted(prices, native_cost(*native), parts, sum),
-        Op::OnParts { native, .. } => add_counted(prices, parts_cost(*native), parts, sum),
+        Op::OnParts { native, .. } => add_counted(prices, cost_of(parts_head(*native)), parts, sum),
         Op::OnName { native, .. } => add_named(prices, *native, ty, parts, sum),
         Op::Iterate {
             iteration: kind,

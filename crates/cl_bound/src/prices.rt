@@ -2,6 +2,7 @@
 ghost use Rattle.std.specs.Prelude.{◌≡◌, ℕ, ◌<◌, ◌^◌, List};
 ghost use Rattle.cl_costs.specs.Tables.{function_of};
 ghost use Rattle.cl_code.specs.Expression.{target_leaf};
+ghost use Rattle.cl_forms.specs.declared.version.Version.{Version};
 ghost use Rattle.cl_rules.specs.Bills.{Charge, cost_under};
 ghost use Rattle.cl_rules.specs.Context.{Context, Known, Signature, CostTable as Table, signature_in, if_callable, target_at};
 ghost use Rattle.cl_rules.specs.FormRules.{nothing_defined};
@@ -60,7 +61,9 @@ impl<'a> Prices<'a> {
         principal: &Principal,
     ) -> Prices<'a>
         ensures costs { result.costs ≡ costs.now }
-        ensures shown { (known : List Known) (size : ℕ) → ShowDeployed (function_of costs.now) known deployed.now.contracts.entries → ShowsPrices result (nothing_defined known principal.now size).context }
+        ensures shown { (known : List Known) (version : Version) (size : ℕ) →
+            ShowDeployed (function_of costs.now) known deployed.now.contracts.entries →
+            ShowsPrices result (nothing_defined known principal.now version size).context }
     {
         Prices {
             costs: *costs,

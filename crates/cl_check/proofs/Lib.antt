@@ -7,3 +7,4 @@ pub mod Sources
 pub mod InTextOrder
 pub mod NamePlaces
 pub mod CheckedTexts
+pub mod Going

@@ -7,6 +7,8 @@ use Rattle.cl_sexpr.specs.Tree.{Tree, tree_size, forest, forest_size, forest_dep
 use Rattle.cl_sexpr.specs.Text.{Reads, Breaks}
 use Rattle.cl_sexpr.specs.declared.rule.Break.{Break}
 use Rattle.cl_sexpr.specs.declared.rule.Refusal.{Refusal}
+use Rattle.cl_forms.specs.declared.version.Version.{Version}
+use Rattle.cl_forms.specs.Texts.{Text}
 use Rattle.cl_forms.specs.Forms.{Form, FormKind, ConstantForm, VariableForm, MapForm, FungibleForm, NonFungibleForm, FunctionForm, ExpressionForm, expression_of}
 use Rattle.cl_forms.specs.FormBreaks.{AreForms, IsFirstBreak}
 use Rattle.cl_forms.specs.Order.{ordered}
@@ -18,7 +20,7 @@ use Rattle.cl_forms.specs.Fits.{KindFits, FormsFit}
 use Rattle.cl_rules.specs.Acceptance.{Ordered, FirstUnordered, in_text, in_forms, in_order}
 use Rattle.cl_rules.specs.Judging.{nesting}
 use Rattle.cl_check.specs.JudgingForms.{AreKnown, IsLow}
-use Rattle.cl_check.proofs.TextNames.{form_named, names_apart, form_once, name_own}
+use Rattle.cl_check.proofs.TextNames.{form_named, names_apart, form_once}
 
 trees_forest : (ts : List Tree) → trees_of (forest ts) ≡ ts
 trees_forest [] = refl
@@ -27,30 +29,33 @@ trees_forest (t ∷ ts) = ap (λ (us : List Tree). t ∷ us) (trees_forest ts)
 abbrev pub break_of : Refusal → Break
 break_of r = record { rule = r.rule; span = r.span }
 
--- a fault is the refusal of this source
-abbrev pub Refuses : List ℕ → Fault Refusal → Type 0
-Refuses source fault = IsRefusal fault (λ r. FirstUnordered source r.rule r.span r.names.items)
+-- a fault is the refusal of this text
+abbrev pub Refuses : Text → Fault Refusal → Type 0
+Refuses text fault = IsRefusal fault (λ r. FirstUnordered text r.rule r.span r.names.items)
 
-pub refused_text : (source : List ℕ) (fault : Fault Refusal) → IsRefusal fault (λ r. Breaks source (break_of r)) → IsRefusal fault (λ r. r.names.items ≡ []) → Refuses source fault
-refused_text source (Refused r) breaks nameless = in_text (break_of r) breaks refl refl nameless
-refused_text source NoMemory breaks nameless = tt
+pub forms_of_row : (version : Version) (items : List Tree) (forms : List Form) → AreForms version items forms → AreForms version (trees_of (forest items)) forms
+forms_of_row version items forms are = subst (λ (ts : List Tree). AreForms version ts forms) (sym (trees_forest items)) are
 
-pub refused_forms : (source : List ℕ) (items : List Tree) (fault : Fault Refusal) → Reads source (forest items) → IsRefusal fault (λ r. IsFirstBreak items (break_of r)) → IsRefusal fault (λ r. r.names.items ≡ []) → Refuses source fault
-refused_forms source items (Refused r) reads breaks nameless =
-    in_forms (forest items) (break_of r) reads (subst (λ (ts : List Tree). IsFirstBreak ts (break_of r)) (sym (trees_forest items)) breaks) refl refl nameless
-refused_forms source items NoMemory reads breaks nameless = tt
+module _ (text : Text) where
+  pub refused_text : (fault : Fault Refusal) → IsRefusal fault (λ r. Breaks text.bytes (break_of r)) → IsRefusal fault (λ r. r.names.items ≡ []) → Refuses text fault
+  refused_text (Refused r) breaks nameless = in_text (break_of r) breaks refl refl nameless
+  refused_text NoMemory breaks nameless = tt
 
-pub forms_of_row : (items : List Tree) (forms : List Form) → AreForms items forms → AreForms (trees_of (forest items)) forms
-forms_of_row items forms are = subst (λ (ts : List Tree). AreForms ts forms) (sym (trees_forest items)) are
+  module _ (items : List Tree) (reads : Reads text.bytes (forest items)) where
+    pub refused_forms : (fault : Fault Refusal) → IsRefusal fault (λ r. IsFirstBreak text.version items (break_of r)) → IsRefusal fault (λ r. r.names.items ≡ []) → Refuses text fault
+    refused_forms (Refused r) breaks nameless =
+        in_forms (forest items) (break_of r) reads (subst (λ (ts : List Tree). IsFirstBreak text.version ts (break_of r)) (sym (trees_forest items)) breaks) refl refl nameless
+    refused_forms NoMemory breaks nameless = tt
 
-pub refused_order : (source : List ℕ) (items : List Tree) (forms row : List Form) (fault : Fault Refusal) → Reads source (forest items) → AreForms items forms → row ≡ forms → IsRefusal fault (λ r. IsOfTheCycle row r.rule r.span r.names.items) → Refuses source fault
-refused_order source items forms row (Refused r) reads are same cycle =
-    in_order (forest items) forms reads (forms_of_row items forms are) (subst (λ (fs : List Form). IsOfTheCycle fs r.rule r.span r.names.items) same cycle)
-refused_order source items forms row NoMemory reads are same cycle = tt
+    module _ (forms row : List Form) (are : AreForms text.version items forms) (same : row ≡ forms) where
+      pub refused_order : (fault : Fault Refusal) → IsRefusal fault (λ r. IsOfTheCycle row r.rule r.span r.names.items) → Refuses text fault
+      refused_order (Refused r) cycle =
+          in_order (forest items) forms reads (forms_of_row text.version items forms are) (subst (λ (fs : List Form). IsOfTheCycle fs r.rule r.span r.names.items) same cycle)
+      refused_order NoMemory cycle = tt
 
-pub ordered_here : (source : List ℕ) (items : List Tree) (forms row : List Form) (order : List ℕ) → Reads source (forest items) → AreForms items forms → row ≡ forms → ordered row ≡ Ok order → Ordered source forms order
-ordered_here source items forms row order reads are same is =
-    record { items = forest items; reads = reads; are_forms = forms_of_row items forms are; order_is = subst (λ (fs : List Form). ordered fs ≡ Ok order) same is }
+      pub ordered_here : (order : List ℕ) → ordered row ≡ Ok order → Ordered text forms order
+      ordered_here order is =
+          record { items = forest items; reads = reads; are_forms = forms_of_row text.version items forms are; order_is = subst (λ (fs : List Form). ordered fs ≡ Ok order) same is }
 
 -- ---- what is known of the forms of a text
 
@@ -82,12 +87,11 @@ both_low : (o : Option Tree) (m n : ℕ) → HasAtMost m o → NestsAtMost n o �
 both_low None m n h k a b = tt
 both_low (Some e) m n h k a b = (omega (arith, h, a), omega (arith, k, b))
 
-pub known_forms : (text : List ℕ) (items : List Tree) (forms : List Form) → Reads text (forest items) → AreForms items forms → forest_size (forest items) ≤ 2 * length text → weight_of_forms forms ≤ forest_size (forest items) → FormsFit forms → ((n : ℕ) (form : Form) → slice_get forms n ≡ Some form → NestsAtMost (forest_depth (forest items)) (expression_of form.kind)) → AreKnown forms
+pub known_forms : (text : Text) (items : List Tree) (forms : List Form) → Reads text.bytes (forest items) → AreForms text.version items forms → forest_size (forest items) ≤ 2 * length text.bytes → weight_of_forms forms ≤ forest_size (forest items) → FormsFit forms → ((n : ℕ) (form : Form) → slice_get forms n ≡ Some form → NestsAtMost (forest_depth (forest items)) (expression_of form.kind)) → AreKnown forms
 known_forms text items forms reads are few weight fits deep = record {
   low = λ n form h. both_low (expression_of form.kind) (weight_of_forms forms) (forest_depth (forest items)) (kind_small form.kind (weight_of_forms forms) (weight_at forms n form h)) (deep n form h) (omega (arith, few, weight, reads.size)) (omega (arith, reads.depth));
   fits = λ n form h. kind_fits forms n form fits h;
-  named = form_named items forms are;
-  new = names_apart items forms are;
-  once = form_once items forms are;
-  own = λ x n h. name_own items forms are n x h;
+  named = form_named text.version items forms are;
+  new = names_apart text.version items forms are;
+  once = form_once text.version items forms are;
 }

@@ -12,6 +12,7 @@ use Rattle.cl_sexpr.specs.declared.rule.Rule.TheVariants.{BadType, BadName, NotI
 use Rattle.cl_sexpr.specs.declared.rule.Break.{Break}
 use Rattle.cl_sexpr.specs.Tree.{Tree, span_of}
 use Rattle.cl_forms.specs.Forms.{Form, FormKind, ConstantForm, VariableForm, MapForm, FungibleForm, NonFungibleForm, FunctionForm, ExpressionForm}
+use Rattle.cl_forms.specs.declared.version.Version.{Version}
 use Rattle.cl_forms.specs.Heads.{is_reserved, native}
 use Rattle.cl_forms.specs.Names.{same}
 use Rattle.cl_forms.specs.Items.{Draft, ConstantDraft, VariableDraft, MapDraft, FungibleDraft, NonFungibleDraft, FunctionDraft, Item, Expression, Misshapen, Definition, item_of, and_type, typed, map_form, kind_of, form_by, form_of}
@@ -53,26 +54,29 @@ later_when true q r rules h = inr h
 later_when false q r rules h = h
 
 -- no item of these breaks a rule
-abbrev Unbroken : List Tree → Type 0
-Unbroken items = (n : ℕ) (r : Break) → Breaks items n r → ⊥
+abbrev Unbroken : Version → List Tree → Type 0
+Unbroken version items = (n : ℕ) (r : Break) → Breaks version items n r → ⊥
 
-no_rule : (items : List Tree) (n : ℕ) (e : Tree) (r : Rule) → Unbroken items → slice_get items n ≡ Some e → RuleAmong r (rules_of (map item_of items) n (item_of e)) → ⊥
-no_rule items n e r ok there h =
-    ok n (broken_at (span_of e) r) (record { item = e; there = there; broken = after_append (broken_at (span_of e) r) (map (λ at. broken_at at NotInProfile) (left_out_in e)) (map (broken_at (span_of e)) (rules_of (map item_of items) n (item_of e))) (broken_among (span_of e) r (rules_of (map item_of items) n (item_of e)) h) })
+no_rule : (version : Version) (items : List Tree) (n : ℕ) (e : Tree) (r : Rule) → Unbroken version items → slice_get items n ≡ Some e → RuleAmong r (rules_of version (map item_of items) n (item_of e)) → ⊥
+no_rule version items n e r ok there h =
+    ok n (broken_at (span_of e) r) (record { item = e; there = there; broken = after_append (broken_at (span_of e) r) (map (λ at. broken_at at NotInProfile) (left_out_in e)) (map (broken_at (span_of e)) (rules_of version (map item_of items) n (item_of e))) (broken_among (span_of e) r (rules_of version (map item_of items) n (item_of e)) h) })
 
-module _ (items : List Tree) (ok : Unbroken items) (n : ℕ) (e : Tree) (there : slice_get items n ≡ Some e) (name : List ℕ) (draft : Draft) (is : item_of e ≡ Definition name draft) where
-  no_rule_of : (r : Rule) → RuleAmong r (rules_of (map item_of items) n (Definition name draft)) → ⊥
-  no_rule_of r h = no_rule items n e r ok there (subst (λ (i : Item). RuleAmong r (rules_of (map item_of items) n i)) (sym is) h)
+module _ (version : Version) (items : List Tree) (ok : Unbroken version items) (n : ℕ) (e : Tree) (there : slice_get items n ≡ Some e) (name : List ℕ) (draft : Draft) (is : item_of e ≡ Definition name draft) where
+  no_rule_of : (r : Rule) → RuleAmong r (rules_of version (map item_of items) n (Definition name draft)) → ⊥
+  no_rule_of r h = no_rule version items n e r ok there (subst (λ (i : Item). RuleAmong r (rules_of version (map item_of items) n i)) (sym is) h)
 
-  free_names : (is_reserved name || list_any is_reserved (params_of draft)) ≡ false
-  free_names = false_from_ne_true (is_reserved name || list_any is_reserved (params_of draft)) (λ h.
-      no_rule_of BadName (later_when (is_none (kind_of draft)) BadType BadName (when (is_reserved name || list_any is_reserved (params_of draft)) BadName (when (uses_name (map item_of items) n name (params_of draft)) NameUsed []))
-      (first_when (is_reserved name || list_any is_reserved (params_of draft)) BadName (when (uses_name (map item_of items) n name (params_of draft)) NameUsed []) h)))
+  abbrev is_bad : Bool
+  is_bad = is_reserved version name || list_any (is_reserved version) (params_of draft)
+
+  free_names : is_bad ≡ false
+  free_names = false_from_ne_true is_bad (λ h.
+      no_rule_of BadName (later_when (is_none (kind_of draft)) BadType BadName (when is_bad BadName (when (uses_name (map item_of items) n name (params_of draft)) NameUsed []))
+      (first_when is_bad BadName (when (uses_name (map item_of items) n name (params_of draft)) NameUsed []) h)))
 
   new_names : uses_name (map item_of items) n name (params_of draft) ≡ false
   new_names = false_from_ne_true (uses_name (map item_of items) n name (params_of draft)) (λ h.
-      no_rule_of NameUsed (later_when (is_none (kind_of draft)) BadType NameUsed (when (is_reserved name || list_any is_reserved (params_of draft)) BadName (when (uses_name (map item_of items) n name (params_of draft)) NameUsed []))
-      (later_when (is_reserved name || list_any is_reserved (params_of draft)) BadName NameUsed (when (uses_name (map item_of items) n name (params_of draft)) NameUsed [])
+      no_rule_of NameUsed (later_when (is_none (kind_of draft)) BadType NameUsed (when is_bad BadName (when (uses_name (map item_of items) n name (params_of draft)) NameUsed []))
+      (later_when is_bad BadName NameUsed (when (uses_name (map item_of items) n name (params_of draft)) NameUsed [])
       (first_when (uses_name (map item_of items) n name (params_of draft)) NameUsed [] h))))
 
 -- ---- the names of a form are those of its item
@@ -229,7 +233,7 @@ taken_at (y ∷ xs) (suc m) (suc n) x l h = taken_at xs m n x (omega arith) h
 
 -- ---- the names of forms
 
-module _ (items : List Tree) (forms : List Form) (are : AreForms items forms) where
+module _ (version : Version) (items : List Tree) (forms : List Form) (are : AreForms version items forms) where
   -- what is known of the form at a place
   record Stood (n : ℕ) (form : Form) (x : List ℕ) : Type 0 where
     item : Tree
@@ -242,7 +246,7 @@ module _ (items : List Tree) (forms : List Form) (are : AreForms items forms) wh
       record { item = i.0; there = i.1; of = form_is_of (item_of i.0) (span_of i.0) form x i.2 e }
 
   new_stood : (n : ℕ) (form : Form) (x : List ℕ) → Stood n form x → uses_name (map item_of items) n x (params_in form.kind) ≡ false
-  new_stood n form x s = ap (uses_name (map item_of items) n x) (sym s.of.params) ∙ new_names items are.unbroken n s.item s.there x s.of.draft s.of.is
+  new_stood n form x s = ap (uses_name (map item_of items) n x) (sym s.of.params) ∙ new_names version items are.unbroken n s.item s.there x s.of.draft s.of.is
 
   new_place : (n m : ℕ) (f g : Form) (x y : List ℕ) → slice_get forms n ≡ Some f → slice_get forms m ≡ Some g → f.name ≡ Some x → g.name ≡ Some y → m < n → same x y ≡ false
   new_place n m f g x y h k a b low =
@@ -284,12 +288,12 @@ module _ (items : List Tree) (forms : List Form) (are : AreForms items forms) wh
       by None e k = absurd cc
       by (Some f) e k = (f, e, k)
 
-  -- the name of a form is no native's
-  pub name_own : (n : ℕ) (x : List ℕ) → name_at forms n ≡ Some x → native x ≡ None
+  -- the name of a form is no native's of the version
+  pub name_own : (n : ℕ) (x : List ℕ) → name_at forms n ≡ Some x → native version x ≡ None
   name_own n x h =
       let f = name_there n x h in
       let s : Stood n f.0 x = stood n f.0 x f.1 f.2 in
-      no_native x (or_parts (is_reserved x) (list_any is_reserved (params_of s.of.draft)) (free_names items are.unbroken n s.item s.there x s.of.draft s.of.is)).0
+      no_native version x (or_parts (is_reserved version x) (list_any (is_reserved version) (params_of s.of.draft)) (free_names version items are.unbroken n s.item s.there x s.of.draft s.of.is)).0
 
   pub names_apart : (n m : ℕ) (x : List ℕ) → name_at forms n ≡ Some x → name_at forms m ≡ Some x → n ≡ m
   names_apart n m x h k =

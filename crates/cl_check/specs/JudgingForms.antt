@@ -12,7 +12,6 @@ use Rattle.cl_sexpr.specs.declared.rule.Break.{Break}
 use Rattle.cl_sexpr.specs.Tree.{Tree, tree_size, tree_depth}
 use Rattle.cl_forms.specs.Forms.{Form, FormKind, FunctionForm, ExpressionForm, expression_of}
 use Rattle.cl_forms.specs.Fits.{KindFits}
-use Rattle.cl_forms.specs.Heads.{native}
 use Rattle.cl_forms.specs.Names.{name_at}
 use Rattle.cl_forms.specs.Names.{stands_twice}
 use Rattle.cl_code.specs.declared.definition.Definition.{Definition}
@@ -132,13 +131,12 @@ pub record MayFollow (c : CodeContext) (form : Form) : Type 0 where
 -- ---- forms in their order
 
 -- What is known of the forms of a text: their expressions nest no deeper than texts do, and are no longer; only expressions
--- have no name; no two forms have one name, and none has a native's; no two parameters of a form have one name.
+-- have no name; no two forms have one name; no two parameters of a form have one name.
 pub record AreKnown (forms : List Form) : Type 0 where
   pub low : (n : ℕ) (form : Form) → slice_get forms n ≡ Some form → IsLow (expression_of form.kind)
   pub fits : (n : ℕ) (form : Form) → slice_get forms n ≡ Some form → KindFits form.kind
   pub named : (n : ℕ) (form : Form) → slice_get forms n ≡ Some form → is_none form.name ≡ is_expression form.kind
   pub new : (n m : ℕ) (x : List ℕ) → name_at forms n ≡ Some x → name_at forms m ≡ Some x → n ≡ m
-  pub own : (x : List ℕ) (n : ℕ) → name_at forms n ≡ Some x → native x ≡ None
   pub once : (n : ℕ) (form : Form) → slice_get forms n ≡ Some form → stands_twice (params_in form.kind) ≡ false
 
 -- forms are judged, and these definitions stand for them

@@ -1,18 +1,18 @@
 //! The checker of whole texts.
-ghost use Rattle.std.specs.Prelude.{◌≡◌, ◌≤◌, ℕ, List, false, length, map, IfOk};
+ghost use Rattle.std.specs.Prelude.{◌≡◌, ◌≤◌, ℕ, List, false, true, length, map, IfOk};
+ghost use Rattle.std.specs.List.{list_all};
 ghost use Rattle.cl_types.specs.Fault.{IfRefused};
 ghost use Rattle.cl_forms.specs.Order.{IsGoodOrder};
+ghost use Rattle.cl_forms.specs.Texts.{text_of};
 ghost use Rattle.cl_code.specs.Definitions.{form_defined};
-ghost use Rattle.cl_rules.specs.Acceptance.{FirstBreakBeforeBounds, NoneWrites, TypedAs, forms_at};
 ghost use Rattle.cl_rules.specs.Context.{Known};
-ghost use Rattle.cl_rules.specs.FormRules.{Defined, nothing_defined};
-ghost use Rattle.cl_rules.specs.Judging.{Fails, forms_judged};
-ghost use Rattle.cl_contracts.specs.Seen.{AreIndexed, IsIndexed, forms_of};
-ghost use Rattle.cl_contracts.specs.Standings.{AllStand, Knows, definitions_in_order};
+ghost use Rattle.cl_rules.specs.FormRules.{nothing_defined};
+ghost use Rattle.cl_contracts.specs.Seen.{AreIndexed, IsIndexed, forms_of, goes};
+ghost use Rattle.cl_contracts.specs.Standings.{Knows, definitions_in_order};
 ghost use Rattle.cl_judging.specs.Seen.{Shows, top_level_in};
 ghost use Rattle.cl_readonly.specs.Functions.{HaveOwnNames};
-ghost use Rattle.cl_check.specs.Checking.{IsRefusalOf, StandsForTyped};
-ghost use Rattle.cl_check.specs.JudgingForms.{AreKnown, StandingAs};
+ghost use Rattle.cl_check.specs.Checking.{BreaksForms, IsContractOf, IsFirstBreak, IsKnown, IsRefusalOf, StandForForms, StandsForTyped, forms_in_order};
+ghost use Rattle.cl_check.specs.JudgingForms.{AreKnown};
 
 use crate::placing::{in_text_order, places};
 use crate::reading::{Program, ordered_forms};
@@ -20,7 +20,7 @@ use crate::walk::walk;
 use cl_c32::Principal;
 use cl_code::Definition;
 use cl_contracts::{Checked, Deployed};
-use cl_forms::Form;
+use cl_forms::Version;
 use cl_judging::Context;
 use cl_readonly::first_writing;
 use cl_rules::{forms_of_texts_are_decided, the_plain_program_is_right};
@@ -29,11 +29,17 @@ use cl_types::{Fault, NoMemory};
 use indexmap::{IndexMap, IndexSet};
 use std::alloc::Global;
 
-/// Before the first form.
-fn nothing<'a>(alloc: Global, deployed: &'a Deployed, principal: &Principal) -> Context<'a>
+/// Before the first form of a text of this version.
+fn nothing<'a>(
+    alloc: Global,
+    deployed: &'a Deployed,
+    principal: &Principal,
+    version: Version,
+) -> Context<'a>
     requires { AreIndexed deployed.now }
     ensures empty { (x : List ℕ) → top_level_in result x ≡ false }
-    ensures shown { (known : List Known) (size : ℕ) → Knows deployed.now known → Shows result (nothing_defined known principal.now size).context }
+    ensures shown { (known : List Known) (size : ℕ) → Knows deployed.now known →
+        Shows result (nothing_defined known principal.now version size).context }
 {
     let constants = IndexMap::new(alloc);
     let variables = IndexMap::new(alloc);
@@ -43,6 +49,7 @@ fn nothing<'a>(alloc: Global, deployed: &'a Deployed, principal: &Principal) -> 
     let functions = IndexMap::new(alloc);
     Context {
         principal: *principal,
+        version,
         deployed,
         constants,
         variables,
@@ -53,52 +60,61 @@ fn nothing<'a>(alloc: Global, deployed: &'a Deployed, principal: &Principal) -> 
     }
 }
 
-/// The definitions of forms in the order of evaluation, or the first rule of typing that one breaks.
+/// The definitions of the forms of a text of this version, in the order of evaluation, or the first
+/// rule of typing that one breaks.
 fn typed(
     alloc: Global,
     deployed: &Deployed,
     principal: &Principal,
-    forms: &[Form],
-    order: &[usize],
+    version: Version,
+    program: &Program,
 ) -> Result<Vec<Definition>, Fault<Break>>
     requires indexed { AreIndexed deployed.now }
-    requires known { AreKnown forms.now }
-    requires good { IsGoodOrder forms.now order.now }
-    ensures forms { IfOk result (λ ds. map form_defined ds.items ≡ forms_at forms.now order.now) }
-    ensures standing { IfOk result (λ ds. (known : List Known) (size : ℕ) → Knows deployed.now known → StandingAs (nothing_defined known principal.now size) (forms_at forms.now order.now) ds.items) }
-    ensures broken { IfRefused result (λ b. (known : List Known) (size : ℕ) → Knows deployed.now known → forms_judged (nothing_defined known principal.now size) (forms_at forms.now order.now) ≡ Fails b.rule b.span) }
+    requires known { AreKnown program.now.forms.items }
+    requires good { IsGoodOrder program.now.forms.items program.now.order.items }
+    ensures forms { IfOk result (λ ds. map form_defined ds.items ≡ forms_in_order program.now) }
+    ensures standing { IfOk result
+        (λ ds. StandForForms deployed.now principal.now version (forms_in_order program.now)
+        ds.items) }
+    ensures broken { IfRefused result
+        (λ b. BreaksForms deployed.now principal.now version (forms_in_order program.now) b) }
 {
-    let mut ctx = nothing(alloc, deployed, principal);
-    let done = match walk(alloc, &mut ctx, forms, order) {
+    let mut ctx = nothing(alloc, deployed, principal, version);
+    let done = match walk(alloc, &mut ctx, &program.forms, &program.order) {
         Ok(done) => done,
         Err(fault) => return Err(fault),
     };
     Ok(done)
 }
 
-/// A contract of these definitions, which are in the order of evaluation.
+/// A contract with the forms of a program, whose definitions are in the order of evaluation. Its
+/// text has this version and this length.
 fn made(
     alloc: Global,
     principal: &Principal,
+    version: Version,
     size: u32,
-    forms: &[Form],
-    order: Vec<usize>,
+    program: Program,
     done: Vec<Definition>,
 ) -> Result<Checked, NoMemory>
-    requires known { AreKnown forms.now }
-    requires good { IsGoodOrder forms.now order.items }
-    requires defined { map form_defined done.items ≡ forms_at forms.now order.items }
-    ensures forms { IfOk result (λ c. forms_of c ≡ forms.now) }
+    requires known { AreKnown program.forms.items }
+    requires good { IsGoodOrder program.forms.items program.order.items }
+    requires defined { map form_defined done.items ≡ forms_in_order program }
+    requires goes { list_all (goes version) done.items ≡ true }
+    ensures forms { IfOk result (λ c. forms_of c ≡ program.forms.items) }
     ensures done { IfOk result (λ c. definitions_in_order c ≡ done.items) }
-    ensures order { IfOk result (λ c. c.order.items ≡ order.items) }
+    ensures order { IfOk result (λ c. c.order.items ≡ program.order.items) }
     ensures indexed { IfOk result (λ c. IsIndexed c) }
     ensures principal { IfOk result (λ c. c.principal ≡ principal.now) }
+    ensures version { IfOk result (λ c. c.version ≡ version) }
     ensures length { IfOk result (λ c. c.source_length ≡ size) }
 {
-    let definitions = in_text_order(alloc, done, forms, &order)?;
+    let Program { forms, order } = program;
+    let definitions = in_text_order(alloc, done, &forms, &order)?;
     let places = places(alloc, &definitions)?;
     Ok(Checked {
         principal: *principal,
+        version,
         definitions,
         order,
         places,
@@ -128,32 +144,37 @@ fn typed_text(
     deployed: &Deployed,
     principal: &Principal,
     source: &[u8],
+    version: Version,
 ) -> Result<Checked, Fault<Refusal>>
-    requires { AreIndexed deployed.now }
-    ensures found { IfOk result (λ c. StandsForTyped deployed.now principal.now source.now c) }
-    ensures own { IfOk result (λ c. HaveOwnNames (forms_of c)) }
+    requires indexed { AreIndexed deployed.now }
+    requires known { IsKnown deployed.now }
+    ensures found { IfOk result
+        (λ c. StandsForTyped deployed.now principal.now (text_of source.now version) c) }
+    ensures own { IfOk result (λ c. HaveOwnNames c.version (forms_of c)) }
     ensures indexed { IfOk result (λ c. IsIndexed c) }
     ensures principal { IfOk result (λ c. c.principal ≡ principal.now) }
+    ensures version { IfOk result (λ c. c.version ≡ version) }
     ensures length { IfOk result (λ c. c.source_length ≡ length source.now) }
-    ensures broken { IfRefused result (λ r. (known : List Known) → Knows deployed.now known → FirstBreakBeforeBounds known principal.now source.now r.rule r.span r.names.items) }
+    ensures broken { IfRefused result
+        (λ r. IsFirstBreak deployed.now principal.now (text_of source.now version) r) }
 {
     the_plain_program_is_right();
     forms_of_texts_are_decided();
-    let program = match ordered_forms(alloc, source) {
+    let program = match ordered_forms(alloc, source, version) {
         Ok(program) => program,
         Err(fault) => return Err(fault),
     };
-    let Program { forms, order } = program;
-    let done = match typed(alloc, deployed, principal, &forms, &order) {
+    let done = match typed(alloc, deployed, principal, version, &program) {
         Ok(done) => done,
         Err(fault) => return Err(refusal(alloc, fault)),
     };
-    let checked = made(alloc, principal, size_of(source), &forms, order, done)?;
+    let checked = made(alloc, principal, version, size_of(source), program, done)?;
     Ok(checked)
 }
 
-/// The contract of a text under this principal, after the deployed contracts: its definitions with typed trees. Or the first
-/// rule that the text breaks, with its span, and for a cycle the names of the forms in it: of texts, forms and their order, of
+/// The contract of a text of this version under this principal, after the deployed contracts, which
+/// are accepted ones: its definitions with typed trees. Or the first rule that the text breaks, with
+/// its span, and for a cycle the names of the forms in it: of texts, forms and their order, of
 /// typing, or C25 `WritesInReadOnly`.
 ///
 /// The time is near linear in the text; it recurs only into brackets.
@@ -162,15 +183,20 @@ pub fn check(
     deployed: &Deployed,
     principal: &Principal,
     source: &[u8],
+    version: Version,
 ) -> Result<Checked, Fault<Refusal>>
-    requires { AreIndexed deployed.now }
-    ensures found { IfOk result (λ c. (known : List Known) → Knows deployed.now known → (defined : Defined) × TypedAs known principal.now source.now (forms_of c) c.order.items defined × NoneWrites known principal.now (forms_of c) × AllStand (nothing_defined known principal.now (length source.now)) (definitions_in_order c) defined) }
+    requires indexed { AreIndexed deployed.now }
+    requires known { IsKnown deployed.now }
+    ensures found { IfOk result
+        (λ c. IsContractOf deployed.now principal.now (text_of source.now version) c) }
     ensures indexed { IfOk result (λ c. IsIndexed c) }
     ensures principal { IfOk result (λ c. c.principal ≡ principal.now) }
+    ensures version { IfOk result (λ c. c.version ≡ version) }
     ensures length { IfOk result (λ c. c.source_length ≡ length source.now) }
-    ensures broken { IfRefused result (λ r. (known : List Known) → Knows deployed.now known → FirstBreakBeforeBounds known principal.now source.now r.rule r.span r.names.items) }
+    ensures broken { IfRefused result
+        (λ r. IsFirstBreak deployed.now principal.now (text_of source.now version) r) }
 {
-    let checked = match typed_text(alloc, deployed, principal, source) {
+    let checked = match typed_text(alloc, deployed, principal, source, version) {
         Ok(checked) => checked,
         Err(fault) => return Err(fault),
     };

@@ -3,11 +3,14 @@ ghost use Rattle.std.specs.Prelude.{◌≡◌, ◌<◌, ◌≤◌, ◌^◌, Ok, 
 ghost use Rattle.cl_types.specs.Fault.{IfRefused};
 ghost use Rattle.cl_forms.specs.Cycle.{IsOfTheCycle};
 ghost use Rattle.cl_forms.specs.Order.{IsGoodOrder, ordered};
+ghost use Rattle.cl_forms.specs.Texts.{text_of};
 ghost use Rattle.cl_rules.specs.Acceptance.{Ordered, FirstUnordered};
+ghost use Rattle.cl_readonly.specs.Functions.{HaveOwnNames};
 ghost use Rattle.cl_check.specs.JudgingForms.{AreKnown};
 
 use cl_forms::{
-    Form, expressions_are_within_limits, expressions_nest_as_items, forms, forms_have_few_parts,
+    Form, Version, expressions_are_within_limits, expressions_nest_as_items, forms,
+    forms_have_few_parts,
 };
 use cl_order::order;
 use cl_sexpr::{Refusal, literals_are_within_limits, one_reading, read};
@@ -46,13 +49,21 @@ fn ordered(alloc: Global, forms: &[Form]) -> Result<Vec<usize>, Fault<Refusal>>
     Ok(wide)
 }
 
-/// The forms of a source in their order, or the first rule of texts, of forms or of their order that it breaks.
-pub(crate) fn ordered_forms(alloc: Global, source: &[u8]) -> Result<Program, Fault<Refusal>>
-    ensures found { IfOk result (λ p. Ordered source.now p.forms.items p.order.items) }
+/// The forms of a source of this version in their order, or the first rule of texts, of forms or of their order that it
+/// breaks.
+pub(crate) fn ordered_forms(
+    alloc: Global,
+    source: &[u8],
+    version: Version,
+) -> Result<Program, Fault<Refusal>>
+    ensures found { IfOk result
+        (λ p. Ordered (text_of source.now version) p.forms.items p.order.items) }
     ensures known { IfOk result (λ p. AreKnown p.forms.items) }
+    ensures own { IfOk result (λ p. HaveOwnNames version p.forms.items) }
     ensures good { IfOk result (λ p. IsGoodOrder p.forms.items p.order.items) }
     ensures size { IfOk result (λ _. length source.now ≤ 1048576) }
-    ensures broken { IfRefused result (λ r. FirstUnordered source.now r.rule r.span r.names.items) }
+    ensures broken { IfRefused result
+        (λ r. FirstUnordered (text_of source.now version) r.rule r.span r.names.items) }
 {
     one_reading();
     literals_are_within_limits();
@@ -60,7 +71,7 @@ pub(crate) fn ordered_forms(alloc: Global, source: &[u8]) -> Result<Program, Fau
     expressions_are_within_limits();
     expressions_nest_as_items();
     let items = read(alloc, source)?;
-    let forms = forms(alloc, items)?;
+    let forms = forms(alloc, items, version)?;
     let order = ordered(alloc, &forms)?;
     Ok(Program { forms, order })
 }

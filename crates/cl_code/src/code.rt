@@ -7,9 +7,9 @@ use std::marker::Model;
 
 /// A typed tree: what the node does with the values of its parts, its type, and the bytes of the
 /// text that its expression is spelled by. It has fewer than 1,048,576 parts, as many as its native
-/// takes, and its names are its own: no keyword is a binding or a constant, no native a function,
-/// and no key of a tuple stands twice. Contracts see the expression that it stands for, its type
-/// and its parts.
+/// takes, and its names are its own: no keyword is a binding or a constant, and no key of a tuple
+/// stands twice. Contracts see the expression that it stands for, its type, the versions of the
+/// language in which the node can stand, and its parts.
 pub struct Code {
     pub op: Op,
     pub parts: Vec<Code>,
@@ -36,7 +36,7 @@ impl Model for Code {
     ghost use Rattle.cl_code.specs.Typed.{Typed, TypedAs, typeds, expression_of, weight_of};
     ghost use Rattle.cl_code.specs.TypedCode.{typed_code};
     ghost use Rattle.cl_code.specs.Expression.{expression};
-    ghost use Rattle.cl_code.specs.Nodes.{has_own_name, has_parts};
+    ghost use Rattle.cl_code.specs.Nodes.{has_own_name, has_parts, versions_of};
     ghost use Rattle.std.proofs.Common.{arith};
     ghost use Rattle.cl_code.specs.TypedFalls.{most_le};
 
@@ -44,7 +44,7 @@ impl Model for Code {
 
     ghost coded = { typed_code };
 
-    ghost view = { λ c. TypedAs (expression c.op (map expression_of c.parts.items) c.span) c.ty (typeds c.parts.items) };
+    ghost view = { λ c. TypedAs (expression c.op (map expression_of c.parts.items) c.span) c.ty (versions_of c.op) (typeds c.parts.items) };
 
     ghost invariant = { λ c. record {
       few : length c.parts.items < 1048576;
@@ -61,7 +61,7 @@ impl Code {
     ghost use Rattle.std.specs.Prelude.{◌≡◌, ◌<◌, map, length, true};
     ghost use Rattle.cl_code.specs.Typed.{TypedAs, typeds, expression_of, type_of};
     ghost use Rattle.cl_code.specs.Expression.{expression};
-    ghost use Rattle.cl_code.specs.Nodes.{has_own_name, has_parts};
+    ghost use Rattle.cl_code.specs.Nodes.{has_own_name, has_parts, versions_of};
 
     /// No node has as many parts.
     pub const TOO_MANY_PARTS: usize = 1_048_576;
@@ -72,7 +72,7 @@ impl Code {
         requires fit { has_parts op (length parts.items) ≡ true }
         requires named { has_own_name op ≡ true }
         ensures { result ≡ TypedAs (expression op (map expression_of parts.items) span) ty
-            (typeds parts.items) }
+            (versions_of op) (typeds parts.items) }
     {
         Code {
             op,

@@ -26,7 +26,7 @@ use Rattle.cl_contracts.proofs.Among.{or_none, one_of, all_defined, among_is}
 -- ---- what definitions define
 
 type_stands : (G : Context) (B : Names) (q : Typed) (f : Found) → Stands G B q f → type_of q ≡ f.type
-type_stands G B (TypedAs e t ps) f s = s.5
+type_stands G B (TypedAs e t vs ps) f s = s.5
 
 one_more : (x : List ℕ) (cs : Names) (c : List ℕ × PlainType) → named_in x (cs ++ c ∷ []) ≡ option_or (named_in x cs) (named_in x (c ∷ []))
 one_more x [] c = refl
@@ -65,7 +65,7 @@ with_one x D (TopLevel c) fs s = same_constants x D.context.constants
 
 pub constants_kept : ConstantsAsKept
 constants_kept before c defined ok s x =
-    all_defined as_constant type_given x (λ (D : Defined). named_in x D.context.constants) (with_one x) (nothing_defined before c.principal c.source_length) defined (definitions_in_order c) s
+    all_defined as_constant type_given x (λ (D : Defined). named_in x D.context.constants) (with_one x) (nothing_defined before c.principal c.version c.source_length) defined (definitions_in_order c) s
     ∙ ap (option_map type_given) (among_is as_constant x c ok)
 
 -- ---- values

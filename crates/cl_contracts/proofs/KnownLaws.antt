@@ -66,9 +66,9 @@ with_one x D (TopLevel c) fs s = same_functions x D.context.functions
 
 -- ---- contracts
 
-known_one : (before : List Known) (p : Principal) (c : Checked) (defined : Defined) → IsIndexed c → AllStand (nothing_defined before p c.source_length) (definitions_in_order c) defined → (x : List ℕ) → option_map seen (signature_in x defined.context.functions) ≡ option_map shown (function_under x c)
+known_one : (before : List Known) (p : Principal) (c : Checked) (defined : Defined) → IsIndexed c → AllStand (nothing_defined before p c.version c.source_length) (definitions_in_order c) defined → (x : List ℕ) → option_map seen (signature_in x defined.context.functions) ≡ option_map shown (function_under x c)
 known_one before p c defined ok s x =
-    all_defined as_function shown x (λ (D : Defined). known_function x D.context.functions) (with_one x) (nothing_defined before p c.source_length) defined (definitions_in_order c) s
+    all_defined as_function shown x (λ (D : Defined). known_function x D.context.functions) (with_one x) (nothing_defined before p c.version c.source_length) defined (definitions_in_order c) s
     ∙ ap (option_map shown) (among_is as_function x c ok)
 
 known_more : (p : Principal) (ks : List Known) (k : Known) → known_at p ks ≡ None → known_at p (ks ++ k ∷ []) ≡ (if same_principal k.principal p then Some k else None)

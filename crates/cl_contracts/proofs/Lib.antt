@@ -1,3 +1,4 @@
+pub mod Going
 pub mod Places
 pub mod Principals
 pub mod StandingTyped

@@ -11,13 +11,13 @@ use Rattle.cl_rules.specs.FormTyping.{FormsTyped, form_typed, no_more, one_more}
 use Rattle.cl_code.specs.declared.definition.Definition.{Definition}
 use Rattle.cl_code.specs.Definitions.{form_defined}
 use Rattle.cl_code.specs.Typed.{Typed, Typeds, TypedAs, NoTyped, MoreTyped, expression_of, typeds}
-use Rattle.cl_contracts.specs.Seen.{kind_at}
+use Rattle.cl_contracts.specs.Seen.{kind_at, trees_of}
 use Rattle.cl_contracts.specs.Standing.{Stands, StandAll}
-use Rattle.cl_contracts.specs.Standings.{AllStand, trees_of}
+use Rattle.cl_contracts.specs.Standings.{AllStand}
 
 mutual
   pub stands_typed : (G : Context) (B : Names) (q : Typed) (f : Found) → Stands G B q f → IsTyped G B (expression_of q) f
-  stands_typed G B (TypedAs e t ps) f s = typed s.0 s.1 (stand_follows G (shape G B e).plan ps s.0 s.2) s.3 s.4
+  stands_typed G B (TypedAs e t vs ps) f s = typed s.0 s.1 (stand_follows G (shape G B e).plan ps s.0 s.2) s.3 s.4
 
   pub stand_follows : (G : Context) (p : Plan) (ps : Typeds) (fs : List Found) → StandAll G p ps fs → Follows G p fs
   stand_follows G Ends NoTyped [] s = ends

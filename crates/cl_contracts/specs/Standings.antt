@@ -3,7 +3,7 @@ use Rattle.std.specs.Prelude.{◌≡◌, suc, List, [], ◌∷◌, ◌++◌, map
 use Rattle.cl_c32.specs.declared.principal.Principal.{Principal}
 use Rattle.cl_code.specs.declared.definition.Definition.{Definition}
 use Rattle.cl_code.specs.declared.definition.Definition.TheVariants.{Constant, Variable, MapOf, Fungible, NonFungible, Function, TopLevel}
-use Rattle.cl_code.specs.Typed.{Typed, typeds}
+use Rattle.cl_code.specs.Typed.{typeds}
 use Rattle.cl_code.specs.Definitions.{form_defined}
 use Rattle.cl_rules.specs.Faults.{form_rules}
 use Rattle.cl_rules.specs.Context.{Known}
@@ -14,24 +14,10 @@ use Rattle.cl_rules.specs.Acceptance.{known_of}
 use Rattle.cl_contracts.specs.declared.checked.Checked.{Checked}
 use Rattle.cl_contracts.specs.declared.contract.Contract.{Contract}
 use Rattle.cl_contracts.specs.declared.deployed.Deployed.{Deployed}
-use Rattle.cl_contracts.specs.Seen.{kind_at}
+use Rattle.cl_contracts.specs.Seen.{kind_at, trees_of}
 use Rattle.cl_contracts.specs.Standing.{StandAll}
 
 -- ---- one definition
-
-abbrev pub tree_if : Option Typed → List Typed
-tree_if None = []
-tree_if (Some e) = e ∷ []
-
--- the tree of a definition, if it has an expression
-abbrev pub trees_of : Definition → List Typed
-trees_of (Constant c) = c.value ∷ []
-trees_of (Variable v) = v.value ∷ []
-trees_of (MapOf m) = []
-trees_of (Fungible t) = tree_if t.supply
-trees_of (NonFungible t) = []
-trees_of (Function f) = f.body ∷ []
-trees_of (TopLevel e) = e.value ∷ []
 
 -- a function's return type and height are those of what is found of its body
 abbrev pub FactsOf : Definition → List Found → Type 0
@@ -57,7 +43,7 @@ definitions_in_order c = filter_map (slice_get c.definitions.items) c.order.item
 
 -- the definitions of a contract stand for typed forms after these deployed contracts, and define this
 abbrev pub StandsAfter : List Known → Checked → Defined → Type 0
-StandsAfter before c defined = AllStand (nothing_defined before c.principal c.source_length) (definitions_in_order c) defined
+StandsAfter before c defined = AllStand (nothing_defined before c.principal c.version c.source_length) (definitions_in_order c) defined
 
 -- ---- deployed contracts
 
@@ -65,7 +51,7 @@ StandsAfter before c defined = AllStand (nothing_defined before c.principal c.so
 abbrev pub AreStanding : List Known → List (Principal × Contract) → List Known → Type 0
 AreStanding before [] after = before ≡ after
 AreStanding before (e ∷ es) after =
-    (defined : Defined) × AllStand (nothing_defined before e.0 e.1.checked.source_length) (definitions_in_order e.1.checked) defined
+    (defined : Defined) × AllStand (nothing_defined before e.0 e.1.checked.version e.1.checked.source_length) (definitions_in_order e.1.checked) defined
     × AreStanding (before ++ known_of e.0 e.1.checked.source_length defined ∷ []) es after
 
 -- what callers know of the deployed contracts

@@ -1,17 +1,21 @@
 //! Contracts that break no rule of typing.
-ghost use Rattle.std.specs.Prelude.{◌≡◌, option_map, option_and_then, option_copied};
+ghost use Rattle.std.specs.Prelude.{◌≡◌, true, option_map, option_and_then, option_copied, IfSome};
 ghost use Rattle.cl_meaning.specs.Deployed.{form_of, function_in};
 ghost use Rattle.cl_rules.specs.Context.{named_in};
+ghost use Rattle.cl_code.specs.Typed.{goes_by};
 ghost use Rattle.cl_contracts.specs.Seen.{IsIndexed, as_function, definition_under, forms_of, function_seen, function_under, kind_at};
 
 use cl_c32::Principal;
 use cl_code::{Definition, Function};
+use cl_forms::Version;
 use cl_types::Name;
 use indexmap::IndexMap;
 
 /// A contract that breaks no rule of typing: its definitions with typed trees, in the order of its text.
 pub struct Checked {
     pub principal: Principal,
+    /// The version of its text.
+    pub version: Version,
     pub definitions: Vec<Definition>,
     /// The places of the definitions in the order of evaluation.
     pub order: Vec<usize>,
@@ -25,6 +29,7 @@ impl Drop for Checked {
     fn drop(self) {
         let Checked {
             principal: _,
+            version: _,
             definitions,
             order,
             places,
@@ -74,6 +79,8 @@ impl Checked {
     pub fn function(&self, name: &Name) -> Option<&Function>
         ensures there { option_copied result ≡ function_under name.now self.now }
         ensures seen { IsIndexed self.now → option_map (λ f. function_seen f.now) result ≡ function_in name.now (forms_of self.now) }
+        ensures goes { IsIndexed self.now →
+            IfSome result (λ f. goes_by self.now.version f.now.body ≡ true) }
     {
         as_function(self.definition_under(name))
     }

@@ -1,6 +1,7 @@
 //! Deployed contracts.
-ghost use Rattle.std.specs.Prelude.{◌≡◌, option_map, option_copied, Some};
+ghost use Rattle.std.specs.Prelude.{◌≡◌, true, option_map, option_copied, Some, IfSome};
 ghost use Rattle.cl_c32.specs.declared.principal.Principal.{Principal};
+ghost use Rattle.cl_code.specs.Typed.{goes_by};
 ghost use Rattle.cl_meaning.specs.Deployed.{constant_of, form_of, function_of};
 ghost use Rattle.cl_contracts.specs.Seen.{IsIndexed, contract_seen, definition_under, forms_of, function_seen, function_under, kind_at};
 
@@ -37,6 +38,8 @@ impl Contract {
     pub fn function(&self, name: &Name) -> Option<&Function>
         ensures there { option_copied result ≡ function_under name.now self.now.checked }
         ensures seen { IsIndexed self.now.checked → (p : Principal) → option_map (λ f. function_seen f.now) result ≡ function_of name.now (Some (contract_seen (p, self.now))) }
+        ensures goes { IsIndexed self.now.checked →
+            IfSome result (λ f. goes_by self.now.checked.version f.now.body ≡ true) }
     {
         self.checked.function(name)
     }

@@ -28,24 +28,27 @@ use Rattle.cl_typing.specs.declared.concluding.Checked.{Checked}
 use Rattle.cl_typing.specs.declared.concluding.Concluded.{Concluded}
 use Rattle.cl_judging.specs.Seen.{Shows, no_value_in}
 use Rattle.cl_typing.specs.Verdicts.{ConcludesAs}
-use Rattle.cl_judging.specs.Walking.{Finds, judged_as, Checks, ChecksAs, Finishes, FineAs, RuledAs, ValueAs}
+use Rattle.cl_judging.specs.Walking.{Finds, judged_as, Checks, ChecksAs, FinishesAt, FineAs, RuledAs, ValueAs}
+use Rattle.cl_forms.specs.declared.version.Version.{Version}
+use Rattle.cl_code.specs.declared.op.Op.{Op}
+use Rattle.cl_code.specs.Nodes.{goes_op, versions_of}
 use Rattle.cl_code.specs.Typed.{Typed, TypedAs, typeds}
 use Rattle.cl_typing.specs.Verdicts.{facts_of}
 use Rattle.cl_typing.proofs.Conclusions.{holds_at}
 use Rattle.cl_judging.proofs.Contexts.{no_value_is}
 use Rattle.cl_judging.proofs.Finishing.{finish_holds}
 
-pub value_found : (ruled : Result PlainType (Fault Rule)) (concluded : Result Concluded (Fault Rule)) (at : Span) (result : Result Checked (Fault Break)) → ConcludesAs ruled None 0 [] concluded → Finishes [] concluded at result → ValueAs ruled at result
+pub value_found : (ruled : Result PlainType (Fault Rule)) (concluded : Result Concluded (Fault Rule)) (at : Span) (result : Result Checked (Fault Break)) → ConcludesAs ruled None 0 [] concluded → ((G : Context) → FinishesAt G [] concluded at result) → ValueAs ruled at result
 value_found ruled concluded at result k f R G name judge ru = f G judge (value_shape name R) [] refl refl refl tt (k R (Both (Charge name (size_of R.type)) (sum_of [])) [] ru refl)
 
 pub fine_found : (t : PlainType) (at : Span) (result : Result Checked (Fault Break)) → ValueAs (Ok t) at result → FineAs t at result
 fine_found t at result v G name judge = v (fine t) G name judge (refl, refl, refl)
 
 -- a node without parts
-pub node_fine : (t : PlainType) (at : Span) (c : Checked) (codes : List Typed) (e : Tree) → codes ≡ [] → facts_of c ≡ record { type = t; thrown = None; height = 1 } → c.code ≡ TypedAs e t (typeds codes) → FineAs t at (Ok c)
-node_fine t at c codes e none is code =
+pub node_fine : (t : PlainType) (at : Span) (c : Checked) (codes : List Typed) (e : Tree) (op : Op) → ((version : Version) → goes_op version op ≡ true) → codes ≡ [] → facts_of c ≡ record { type = t; thrown = None; height = 1 } → c.code ≡ TypedAs e t (versions_of op) (typeds codes) → FineAs t at (Ok c)
+node_fine t at c codes e op goes none is code =
     let k : Concluded = record { ty = t; thrown = None; height = 1 } in
-    fine_found t at (Ok c) (value_found (Ok t) (Ok k) at (Ok c) (holds_at (Ok t) None 0 [] None refl refl refl) (finish_holds [] k at c e is (code ∙ ap (λ (qs : List Typed). TypedAs e t (typeds qs)) none)))
+    fine_found t at (Ok c) (value_found (Ok t) (Ok k) at (Ok c) (holds_at (Ok t) None 0 [] None refl refl refl) (λ G. finish_holds G [] k at c e op (goes G.version) is (code ∙ ap (λ (qs : List Typed). TypedAs e t (versions_of op) (typeds qs)) none)))
 
 -- ---- from shapes to expressions
 

@@ -36,7 +36,7 @@ or_none false = refl
 
 -- a name is taken after another
 pub taken_bind : (c : CodeContext) (B : Names) (x y : List ℕ) → taken_in c (bind x NoType B) y ≡ (taken_in c B y || same x y)
-taken_bind c B x y = ap (λ (b : Bool). (is_reserved y || top_level_in c y) || b) (named_last B x y NoType) ∙ or_assoc (is_reserved y || top_level_in c y) (is_named y B) (same x y)
+taken_bind c B x y = ap (λ (b : Bool). (is_reserved c.version y || top_level_in c y) || b) (named_last B x y NoType) ∙ or_assoc (is_reserved c.version y || top_level_in c y) (is_named y B) (same x y)
 
 pub pair_taken : (c : CodeContext) (B : Names) (x y : List ℕ) (b d : Bool) → b ≡ taken_in c B x → d ≡ taken_in c (bind x NoType B) y → (b || d) ≡ shadowed_in c B (x ∷ y ∷ [])
 pair_taken c B x y b d h k = (λ i. h i || (k ∙ sym (or_none (taken_in c (bind x NoType B) y))) i)

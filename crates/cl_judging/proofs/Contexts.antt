@@ -36,10 +36,10 @@ has_function c G x h = some_same (signature_in x G.functions) (named_in x c.func
 
 pub no_value_is : (c : CodeContext) (G : Context) (x : List ℕ) → Shows c G → is_no_value G x ≡ no_value_in c x
 no_value_is c G x h = λ i.
-    is_some (native x) || has_function c G x h i || is_named x (h.variables i) || is_named x (h.maps i)
+    is_some (native (h.version i) x) || has_function c G x h i || is_named x (h.variables i) || is_named x (h.maps i)
     || list_any (same x) (h.fungibles i) || is_named x (h.nonfungibles i) || is_one_of define_words x
 
 pub taken_is : (c : CodeContext) (G : Context) (B : Names) (x : List ℕ) → Shows c G → is_taken G B x ≡ taken_in c B x
 taken_is c G B x h = λ i.
-    is_reserved x || (is_named x (h.constants i) || is_named x (h.variables i) || is_named x (h.maps i) || list_any (same x) (h.fungibles i)
+    is_reserved (h.version i) x || (is_named x (h.constants i) || is_named x (h.variables i) || is_named x (h.maps i) || list_any (same x) (h.fungibles i)
     || is_named x (h.nonfungibles i) || has_function c G x h i) || is_named x B

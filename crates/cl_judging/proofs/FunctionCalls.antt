@@ -10,7 +10,8 @@ use Rattle.cl_sexpr.specs.declared.rule.Rule.{Rule}
 use Rattle.cl_sexpr.specs.declared.rule.Rule.TheVariants.{ArgumentCount, UnknownName}
 use Rattle.cl_sexpr.specs.declared.rule.Break.{Break}
 use Rattle.cl_sexpr.specs.Tree.{Tree, ListAt, forest, forest_depth}
-use Rattle.cl_forms.specs.Heads.{Row}
+use Rattle.cl_forms.specs.Heads.{Row, native}
+use Rattle.cl_forms.specs.declared.version.Version.{Version}
 use Rattle.cl_rules.specs.Faults.{shape_rules, when}
 use Rattle.cl_rules.specs.NativeTypes.{of_kind}
 use Rattle.cl_rules.specs.Bills.{Both}
@@ -21,7 +22,7 @@ use Rattle.cl_rules.specs.CallShapes.{all_admit, call_shape}
 use Rattle.cl_rules.specs.Table.{operator_shape}
 use Rattle.cl_code.specs.declared.definition.Function.{Function}
 use Rattle.cl_code.specs.declared.op.Word.{Word}
-use Rattle.cl_code.specs.Nodes.{has_own_name}
+use Rattle.cl_code.specs.Nodes.{has_own_name, goes_op}
 use Rattle.cl_code.specs.declared.op.Op.TheVariants.{Call}
 use Rattle.cl_code.specs.Expression.{word, headed}
 use Rattle.cl_judging.specs.declared.context.Signature.{Signature as CodeSignature}
@@ -30,11 +31,10 @@ use Rattle.cl_typing.specs.declared.concluding.Checked.{Checked}
 use Rattle.cl_typing.specs.declared.concluding.Concluded.{Concluded}
 use Rattle.cl_judging.specs.Seen.{Shown, seen, shown, Shows}
 use Rattle.cl_typing.specs.Verdicts.{facts, facts_of, first_rule, types_at, Rules, Concludes, ConcludesAs}
-use Rattle.cl_judging.specs.Walking.{Checks, ChecksAll, Finishes}
+use Rattle.cl_judging.specs.Walking.{Checks, ChecksAll, FinishesIn}
 use Rattle.cl_judging.specs.Calls.{ConcludesCall, JudgesCall, JudgesCallee, ChecksCall}
 use Rattle.cl_judging.proofs.Contexts.{function_is}
 use Rattle.cl_typing.proofs.VerdictLaws.{types_seen}
-use Rattle.cl_forms.specs.HeadNames.{head_of}
 use Rattle.cl_judging.proofs.NativeNames.{no_native}
 use Rattle.cl_judging.proofs.Atoms.{checks_by}
 use Rattle.cl_judging.proofs.Lists.{shape_fails, parts_fail, parts_finish, list_is}
@@ -83,23 +83,23 @@ module _ (f : CodeSignature) (B : Names) (args : List Tree) where
       pub call_fails : (g : Fault Break) → ChecksAll c (parts B args) (forest_depth (forest args) + 1) (Err g) → ChecksCall c x B args at (Err g)
       call_fails g h = parts_fail c (λ G. call_shape (signature_in x G.functions) B args) at (forest_depth (forest args) + 1) (parts B args) sound (λ G shows. call_plan (signature_in x G.functions) (is_at G shows)) g h
 
-      pub call_found : (v : Vec Checked) (concluded : Result Concluded (Fault Rule)) (result : Result Checked (Fault Break)) → ChecksAll c (parts B args) (forest_depth (forest args) + 1) (Ok v) → JudgesCall f v.items concluded → Finishes v.items concluded at result → ChecksCall c x B args at result
+      pub call_found : (v : Vec Checked) (concluded : Result Concluded (Fault Rule)) (result : Result Checked (Fault Break)) → ChecksAll c (parts B args) (forest_depth (forest args) + 1) (Ok v) → JudgesCall f v.items concluded → FinishesIn c v.items concluded at result → ChecksCall c x B args at result
       call_found v concluded result h judges fin = parts_finish c (λ G. call_shape (signature_in x G.functions) B args) at (forest_depth (forest args) + 1) (parts B args) sound (λ G shows. call_plan (signature_in x G.functions) (is_at G shows)) v concluded result h fin
           (λ G fs shows same. call_verdict v.items concluded judges (signature_in x G.functions) (is_at G shows) fs same)
 
 -- a list that begins with the name of no native
-pub call_list : (c : CodeContext) (B : Names) (items : List Tree) (w : Word) (args : List Tree) (at : Span) (result : Result Checked (Fault Break)) → items ≡ word w ∷ args → None ≡ head_of w.name → ChecksCall c w.name B args at result → Checks c B (ListAt (forest items) at) result
+pub call_list : (c : CodeContext) (B : Names) (items : List Tree) (w : Word) (args : List Tree) (at : Span) (result : Result Checked (Fault Break)) → items ≡ word w ∷ args → None ≡ native c.version w.name → ChecksCall c w.name B args at result → Checks c B (ListAt (forest items) at) result
 call_list c B items w args at result list none h =
     subst (λ (ts : List Tree). Checks c B (ListAt (forest ts) at) result) (sym list)
     (checks_by c B (ListAt (forest (word w ∷ args)) at) (λ G. call_shape (signature_in w.name G.functions) B args) (forest_depth (forest args) + 1) result (omega arith)
-    (λ G shows. list_is G B w args at ∙ ap (λ (o : Option Row). operator_shape o (signature_in w.name G.functions) G B args) (no_native w.name none)) h)
+    (λ G shows. list_is G B w args at ∙ ap (λ (o : Option Row). operator_shape o (signature_in w.name G.functions) G B args) (no_native c w.name none G shows)) h)
 
 pub no_function : (o : Option Signature) → option_map seen o ≡ None → o ≡ None
 no_function None h = refl
 no_function (Some g) h = absurd cc
 
 -- a list that begins with a name of nothing that can be applied
-pub unknown_list : (c : CodeContext) (B : Names) (items : List Tree) (w : Word) (args : List Tree) (at : Span) (g : Fault Break) → items ≡ word w ∷ args → None ≡ head_of w.name → None ≡ named_in w.name c.functions.entries → g ≡ Refused (record { rule = UnknownName; span = at }) → Checks c B (ListAt (forest items) at) (Err g)
+pub unknown_list : (c : CodeContext) (B : Names) (items : List Tree) (w : Word) (args : List Tree) (at : Span) (g : Fault Break) → items ≡ word w ∷ args → None ≡ native c.version w.name → None ≡ named_in w.name c.functions.entries → g ≡ Refused (record { rule = UnknownName; span = at }) → Checks c B (ListAt (forest items) at) (Err g)
 unknown_list c B items w args at g list none absent fails =
     call_list c B items w args at (Err g) list none (shape_fails c (λ G. call_shape (signature_in w.name G.functions) B args) at (forest_depth (forest args) + 1) UnknownName g
     (λ G shows. ap (λ (o : Option Signature). first_rule (shape_rules (call_shape o B args).faults)) (no_function (signature_in w.name G.functions) (function_is w.name G.functions c.functions.entries shows.functions ∙ ap (option_map shown) (sym absent)))) fails)
@@ -107,7 +107,11 @@ unknown_list c B items w args at g list none absent fails =
 pub word_text : (items : List Tree) (w : Word) (args : List Tree) (at : Span) → items ≡ word w ∷ args → headed w.name w.span args at ≡ ListAt (forest items) at
 word_text items w args at list = ap (λ (ts : List Tree). ListAt (forest ts) at) (sym list)
 
--- a function is no native
-pub call_named : (f : Word) → None ≡ head_of f.name → has_own_name (Call f) ≡ true
+pub call_named : (f : Word) → has_own_name (Call f) ≡ true
 unfolding has_own_name
-call_named f h = ap (λ (o : Option Row). not (is_some o)) (no_native f.name h)
+call_named f = refl
+
+-- a function is no native
+pub call_goes : (version : Version) (f : Word) → native version f.name ≡ None → goes_op version (Call f) ≡ true
+unfolding goes_op
+call_goes version f none = ap (λ (o : Option Row). not (is_some o)) none

@@ -31,7 +31,7 @@ use Rattle.cl_typing.specs.declared.concluding.Checked.{Checked}
 use Rattle.cl_typing.specs.declared.concluding.Concluded.{Concluded}
 use Rattle.cl_judging.specs.Seen.{Shows, shadowed_in}
 use Rattle.cl_typing.specs.Verdicts.{texts_of, first_rule}
-use Rattle.cl_judging.specs.Walking.{Finds, judged_as, ChecksHead, Finishes}
+use Rattle.cl_judging.specs.Walking.{Finds, judged_as, ChecksHead, FinishesIn}
 use Rattle.cl_judging.specs.LetWalk.{exprs_of, plan_of, ChecksBindings, ChecksMore, JudgesLet, ChecksLetWith, ChecksLet}
 use Rattle.cl_judging.proofs.Lets.{shadowed_is}
 use Rattle.cl_judging.proofs.Lists.{shape_fails, parts_fail, parts_finish, twice, texts_length}
@@ -62,7 +62,7 @@ module _ (c : CodeContext) (B : Names) (items body : List Tree) (at : Span) (som
     pub let_body_fails : (S : Names) (v : Vec Checked) (new : List Checked) (f : Fault Break) → ChecksBindings c B S items (Ok v) → ChecksMore c S v.items new body (Err f) → ChecksLetWith c B items body at (Err f)
     let_body_fails S v new f h k r = parts_fail c (λ G. let_with r G B items body) at deep (plan_of body B items) (sound r) (λ G shows. refl) f (k (plan_of body B items) deep (omega arith) (h body deep (omega arith)))
 
-    pub let_found : (S : Names) (v w : Vec Checked) (u : Unit {0}) (concluded : Result Concluded (Fault Rule)) (result : Result Checked (Fault Break)) → ChecksBindings c B S items (Ok v) → ChecksMore c S v.items w.items body (Ok u) → JudgesLet (length items) w.items concluded → Finishes w.items concluded at result → ChecksLetWith c B items body at result
+    pub let_found : (S : Names) (v w : Vec Checked) (u : Unit {0}) (concluded : Result Concluded (Fault Rule)) (result : Result Checked (Fault Break)) → ChecksBindings c B S items (Ok v) → ChecksMore c S v.items w.items body (Ok u) → JudgesLet (length items) w.items concluded → FinishesIn c w.items concluded at result → ChecksLetWith c B items body at result
     let_found S v w u concluded result h k judges fin r =
         parts_finish c (λ G. let_with r G B items body) at deep (plan_of body B items) (sound r) (λ G shows. refl) w concluded result
         (walked_end c (plan_of body B items) deep w (k (plan_of body B items) deep (omega arith) (h body deep (omega arith)))) fin (λ G fs shows same. judges (Charge r.cost (suc (length body))) fs same)

@@ -95,7 +95,7 @@ keys_bind (d ∷ S) (e ∷ T) x t u h =
 
 shadowed_same : (c : CodeContext) (xs : List (List ℕ)) (S T : Names) → map (λ (p : List ℕ × PlainType). p.0) S ≡ map (λ (p : List ℕ × PlainType). p.0) T → shadowed_in c S xs ≡ shadowed_in c T xs
 shadowed_same c [] S T h = refl
-shadowed_same c (x ∷ xs) S T h = λ i. (is_reserved x || top_level_in c x || named_same x S T h i) || shadowed_same c xs (bind x NoType S) (bind x NoType T) (keys_bind S T x NoType NoType h) i
+shadowed_same c (x ∷ xs) S T h = λ i. (is_reserved c.version x || top_level_in c x || named_same x S T h i) || shadowed_same c xs (bind x NoType S) (bind x NoType T) (keys_bind S T x NoType NoType h) i
 
 pub free_next : (c : CodeContext) (S T : Names) (t : PlainType) (items : List Tree) (i : ℕ) (item : Tree) (b : Binding) (e : Tree) → i < length items → get_or items i item ≡ item → item ≡ binding b e → T ≡ bind b.word.name t S → shadowed_in c S (filter_map bound_name (drop i items)) ≡ false → shadowed_in c T (filter_map bound_name (drop (i + 1) items)) ≡ false
 free_next c S T t items i item b e lt at is grown h =

@@ -52,7 +52,7 @@ shadowed_is c G B (x ∷ xs) shows = λ i. taken_is c G B x shows i || shadowed_
 
 -- a name that no binding has
 pub not_taken : (c : CodeContext) (B : Names) (x : List ℕ) → taken_in c B x ≡ false → named_in x B ≡ None
-not_taken c B x h = absent (named_in x B) (last_false (is_reserved x || top_level_in c x) (is_named x B) h)
+not_taken c B x h = absent (named_in x B) (last_false (is_reserved c.version x || top_level_in c x) (is_named x B) h)
   where
     last_false : (a b : Bool) → (a || b) ≡ false → b ≡ false
     last_false false b e = e

@@ -1,5 +1,5 @@
 -- From the parts of a shape to the shape, and from a shape to its expression.
-use Rattle.std.proofs.Common.{◌≡◌, ℕ, suc, ◌+◌, ◌*◌, ◌<◌, ◌≤◌, Bool, true, false, List, [], ◌∷◌, map, length, Option, Some, None, Result, Ok, Err, refl, ap, sym, subst, ◌∙◌, arith}
+use Rattle.std.proofs.Common.{◌≡◌, ℕ, suc, ◌+◌, ◌*◌, ◌<◌, ◌≤◌, Bool, true, false, List, [], ◌∷◌, map, length, Option, Some, Result, Ok, Err, refl, ap, sym, subst, ◌∙◌, arith}
 use Rattle.std.specs.Prelude.{not, IfOk}
 use Rattle.std.specs.Global.{Vec}
 use Rattle.cl_types.specs.declared.fault.Fault.{Fault}
@@ -10,6 +10,7 @@ use Rattle.cl_sexpr.specs.declared.rule.Rule.TheVariants.{ArgumentCount, EmptyFo
 use Rattle.cl_sexpr.specs.declared.rule.Break.{Break}
 use Rattle.cl_sexpr.specs.Tree.{Tree, LeafAt, ListAt, TupleAt, Named, Signed, Unsigned, Bytes, Ascii, Unicode, Standing, Local, forest, forest_depth, tree_size, forest_size}
 use Rattle.cl_forms.specs.Heads.{Row, native, row_of, takes}
+use Rattle.cl_forms.specs.declared.version.Version.{Version}
 use Rattle.cl_forms.specs.declared.head.Head.{Head}
 use Rattle.cl_forms.proofs.Bindings.{trees_forest}
 use Rattle.cl_rules.specs.Faults.{shape_rules, type_rules, when, sound_shape}
@@ -26,16 +27,16 @@ use Rattle.cl_typing.specs.declared.concluding.Concluded.{Concluded}
 use Rattle.cl_judging.specs.declared.node.Evaluated.{Evaluated}
 use Rattle.cl_judging.specs.Seen.{Shows}
 use Rattle.cl_typing.specs.Verdicts.{facts, facts_of, texts_of, first_rule, Concludes}
-use Rattle.cl_judging.specs.Walking.{codes_of, head_at, native_as, Finds, judged_as, Checks, ChecksAs, ChecksAll, Finishes, Walked, ChecksHead, ChecksNative, Judges, verdict_of, is_headed}
+use Rattle.cl_judging.specs.Walking.{codes_of, head_at, native_as, Finds, judged_as, Checks, ChecksAs, ChecksAll, FinishesIn, Walked, ChecksHead, ChecksNative, Judges, verdict_of, is_headed}
 use Rattle.cl_code.specs.declared.op.PartsNative.TheVariants.{If, Begin, And, Or, Asserts, Unwrap, UnwrapErr, Try, AsContract, Print, StxBalance, SendStx, BurnStx}
 use Rattle.cl_judging.specs.declared.node.Evaluated.TheVariants.{Values, Parts}
-use Rattle.cl_forms.specs.HeadNames.{name_of, head_of, head_of_row}
-use Rattle.cl_forms.proofs.Found.{found_by_name, named_alone}
+use Rattle.cl_forms.specs.HeadNames.{name_of, head_of}
+use Rattle.cl_forms.proofs.Found.{named_alone}
 use Rattle.cl_code.specs.Typed.{expression_of, typeds}
 use Rattle.cl_code.specs.Nodes.{has_parts}
 use Rattle.cl_code.specs.declared.op.Op.{Op}
 use Rattle.cl_contracts.specs.Standing.{StandAll}
-use Rattle.cl_judging.proofs.NativeNames.{native_is}
+use Rattle.cl_judging.proofs.NativeNames.{native_is, own_head}
 use Rattle.cl_judging.proofs.Plans.{walked_all}
 use Rattle.cl_judging.proofs.Finishing.{first_fails}
 use Rattle.cl_judging.proofs.Atoms.{checks_by}
@@ -63,16 +64,16 @@ module _ (c : CodeContext) (s : Context → Shape) (at : Span) (deep : ℕ) (p :
   parts_fail NoMemory h G d shows enough = tt
 
   -- the verdict decides
-  pub parts_finish : (v : Vec Checked) (concluded : Result Concluded (Fault Rule)) (result : Result Checked (Fault Break)) → ChecksAll c p deep (Ok v) → Finishes v.items concluded at result → ((G : Context) (fs : List Found) → Shows c G → map facts fs ≡ map facts_of v.items → Concludes ((s G).verdict fs) concluded) → ChecksAs c s at deep result
+  pub parts_finish : (v : Vec Checked) (concluded : Result Concluded (Fault Rule)) (result : Result Checked (Fault Break)) → ChecksAll c p deep (Ok v) → FinishesIn c v.items concluded at result → ((G : Context) (fs : List Found) → Shows c G → map facts fs ≡ map facts_of v.items → Concludes ((s G).verdict fs) concluded) → ChecksAs c s at deep result
   parts_finish v concluded result h fin judges G d shows enough =
       let found = h G d shows enough in
-      fin G (judged d G) (s G) found.0 (sound G shows) (ap (walked (judged d G)) (plan G shows) ∙ found.1) found.2 (subst (λ (q : Plan). StandAll G q (typeds (codes_of v.items)) found.0) (sym (plan G shows)) found.3) (judges G found.0 shows found.2)
+      fin G shows (judged d G) (s G) found.0 (sound G shows) (ap (walked (judged d G)) (plan G shows) ∙ found.1) found.2 (subst (λ (q : Plan). StandAll G q (typeds (codes_of v.items)) found.0) (sym (plan G shows)) found.3) (judges G found.0 shows found.2)
 
   -- the same of parts that were walked one by one
-  pub walk_finish : (cs : List Checked) (concluded : Result Concluded (Fault Rule)) (result : Result Checked (Fault Break)) → Walked c p Ends deep cs → Finishes cs concluded at result → ((G : Context) (fs : List Found) → Shows c G → map facts fs ≡ map facts_of cs → Concludes ((s G).verdict fs) concluded) → ChecksAs c s at deep result
+  pub walk_finish : (cs : List Checked) (concluded : Result Concluded (Fault Rule)) (result : Result Checked (Fault Break)) → Walked c p Ends deep cs → FinishesIn c cs concluded at result → ((G : Context) (fs : List Found) → Shows c G → map facts fs ≡ map facts_of cs → Concludes ((s G).verdict fs) concluded) → ChecksAs c s at deep result
   walk_finish cs concluded result walk fin judges G d shows enough =
       let found = walked_all c p deep cs walk G d shows enough in
-      fin G (judged d G) (s G) found.0 (sound G shows) (ap (walked (judged d G)) (plan G shows) ∙ found.1) found.2 (subst (λ (q : Plan). StandAll G q (typeds (codes_of cs)) found.0) (sym (plan G shows)) found.3) (judges G found.0 shows found.2)
+      fin G shows (judged d G) (s G) found.0 (sound G shows) (ap (walked (judged d G)) (plan G shows) ∙ found.1) found.2 (subst (λ (q : Plan). StandAll G q (typeds (codes_of cs)) found.0) (sym (plan G shows)) found.3) (judges G found.0 shows found.2)
 
 -- ---- natives all of whose arguments are evaluated
 
@@ -84,7 +85,7 @@ module _ (c : CodeContext) (native : Evaluated) (B : Names) (args : List Tree) (
     pub native_fails : (f : Fault Break) → ChecksAll c (parts B args) (forest_depth (forest args) + 1) (Err f) → ChecksNative c native B args at (Err f)
     native_fails f h = parts_fail c (λ G. native_as native B args) at (forest_depth (forest args) + 1) (parts B args) (λ G shows. sound) (λ G shows. refl) f h
 
-    pub native_found : (v : Vec Checked) (concluded : Result Concluded (Fault Rule)) (result : Result Checked (Fault Break)) → ChecksAll c (parts B args) (forest_depth (forest args) + 1) (Ok v) → Judges native v.items concluded → Finishes v.items concluded at result → ChecksNative c native B args at result
+    pub native_found : (v : Vec Checked) (concluded : Result Concluded (Fault Rule)) (result : Result Checked (Fault Break)) → ChecksAll c (parts B args) (forest_depth (forest args) + 1) (Ok v) → Judges native v.items concluded → FinishesIn c v.items concluded at result → ChecksNative c native B args at result
     native_found v concluded result h judges fin = parts_finish c (λ G. native_as native B args) at (forest_depth (forest args) + 1) (parts B args) (λ G shows. sound) (λ G shows. refl) v concluded result h fin (λ G fs shows same. judges (row_of (head_at native)) (length args) fs same)
 
     -- a node has as many parts as its native takes
@@ -93,27 +94,16 @@ module _ (c : CodeContext) (native : Evaluated) (B : Names) (args : List Tree) (
 
 -- ---- lists
 
-pub list_is : (G : Context) (B : Names) (w : Word) (args : List Tree) (at : Span) → shape G B (ListAt (forest (word w ∷ args)) at) ≡ operator_shape (native w.name) (signature_in w.name G.functions) G B args
+pub list_is : (G : Context) (B : Names) (w : Word) (args : List Tree) (at : Span) → shape G B (ListAt (forest (word w ∷ args)) at) ≡ operator_shape (native G.version w.name) (signature_in w.name G.functions) G B args
 unfolding shape
-list_is G B w args at = ap (operator_shape (native w.name) (signature_in w.name G.functions) G B) (trees_forest args)
-
--- a row is that of its head
-pub own_head : (h : Head) → (row_of h).head ≡ h
-own_head h = own (native (row_of h).name) h (found_by_name h) (native_is (row_of h).name h (sym (found_by_name h)))
-  where
-    own : (o : Option Row) (h : Head) → head_of_row o ≡ Some h → o ≡ Some (row_of h) → (row_of h).head ≡ h
-    own None h found is = absurd cc
-    own (Some r) h found is =
-        let same : r.head ≡ h = cc in
-        let row : r ≡ row_of h = cc in
-        ap (λ (q : Row). q.head) (sym row) ∙ same
+list_is G B w args at = ap (operator_shape (native G.version w.name) (signature_in w.name G.functions) G B) (trees_forest args)
 
 -- a list that begins with a native
-pub native_list : (c : CodeContext) (B : Names) (items : List Tree) (w : Word) (args : List Tree) (at : Span) (h : Head) (result : Result Checked (Fault Break)) → items ≡ word w ∷ args → Some h ≡ head_of w.name → ChecksHead c h B args at result → Checks c B (ListAt (forest items) at) result
+pub native_list : (c : CodeContext) (B : Names) (items : List Tree) (w : Word) (args : List Tree) (at : Span) (h : Head) (result : Result Checked (Fault Break)) → items ≡ word w ∷ args → Some h ≡ head_of c.version w.name → ChecksHead c h B args at result → Checks c B (ListAt (forest items) at) result
 native_list c B items w args at h result list found k =
     subst (λ (ts : List Tree). Checks c B (ListAt (forest ts) at) result) (sym list)
     (checks_by c B (ListAt (forest (word w ∷ args)) at) (λ G. head_shape h (row_of h) G B args) (forest_depth (forest args) + 1) result (omega arith)
-    (λ G shows. list_is G B w args at ∙ ap (λ (o : Option Row). operator_shape o (signature_in w.name G.functions) G B args) (native_is w.name h found) ∙ ap (λ (x : Head). head_shape x (row_of h) G B args) (own_head h)) k)
+    (λ G shows. list_is G B w args at ∙ ap (λ (o : Option Row). operator_shape o (signature_in w.name G.functions) G B args) (native_is c w.name h found G shows) ∙ ap (λ (x : Head). head_shape x (row_of h) G B args) (own_head c.version w.name h found)) k)
 
 odd_is : (G : Context) (B : Names) (items : List Tree) (at : Span) → is_headed items ≡ false → shape G B (ListAt (forest items) at) ≡ unlooked (record sound_shape { empty_form = true })
 unfolding shape
@@ -157,9 +147,9 @@ native_head c native head B args at result is h =
     (λ G d shows enough. subst (λ (s : Shape). Finds G s (judged_as (judged d G) s at) result) (sym (head_is native (row_of (head_at native)) G B args)) (h G d shows enough))
 
 -- the text of a list that begins with a native
-pub list_text : (items : List Tree) (w : Word) (args : List Tree) (at : Span) (head : Head) → items ≡ word w ∷ args → Some head ≡ head_of w.name → headed (name_of head) w.span args at ≡ ListAt (forest items) at
-list_text items w args at head list found =
-    let name : w.name ≡ name_of head = named_alone w.name head (sym found) in
+pub list_text : (version : Version) (items : List Tree) (w : Word) (args : List Tree) (at : Span) (head : Head) → items ≡ word w ∷ args → Some head ≡ head_of version w.name → headed (name_of head) w.span args at ≡ ListAt (forest items) at
+list_text version items w args at head list found =
+    let name : w.name ≡ name_of head = named_alone version w.name head (sym found) in
     ap (λ (x : List ℕ). headed x w.span args at) (sym name) ∙ ap (λ (ts : List Tree). ListAt (forest ts) at) (sym list)
 
 pub text_by : (result : Result Checked (Fault Break)) (d e : Tree) → IfOk result (λ c. expression_of c.code ≡ d) → d ≡ e → IfOk result (λ c. expression_of c.code ≡ e)

@@ -18,7 +18,7 @@ use Rattle.cl_typing.specs.Verdicts.{ConcludesRow, texts_of}
 use Rattle.cl_judging.specs.declared.context.Context.{Context as CodeContext}
 use Rattle.cl_judging.specs.Seen.{taken_in, shadowed_in}
 use Rattle.cl_judging.specs.Branching.{optional_part, response_parts, ChecksOptional, ChecksResponse, AddsTwo, refusal}
-use Rattle.cl_judging.specs.Walking.{Checks, Finishes}
+use Rattle.cl_judging.specs.Walking.{Checks, FinishesIn}
 use Rattle.cl_judging.proofs.MatchNodes.{three_texts}
 use Rattle.cl_judging.proofs.MatchShapes.{optional_none_fails, optional_odd, optional_some_fails, optional_last_fails, optional_found, response_good_fails, response_bad_fails, response_found}
 
@@ -61,7 +61,7 @@ module _ (c : CodeContext) (B : Names) (i : Tree) (w : Word) (a b : Tree) (at : 
     optional_fails (Refused q) (inr r) = optional_last_fails c B i w a b at false (sym free) refl x text h t some r.0 r.1 r.2 (Refused q) r.3
     optional_fails NoMemory k = λ G d shows deep. tt
 
-    pub optional_ends : (u : Unit {0}) → old ≡ x ∷ [] → (k : AddsTwo c (bind w.name t B) a B b old new (Ok u)) → (verdict : Result Concluded (Fault Rule)) (result : Result Checked (Fault Break)) → ConcludesRow optional_row 0 new verdict → Finishes new verdict at result → ChecksOptional c B i w a b at result
+    pub optional_ends : (u : Unit {0}) → old ≡ x ∷ [] → (k : AddsTwo c (bind w.name t B) a B b old new (Ok u)) → (verdict : Result Concluded (Fault Rule)) (result : Result Checked (Fault Break)) → ConcludesRow optional_row 0 new verdict → FinishesIn c new verdict at result → ChecksOptional c B i w a b at result
     optional_ends u first k verdict result judges fin =
         optional_found c B i w a b at false (sym free) refl x text h t some k.0 k.3 k.4 k.1 new verdict result k.5 k.6 (all_three c (bind w.name t B) a B b i x old new u text first k) judges fin
 
@@ -73,6 +73,6 @@ module _ (c : CodeContext) (B : Names) (i : Tree) (w : Word) (a : Tree) (w' : Wo
   response_fails (Refused q) (inr r) = response_bad_fails c B i w a w' b at false (sym free) refl x text h t t' both r.0 r.1 r.2 (Refused q) r.3
   response_fails NoMemory k = λ G d shows deep. tt
 
-  pub response_ends : (u : Unit {0}) → old ≡ x ∷ [] → (k : AddsTwo c (bind w.name t B) a (bind w'.name t' B) b old new (Ok u)) → (verdict : Result Concluded (Fault Rule)) (result : Result Checked (Fault Break)) → ConcludesRow response_row 0 new verdict → Finishes new verdict at result → ChecksResponse c B i w a w' b at result
+  pub response_ends : (u : Unit {0}) → old ≡ x ∷ [] → (k : AddsTwo c (bind w.name t B) a (bind w'.name t' B) b old new (Ok u)) → (verdict : Result Concluded (Fault Rule)) (result : Result Checked (Fault Break)) → ConcludesRow response_row 0 new verdict → FinishesIn c new verdict at result → ChecksResponse c B i w a w' b at result
   response_ends u first k verdict result judges fin =
       response_found c B i w a w' b at false (sym free) refl x text h t t' both k.0 k.3 k.4 k.1 new verdict result k.5 k.6 (all_three c (bind w.name t B) a (bind w'.name t' B) b i x old new u text first k) judges fin

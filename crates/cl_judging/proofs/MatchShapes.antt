@@ -29,7 +29,7 @@ use Rattle.cl_typing.specs.Verdicts.{Facts, facts, facts_of, first_rule, Conclud
 use Rattle.cl_judging.specs.declared.context.Context.{Context as CodeContext}
 use Rattle.cl_judging.specs.Seen.{Shows, taken_in, shadowed_in}
 use Rattle.cl_judging.specs.Branching.{optional_part, response_parts, ChecksMatch, odd_rule}
-use Rattle.cl_judging.specs.Walking.{Checks, ChecksAs, ChecksHead, Finishes, Walked}
+use Rattle.cl_judging.specs.Walking.{Checks, ChecksAs, ChecksHead, FinishesIn, Walked}
 use Rattle.cl_judging.proofs.Finishing.{finish_fails}
 use Rattle.cl_judging.proofs.Lets.{shadowed_is}
 use Rattle.cl_judging.proofs.Lists.{shape_fails, parts_fail, walk_finish}
@@ -137,7 +137,7 @@ module _ (c : CodeContext) (B : Names) (i : Tree) (w : Word) (a b : Tree) (at : 
       pub optional_odd : (y : Checked) (f : Fault Break) → None ≡ optional_part (type_of x.code) → expression_of y.code ≡ b → Checks c B b (Ok y) → f ≡ Refused (record { rule = ArgumentKind; span = at }) → ChecksOptional (Err f)
       optional_odd y f none text k fails = walk_finish c shape_of at deep plan_of sound (λ G shows. refl) (x ∷ y ∷ []) (Err (Refused ArgumentKind)) (Err f)
           (walked_part c plan_of Ends B b deep (x ∷ []) y (omega arith) text k (after (Part B b Ends) (optional_not B w.name a b (type_of x.code) none)))
-          (finish_fails (x ∷ y ∷ []) (Refused ArgumentKind) at f fails)
+          (λ G shows. finish_fails G (x ∷ y ∷ []) (Refused ArgumentKind) at f fails)
           (λ G fs shows same. odd_optional x y (Charge (row_of Match).cost 4) fs same)
 
       module _ (t : PlainType) (some : Some t ≡ optional_part (type_of x.code)) where
@@ -154,10 +154,10 @@ module _ (c : CodeContext) (B : Names) (i : Tree) (w : Word) (a b : Tree) (at : 
           pub optional_last_fails : (f : Fault Break) → Checks c B b (Err f) → ChecksOptional (Err f)
           optional_last_fails f l = parts_fail c shape_of at deep plan_of sound (λ G shows. refl) f (part_fails c plan_of Ends B b deep (x ∷ y ∷ []) f (omega arith) l second)
 
-          pub optional_found : (z : Checked) (ps : List Checked) (concluded : Result Concluded (Fault Rule)) (result : Result Checked (Fault Break)) → expression_of z.code ≡ b → Checks c B b (Ok z) → ps ≡ x ∷ y ∷ z ∷ [] → ConcludesRow optional_row 0 ps concluded → Finishes ps concluded at result → ChecksOptional result
+          pub optional_found : (z : Checked) (ps : List Checked) (concluded : Result Concluded (Fault Rule)) (result : Result Checked (Fault Break)) → expression_of z.code ≡ b → Checks c B b (Ok z) → ps ≡ x ∷ y ∷ z ∷ [] → ConcludesRow optional_row 0 ps concluded → FinishesIn c ps concluded at result → ChecksOptional result
           optional_found z ps concluded result last l three judges fin = walk_finish c shape_of at deep plan_of sound (λ G shows. refl) (x ∷ y ∷ z ∷ []) concluded result
               (walked_part c plan_of Ends B b deep (x ∷ y ∷ []) z (omega arith) last l second)
-              (subst (λ (cs : List Checked). Finishes cs concluded at result) three fin)
+              (subst (λ (cs : List Checked). FinishesIn c cs concluded at result) three fin)
               (λ G fs shows same. optional_judged x y z concluded (Charge (row_of Match).cost 4) (subst (λ (cs : List Checked). ConcludesRow optional_row 0 cs concluded) three judges) fs same)
 
 -- ---- a match of a response
@@ -196,7 +196,7 @@ module _ (c : CodeContext) (B : Names) (i : Tree) (w : Word) (a : Tree) (w' : Wo
       pub response_odd : (f : Fault Break) → None ≡ response_parts (type_of x.code) → f ≡ Refused (record { rule = ArgumentKind; span = at }) → ChecksResponse (Err f)
       response_odd f none fails = walk_finish c both_shape at both_deep both_plan both_sound (λ G shows. refl) (x ∷ []) (Err (Refused ArgumentKind)) (Err f)
           (both_after Ends (response_not B w.name a w'.name b (type_of x.code) none))
-          (finish_fails (x ∷ []) (Refused ArgumentKind) at f fails)
+          (λ G shows. finish_fails G (x ∷ []) (Refused ArgumentKind) at f fails)
           (λ G fs shows same. odd_response x (Charge (row_of Match).cost 5) fs same)
 
       module _ (t u : PlainType) (parts : Some (t, u) ≡ response_parts (type_of x.code)) where
@@ -213,10 +213,10 @@ module _ (c : CodeContext) (B : Names) (i : Tree) (w : Word) (a : Tree) (w' : Wo
           pub response_bad_fails : (f : Fault Break) → Checks c (bind w'.name u B) b (Err f) → ChecksResponse (Err f)
           response_bad_fails f l = parts_fail c both_shape at both_deep both_plan both_sound (λ G shows. refl) f (part_fails c both_plan Ends (bind w'.name u B) b both_deep (x ∷ y ∷ []) f (omega arith) l both_second)
 
-          pub response_found : (z : Checked) (ps : List Checked) (concluded : Result Concluded (Fault Rule)) (result : Result Checked (Fault Break)) → expression_of z.code ≡ b → Checks c (bind w'.name u B) b (Ok z) → ps ≡ x ∷ y ∷ z ∷ [] → ConcludesRow response_row 0 ps concluded → Finishes ps concluded at result → ChecksResponse result
+          pub response_found : (z : Checked) (ps : List Checked) (concluded : Result Concluded (Fault Rule)) (result : Result Checked (Fault Break)) → expression_of z.code ≡ b → Checks c (bind w'.name u B) b (Ok z) → ps ≡ x ∷ y ∷ z ∷ [] → ConcludesRow response_row 0 ps concluded → FinishesIn c ps concluded at result → ChecksResponse result
           response_found z ps concluded result last l three judges fin = walk_finish c both_shape at both_deep both_plan both_sound (λ G shows. refl) (x ∷ y ∷ z ∷ []) concluded result
               (walked_part c both_plan Ends (bind w'.name u B) b both_deep (x ∷ y ∷ []) z (omega arith) last l both_second)
-              (subst (λ (cs : List Checked). Finishes cs concluded at result) three fin)
+              (subst (λ (cs : List Checked). FinishesIn c cs concluded at result) three fin)
               (λ G fs shows same. response_judged x y z concluded (Charge (row_of Match).cost 5) (subst (λ (cs : List Checked). ConcludesRow response_row 0 cs concluded) three judges) fs same)
 
 pub odd_one : (e d : Tree) → atom_of e ≡ None → list_all is_atom (e ∷ d ∷ []) ≡ false

@@ -25,7 +25,7 @@ use Rattle.cl_typing.specs.declared.concluding.Concluded.{Concluded}
 use Rattle.cl_typing.specs.Verdicts.{first_rule, Concludes, ConcludesRow}
 use Rattle.cl_judging.specs.declared.context.Context.{Context as CodeContext}
 use Rattle.cl_judging.specs.MaxLen.{is_unsigned}
-use Rattle.cl_judging.specs.Walking.{Checks, ChecksAs, ChecksAll, Walked, ChecksHead, Finishes}
+use Rattle.cl_judging.specs.Walking.{Checks, ChecksAs, ChecksAll, Walked, ChecksHead, FinishesIn}
 use Rattle.cl_judging.proofs.Lists.{shape_fails, parts_fail, walk_finish}
 use Rattle.cl_judging.proofs.Plans.{walked_none, walked_part, part_fails}
 
@@ -73,7 +73,7 @@ module _ (c : CodeContext) (B : Names) (args : List Tree) (at : Span) (enough : 
     pub max_fails : (f : Fault Break) → Checks c B e (Err f) → ChecksHead c AsMaxLen B args at (Err f)
     max_fails f h = whole (Err f) (parts_fail c max_shape at (forest_depth (forest args) + 1) (parts B (e ∷ [])) (λ G shows. sound) (λ G shows. plan) f (one_fails c B e (forest_depth (forest args) + 1) f less h))
 
-    pub max_found : (x : Checked) (ps : List Checked) (concluded : Result Concluded (Fault Rule)) (result : Result Checked (Fault Break)) → expression_of x.code ≡ e → ps ≡ x ∷ [] → Checks c B e (Ok x) → ConcludesRow (one (max_len_row m)) 0 ps concluded → Finishes ps concluded at result → ChecksHead c AsMaxLen B args at result
+    pub max_found : (x : Checked) (ps : List Checked) (concluded : Result Concluded (Fault Rule)) (result : Result Checked (Fault Break)) → expression_of x.code ≡ e → ps ≡ x ∷ [] → Checks c B e (Ok x) → ConcludesRow (one (max_len_row m)) 0 ps concluded → FinishesIn c ps concluded at result → ChecksHead c AsMaxLen B args at result
     max_found x ps concluded result text is h judges fin = whole result (walk_finish c max_shape at (forest_depth (forest args) + 1) (parts B (e ∷ [])) (λ G shows. sound) (λ G shows. plan) ps concluded result
         (subst (λ (cs : List Checked). Walked c (parts B (e ∷ [])) Ends (forest_depth (forest args) + 1) cs) (sym is) (walked_part c (parts B (e ∷ [])) Ends B e (forest_depth (forest args) + 1) [] x less text h (walked_none c (parts B (e ∷ [])) (forest_depth (forest args) + 1)))) fin
         (λ G fs shows same. subst (λ (l : First ℕ). Concludes (at_literal (row_of AsMaxLen) l fs) concluded) (sym (ap literal_at list)) (judges (Both (Charge (row_of AsMaxLen).cost (number_at (row_of AsMaxLen).cost (types_of fs))) (sum_of fs)) fs same)))

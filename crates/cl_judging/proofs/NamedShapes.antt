@@ -33,7 +33,7 @@ use Rattle.cl_typing.specs.declared.concluding.Concluded.{Concluded}
 use Rattle.cl_typing.specs.Verdicts.{first_rule, texts_of, ConcludesRow}
 use Rattle.cl_judging.specs.declared.context.Context.{Context as CodeContext}
 use Rattle.cl_judging.specs.Seen.{Shows}
-use Rattle.cl_judging.specs.Walking.{Finds, judged_as, ChecksAs, ChecksAll, ChecksHead, Finishes}
+use Rattle.cl_judging.specs.Walking.{Finds, judged_as, ChecksAs, ChecksAll, ChecksHead, FinishesIn}
 use Rattle.cl_judging.specs.Named.{Given, Key, Variable, MapOf, Fungible, NonFungible, Sort, Keys, Variables, Maps, Fungibles, NonFungibles, sort_of, map_given, given_of, given_in, missing, missing_rule, name_row, name_verdict, named_as, JudgesNamed}
 use Rattle.cl_judging.proofs.Lists.{shape_fails, parts_fail, parts_finish, parts_count}
 
@@ -235,7 +235,7 @@ module _ (c : CodeContext) (native : NameNative) (B : Names) (args : List Tree) 
       named_fails f h = by_first (There g) (Err f) (found_first (Some g) there)
           (parts_fail c shape_at at deep (parts B rest) sound plan f (λ G d shows large. h G d shows (omega (arith, deeper, large))))
 
-      pub named_found : (v : Vec Checked) (concluded : Result Concluded (Fault Rule)) (result : Result Checked (Fault Break)) → ChecksAll c (parts B rest) (forest_depth (forest rest) + 1) (Ok v) → JudgesNamed native g v.items concluded → Finishes v.items concluded at result → ChecksHead c (name_head native) B args at result
+      pub named_found : (v : Vec Checked) (concluded : Result Concluded (Fault Rule)) (result : Result Checked (Fault Break)) → ChecksAll c (parts B rest) (forest_depth (forest rest) + 1) (Ok v) → JudgesNamed native g v.items concluded → FinishesIn c v.items concluded at result → ChecksHead c (name_head native) B args at result
       named_found v concluded result h judges fin = by_first (There g) result (found_first (Some g) there)
           (parts_finish c shape_at at deep (parts B rest) sound plan v concluded result (λ G d shows large. h G d shows (omega (arith, deeper, large))) fin (λ G fs shows same. judges fs same))
 

@@ -45,7 +45,7 @@ facts_more (g ∷ fs) f (c ∷ cs) x h k =
 
 -- a tree that stands for an expression's shape stands for the expression
 stands_as : (G : Context) (B : Names) (e : Tree) (q : Typed) (f : Found) → expression_of q ≡ e → StandsBy G (shape G B e) q f → Stands G B q f
-stands_as G B e (TypedAs d t ps) f is s = subst (λ (x : Tree). StandsBy G (shape G B x) (TypedAs d t ps) f) (sym is) s
+stands_as G B e (TypedAs d t vs ps) f is s = subst (λ (x : Tree). StandsBy G (shape G B x) (TypedAs d t vs ps) f) (sym is) s
 
 pub stands_whole : (G : Context) (B : Names) (e : Tree) (x : Checked) (f : Found) → expression_of x.code ≡ e → StandsBy G (shape G B e) x.code f → Stands G B x.code f
 stands_whole G B e x f is s = stands_as G B e x.code f is s

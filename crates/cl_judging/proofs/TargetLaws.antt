@@ -38,7 +38,7 @@ use Rattle.cl_judging.specs.declared.context.Context.{Context as CodeContext}
 use Rattle.cl_judging.specs.Seen.{Shows}
 use Rattle.cl_judging.specs.Calls.{ConcludesCall, JudgesCallee}
 use Rattle.cl_judging.specs.Targets.{literal_of, another_under, if_open, open_function}
-use Rattle.cl_judging.specs.Walking.{ChecksAs, ChecksAll, ChecksHead, Finishes}
+use Rattle.cl_judging.specs.Walking.{ChecksAs, ChecksAll, ChecksHead, FinishesIn}
 use Rattle.cl_judging.proofs.NamedShapes.{no_name_first}
 use Rattle.cl_judging.proofs.Lists.{shape_fails, parts_fail, parts_finish}
 
@@ -220,7 +220,7 @@ module _ (c : CodeContext) (B : Names) (args : List Tree) (at : Span) (enough : 
             pub callee_fails : (g : Fault Break) → ChecksAll c (parts B rest) (forest_depth (forest rest) + 1) (Err g) → ChecksHead c ContractCall B args at (Err g)
             callee_fails g h = whole (Err g) (parts_fail c call_shape at deep (parts B rest) sound plan g (λ G n shows large. h G n shows (omega (arith, deeper, large))))
 
-            pub callee_found : (v : Vec Checked) (concluded : Result Concluded (Fault Rule)) (result : Result Checked (Fault Break)) → ChecksAll c (parts B rest) (forest_depth (forest rest) + 1) (Ok v) → JudgesCallee f v.items concluded → Finishes v.items concluded at result → ChecksHead c ContractCall B args at result
+            pub callee_found : (v : Vec Checked) (concluded : Result Concluded (Fault Rule)) (result : Result Checked (Fault Break)) → ChecksAll c (parts B rest) (forest_depth (forest rest) + 1) (Ok v) → JudgesCallee f v.items concluded → FinishesIn c v.items concluded at result → ChecksHead c ContractCall B args at result
             callee_found v concluded result h judges fin = whole result (parts_finish c call_shape at deep (parts B rest) sound plan v concluded result (λ G n shows large. h G n shows (omega (arith, deeper, large))) fin (λ G fs shows same.
                 let found = found_function G shows in
                 let bound = Both (Both (Charge row.cost (length_at (There (found_target G shows).0))) found.0.bound) (sum_of fs) in

@@ -25,7 +25,7 @@ use Rattle.cl_typing.specs.declared.concluding.Checked.{Checked}
 use Rattle.cl_typing.specs.declared.concluding.Concluded.{Concluded}
 use Rattle.cl_typing.specs.Verdicts.{facts, facts_of, first_rule, Concludes, ConcludesRow}
 use Rattle.cl_judging.specs.declared.context.Context.{Context as CodeContext}
-use Rattle.cl_judging.specs.Walking.{Checks, ChecksAs, ChecksAll, ChecksHead, Finishes}
+use Rattle.cl_judging.specs.Walking.{Checks, ChecksAs, ChecksAll, ChecksHead, FinishesIn}
 use Rattle.std.proofs.Common.{take, get_or}
 use Rattle.std.specs.Borrow.{Bor}
 use Rattle.std.proofs.lemmas.List.{take_more, map-append}
@@ -89,7 +89,7 @@ module _ (c : CodeContext) (faults : ShapeFaults) (B : Names) (ps : List (List �
     pub tuple_fails : (f : Fault Break) → ChecksAll c (parts B (parts_in ps)) deep (Err f) → ChecksTuple (Err f)
     tuple_fails f h = parts_fail c (λ G. tuple_shape faults B ps) at deep (parts B (parts_in ps)) (λ G shows. rules) (λ G shows. refl) f h
 
-    pub tuple_found : (v : Vec Checked) (concluded : Result Concluded (Fault Rule)) (result : Result Checked (Fault Break)) → ChecksAll c (parts B (parts_in ps)) deep (Ok v) → ConcludesRow (tuple_row (keys_of ps)) 0 v.items concluded → Finishes v.items concluded at result → ChecksTuple result
+    pub tuple_found : (v : Vec Checked) (concluded : Result Concluded (Fault Rule)) (result : Result Checked (Fault Break)) → ChecksAll c (parts B (parts_in ps)) deep (Ok v) → ConcludesRow (tuple_row (keys_of ps)) 0 v.items concluded → FinishesIn c v.items concluded at result → ChecksTuple result
     tuple_found v concluded result h judges fin = parts_finish c (λ G. tuple_shape faults B ps) at deep (parts B (parts_in ps)) (λ G shows. rules) (λ G shows. refl) v concluded result h fin (λ G fs shows same. tuple_judged (keys_of ps) v.items concluded judges fs same)
 
 -- ---- a tuple in curly brackets
@@ -133,7 +133,7 @@ module _ (c : CodeContext) (B : Names) (args : List Tree) (at : Span) (enough : 
       pub pairs_fails : (f : Fault Break) → ChecksAll c (parts B (exprs_of args)) (forest_depth (forest (exprs_of args)) + 1) (Err f) → ChecksHead c TupleOfHead B args at (Err f)
       pairs_fails f h = deeper (Err f) (tuple_fails c odd_faults B (filter_map binding_of args) at sound once f h)
 
-      pub pairs_found : (v : Vec Checked) (concluded : Result Concluded (Fault Rule)) (result : Result Checked (Fault Break)) → ChecksAll c (parts B (exprs_of args)) (forest_depth (forest (exprs_of args)) + 1) (Ok v) → ConcludesRow (tuple_row (keys_of (filter_map binding_of args))) 0 v.items concluded → Finishes v.items concluded at result → ChecksHead c TupleOfHead B args at result
+      pub pairs_found : (v : Vec Checked) (concluded : Result Concluded (Fault Rule)) (result : Result Checked (Fault Break)) → ChecksAll c (parts B (exprs_of args)) (forest_depth (forest (exprs_of args)) + 1) (Ok v) → ConcludesRow (tuple_row (keys_of (filter_map binding_of args))) 0 v.items concluded → FinishesIn c v.items concluded at result → ChecksHead c TupleOfHead B args at result
       pairs_found v concluded result h judges fin = deeper result (tuple_found c odd_faults B (filter_map binding_of args) at sound once v concluded result h judges fin)
 
 -- ---- keys and expressions of bindings, one by one

@@ -10,6 +10,7 @@ use Rattle.cl_sexpr.specs.declared.rule.Rule.TheVariants.{ArgumentCount, NotAFun
 use Rattle.cl_sexpr.specs.declared.rule.Break.{Break}
 use Rattle.cl_sexpr.specs.Tree.{Tree, forest, forest_depth}
 use Rattle.cl_forms.specs.Heads.{row_of, takes}
+use Rattle.cl_forms.specs.declared.version.Version.{Version}
 use Rattle.cl_rules.specs.Faults.{shape_rules, sound_shape, when}
 use Rattle.cl_rules.specs.Context.{Context, Names}
 use Rattle.cl_rules.specs.Shapes.{Shape, parts, First, There, is_miscounted, is_no_such, at_first}
@@ -20,14 +21,14 @@ use Rattle.cl_code.specs.declared.op.Iteration.{Iteration}
 use Rattle.cl_code.specs.declared.op.Iteration.TheVariants.{Map, Filter, Fold}
 use Rattle.cl_code.specs.declared.op.Op.TheVariants.{Iterate}
 use Rattle.cl_code.specs.OpNames.{iteration_head}
-use Rattle.cl_code.specs.Nodes.{has_parts, has_own_name, has_own_applied}
+use Rattle.cl_code.specs.Nodes.{has_parts, has_own_name, has_own_applied, goes_op, goes_applied}
 use Rattle.cl_typing.specs.declared.concluding.Checked.{Checked}
 use Rattle.cl_typing.specs.declared.concluding.Concluded.{Concluded}
 use Rattle.cl_typing.specs.declared.uses.Usable.{Usable as CodeUsable}
 use Rattle.cl_typing.specs.Verdicts.{first_rule, texts_of, Concludes}
 use Rattle.cl_judging.specs.declared.context.Context.{Context as CodeContext}
 use Rattle.cl_judging.specs.Seen.{Shows}
-use Rattle.cl_judging.specs.Walking.{ChecksAll, ChecksHead, Finishes}
+use Rattle.cl_judging.specs.Walking.{ChecksAll, ChecksHead, FinishesIn}
 use Rattle.cl_judging.specs.Uses.{Iterates, Applies, AppliesNothing, iteration_verdict, takes_used}
 use Rattle.cl_judging.proofs.Lists.{shape_fails, parts_fail, parts_finish, parts_count}
 
@@ -90,7 +91,7 @@ module _ (c : CodeContext) (iteration : Iteration) (B : Names) (args : List Tree
         pub use_fails : (f : Fault Break) → ChecksAll c (parts B rest) (forest_depth (forest rest) + 1) (Err f) → ChecksHead c (iteration_head iteration) B args at (Err f)
         use_fails f h = parts_fail c shape_here at deep (parts B rest) sound plan f (λ G d shows large. h G d shows (omega (arith, deeper, large)))
 
-        pub use_found : (v : Vec Checked) (concluded : Result Concluded (Fault Rule)) (result : Result Checked (Fault Break)) → ChecksAll c (parts B rest) (forest_depth (forest rest) + 1) (Ok v) → Iterates (iteration_verdict iteration) usable v.items concluded → Finishes v.items concluded at result → ChecksHead c (iteration_head iteration) B args at result
+        pub use_found : (v : Vec Checked) (concluded : Result Concluded (Fault Rule)) (result : Result Checked (Fault Break)) → ChecksAll c (parts B rest) (forest_depth (forest rest) + 1) (Ok v) → Iterates (iteration_verdict iteration) usable v.items concluded → FinishesIn c v.items concluded at result → ChecksHead c (iteration_head iteration) B args at result
         use_found v concluded result h judges fin = parts_finish c shape_here at deep (parts B rest) sound plan v concluded result (λ G d shows large. h G d shows (omega (arith, deeper, large))) fin (λ G fs shows same.
             subst (λ (s : Shape). Concludes (s.verdict fs) concluded) (sym (at_use G shows)) (judges (applies G shows).0 (applies G shows).2 (row_of (iteration_head iteration)) fs same))
 
@@ -101,3 +102,7 @@ module _ (c : CodeContext) (iteration : Iteration) (B : Names) (args : List Tree
 pub use_own : (iteration : Iteration) (head : Span) (applied : Applied) → has_own_applied applied ≡ true → has_own_name (Iterate iteration head applied) ≡ true
 unfolding has_own_name
 use_own iteration head applied own = own
+
+pub use_goes : (version : Version) (iteration : Iteration) (head : Span) (applied : Applied) → goes_applied version applied ≡ true → goes_op version (Iterate iteration head applied) ≡ true
+unfolding goes_op
+use_goes version iteration head applied goes = goes

@@ -1,6 +1,5 @@
 pub mod Seen
 pub mod Walking
-pub mod Natives
 pub mod LetWalk
 pub mod Calls
 pub mod Controls

@@ -20,9 +20,10 @@ shown f = record { access = f.access; params = f.params.items; returns = f.retur
 abbrev pub shown_entry : List ℕ × CodeSignature → List ℕ × Shown
 shown_entry e = (e.0, shown e.1)
 
--- the same definitions and contracts, whatever the bounds of functions
+-- the same version, definitions and contracts, whatever the bounds of functions
 pub record Shows (c : CodeContext) (G : Context) : Type 0 where
   pub principal : G.principal ≡ c.principal
+  pub version : G.version ≡ c.version
   pub indexed : AreIndexed c.deployed.now
   pub deployed : Knows c.deployed.now G.deployed
   pub constants : G.constants ≡ c.constants.entries
@@ -35,7 +36,7 @@ pub record Shows (c : CodeContext) (G : Context) : Type 0 where
 -- a name that stands for no value
 abbrev pub no_value_in : CodeContext → List ℕ → Bool
 no_value_in c x =
-    is_some (native x) || is_named x c.functions.entries || is_named x c.variables.entries || is_named x c.maps.entries
+    is_some (native c.version x) || is_named x c.functions.entries || is_named x c.variables.entries || is_named x c.maps.entries
     || list_any (same x) c.fungibles.keys || is_named x c.nonfungibles.entries || is_one_of define_words x
 
 -- a name of a form before
@@ -46,7 +47,7 @@ top_level_in c x =
 
 -- a name that no binding may have
 abbrev pub taken_in : CodeContext → Names → List ℕ → Bool
-taken_in c B x = is_reserved x || top_level_in c x || is_named x B
+taken_in c B x = is_reserved c.version x || top_level_in c x || is_named x B
 
 -- whether a name is taken, also by those before it
 abbrev pub shadowed_in : CodeContext → Names → List (List ℕ) → Bool

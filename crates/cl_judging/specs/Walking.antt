@@ -11,6 +11,8 @@ use Rattle.cl_sexpr.specs.Tree.{Tree, LeafAt, Named, forest, tree_depth, forest_
 use Rattle.cl_forms.specs.declared.head.Head.{Head}
 use Rattle.cl_forms.specs.declared.head.Head.TheVariants.{OnValues}
 use Rattle.cl_forms.specs.Heads.{Row, row_of}
+use Rattle.cl_forms.specs.declared.version.Version.{Version}
+use Rattle.cl_forms.specs.HeadNames.{has_head}
 use Rattle.cl_rules.specs.Faults.{shape_rules, type_rules}
 use Rattle.cl_rules.specs.NativeTypes.{Ruled, fine, one, two, native_type}
 use Rattle.cl_rules.specs.Bills.{Charge}
@@ -23,8 +25,10 @@ use Rattle.cl_rules.specs.Table.{shape, head_shape}
 use Rattle.cl_rules.specs.Judging.{Judged, Holds, Fails, and_judged, unless_broken, walked, judged}
 use Rattle.cl_shapes.specs.declared.name.CostName.{CostName}
 use Rattle.cl_code.specs.declared.op.PartsNative.TheVariants.{If, Begin, And, Or, Asserts, Unwrap, UnwrapErr, Try, AsContract, Print, StxBalance, SendStx, BurnStx}
+use Rattle.cl_code.specs.declared.op.Op.{Op}
+use Rattle.cl_code.specs.Nodes.{goes_op}
 use Rattle.cl_code.specs.OpNames.{parts_head}
-use Rattle.cl_code.specs.Typed.{Typed, Typeds, TypedAs, MoreTyped, typeds}
+use Rattle.cl_code.specs.Typed.{Typed, Typeds, TypedAs, MoreTyped, typeds, has_version}
 use Rattle.cl_contracts.specs.Standing.{StandAll}
 use Rattle.cl_typing.specs.declared.concluding.Checked.{Checked}
 use Rattle.cl_typing.specs.declared.concluding.Concluded.{Concluded}
@@ -40,10 +44,10 @@ use Rattle.cl_judging.specs.Seen.{Shows}
 abbrev pub codes_of : List Checked → List Typed
 codes_of = map (λ (c : Checked). c.code)
 
--- a tree stands for an expression of this shape, of which this is found
+-- a tree stands for an expression of this shape, of which this is found, in a text of the context's version
 abbrev pub StandsBy : Context → Shape → Typed → Found → Type 0
-StandsBy G s (TypedAs e t ps) f =
-    (fs : List Found) × (shape_rules s.faults ≡ []) × StandAll G s.plan ps fs × (type_rules (s.verdict fs).faults ≡ []) × ((s.verdict fs).found ≡ f) × (t ≡ f.type)
+StandsBy G s (TypedAs e t vs ps) f =
+    (fs : List Found) × (shape_rules s.faults ≡ []) × StandAll G s.plan ps fs × (type_rules (s.verdict fs).faults ≡ []) × ((s.verdict fs).found ≡ f) × (t ≡ f.type) × (has_version vs G.version ≡ true)
 
 -- the same judgement of an expression of this shape, but for the bound, and a tree that stands for it
 abbrev pub Finds : Context → Shape → Judged Found → Result Checked (Fault Break) → Type 0
@@ -75,9 +79,17 @@ ChecksAs c s at deep result = (G : Context) (d : ℕ) → Shows c G → deep ≤
 abbrev pub ChecksAll : CodeContext → Plan → ℕ → Result (Vec Checked) (Fault Break) → Type 0
 ChecksAll c p deep result = (G : Context) (d : ℕ) → Shows c G → deep ≤ d → FindsAll G p (walked (judged d G) p) result
 
--- a node made of what is concluded, whatever its shape
-abbrev pub Finishes : List Checked → Result Concluded (Fault Rule) → Span → Result Checked (Fault Break) → Type 0
-Finishes parts concluded at result = (G : Context) (judge : Names → Tree → Judged Found) (s : Shape) (fs : List Found) → shape_rules s.faults ≡ [] → walked judge s.plan ≡ Holds fs → map facts fs ≡ map facts_of parts → StandAll G s.plan (typeds (codes_of parts)) fs → Concludes (s.verdict fs) concluded → Finds G s (judged_as judge s at) result
+-- a node made of what is concluded in a context, whatever its shape
+abbrev pub FinishesAt : Context → List Checked → Result Concluded (Fault Rule) → Span → Result Checked (Fault Break) → Type 0
+FinishesAt G parts concluded at result = (judge : Names → Tree → Judged Found) (s : Shape) (fs : List Found) → shape_rules s.faults ≡ [] → walked judge s.plan ≡ Holds fs → map facts fs ≡ map facts_of parts → StandAll G s.plan (typeds (codes_of parts)) fs → Concludes (s.verdict fs) concluded → Finds G s (judged_as judge s at) result
+
+-- the same of a node of this operation, in each context with a version in which it can stand
+abbrev pub Finishes : Op → List Checked → Result Concluded (Fault Rule) → Span → Result Checked (Fault Break) → Type 0
+Finishes op parts concluded at result = (G : Context) → goes_op G.version op ≡ true → FinishesAt G parts concluded at result
+
+-- the same in each context that is shown
+abbrev pub FinishesIn : CodeContext → List Checked → Result Concluded (Fault Rule) → Span → Result Checked (Fault Break) → Type 0
+FinishesIn c parts concluded at result = (G : Context) → Shows c G → FinishesAt G parts concluded at result
 
 abbrev pub fault_at : Fault Rule → Span → Fault Break
 fault_at (Refused rule) at = Refused (record { rule = rule; span = at })
@@ -104,6 +116,10 @@ Walked c whole rest deep founds = (G : Context) (d : ℕ) → Shows c G → deep
 abbrev pub head_at : Evaluated → Head
 head_at (Values native) = OnValues native
 head_at (Parts native) = parts_head native
+
+-- a node can stand in a text of each version that has the native
+abbrev pub GoesWith : Evaluated → Op → Type 0
+GoesWith native op = (version : Version) → has_head version (head_at native) ≡ true → goes_op version op ≡ true
 
 -- the verdict on a native with so many arguments
 abbrev pub verdict_of : Evaluated → Row → ℕ → List Found → Verdict

@@ -5,6 +5,7 @@ ghost use Rattle.cl_rules.specs.Context.{same, named_in};
 
 use cl_c32::Principal;
 use cl_contracts::Deployed;
+use cl_forms::Version;
 use cl_types::{Access, Name, SizedTy};
 use indexmap::{IndexMap, IndexSet};
 
@@ -29,9 +30,11 @@ impl Drop for Signature {
     }
 }
 
-/// The contract that is checked, the deployed ones, and what the forms before define, each under its name.
+/// The contract that is checked, the version of its text, the deployed ones, and what the forms before define, each under its
+/// name.
 pub struct Context<'a> {
     pub principal: Principal,
+    pub version: Version,
     pub deployed: &'a Deployed,
     pub constants: IndexMap<Name, SizedTy>,
     pub variables: IndexMap<Name, SizedTy>,
@@ -45,6 +48,7 @@ impl<'a> Drop for Context<'a> {
     fn drop(self) {
         let Context {
             principal: _,
+            version: _,
             deployed: _,
             constants,
             variables,

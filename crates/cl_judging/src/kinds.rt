@@ -3,10 +3,9 @@ ghost use Rattle.std.specs.Prelude.{◌≡◌, length};
 ghost use Rattle.cl_forms.specs.Heads.{row_of, takes};
 ghost use Rattle.cl_judging.specs.Kinds.{kind_head};
 
-use crate::natives::{arity_of, takes};
 use crate::node::Evaluated;
 use cl_code::{Iteration, NameNative, PartsNative};
-use cl_forms::{Head, TokenNative};
+use cl_forms::{Head, TokenNative, arity_of};
 use cl_sexpr::Sexpr;
 
 /// How the arguments of a native are looked at.
@@ -29,7 +28,7 @@ pub(crate) enum Kind {
 pub(crate) fn has_enough(head: Head, args: &[Sexpr]) -> bool
     ensures { result ≡ takes (row_of head).arity (length args.now) }
 {
-    takes(arity_of(head), args.len())
+    arity_of(head).takes(args.len())
 }
 
 fn token_kind(native: TokenNative) -> Kind

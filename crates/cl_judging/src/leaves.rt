@@ -2,7 +2,8 @@
 ghost use Rattle.std.specs.Prelude.{◌≡◌, [], true, false, IfOk};
 ghost use Rattle.cl_sexpr.specs.Tree.{LeafAt, Named};
 ghost use Rattle.cl_code.specs.Expression.{expression};
-ghost use Rattle.cl_code.specs.Nodes.{has_own_name, has_parts};
+ghost use Rattle.cl_code.specs.Nodes.{goes_op, has_own_name, has_parts};
+ghost use Rattle.cl_forms.specs.declared.version.Version.{Version};
 ghost use Rattle.cl_code.specs.Typed.{expression_of};
 ghost use Rattle.cl_forms.specs.Names.{is_one_of};
 ghost use Rattle.cl_forms.specs.Keywords.{keyword_name, keywords};
@@ -29,6 +30,7 @@ pub(crate) fn value(
 ) -> Result<Checked, Fault<Break>>
     requires fit { has_parts op 0 ≡ true }
     requires named { has_own_name op ≡ true }
+    requires goes { (version : Version) → goes_op version op ≡ true }
     ensures found { ValueAs ruled span result }
     ensures text { IfOk result (λ c. expression_of c.code ≡ expression op [] span) }
 {
@@ -41,6 +43,7 @@ pub(crate) fn value(
 pub(crate) fn typed(alloc: Global, op: Op, ty: SizedTy, span: Span) -> Result<Checked, Fault<Break>>
     requires fit { has_parts op 0 ≡ true }
     requires named { has_own_name op ≡ true }
+    requires goes { (version : Version) → goes_op version op ≡ true }
     ensures found { FineAs ty span result }
     ensures text { IfOk result (λ c. expression_of c.code ≡ expression op [] span) }
 {
@@ -54,7 +57,7 @@ pub(crate) fn typed(alloc: Global, op: Op, ty: SizedTy, span: Span) -> Result<Ch
 }
 
 /// A bound name.
-#[tactic(auto, unfolding(cl_code::specs::Nodes::has_own_name))]
+#[tactic(auto, unfolding(cl_code::specs::Nodes::has_own_name, cl_code::specs::Nodes::goes_op))]
 fn bound(alloc: Global, name: &Name, ty: SizedTy, span: Span) -> Result<Checked, Fault<Break>>
     requires { is_one_of keywords name.now ≡ false }
     ensures found { FineAs ty span result }
@@ -64,7 +67,7 @@ fn bound(alloc: Global, name: &Name, ty: SizedTy, span: Span) -> Result<Checked,
 }
 
 /// A constant.
-#[tactic(auto, unfolding(cl_code::specs::Nodes::has_own_name))]
+#[tactic(auto, unfolding(cl_code::specs::Nodes::has_own_name, cl_code::specs::Nodes::goes_op))]
 fn constant(alloc: Global, name: &Name, ty: SizedTy, span: Span) -> Result<Checked, Fault<Break>>
     requires { is_one_of keywords name.now ≡ false }
     ensures found { FineAs ty span result }
@@ -74,7 +77,7 @@ fn constant(alloc: Global, name: &Name, ty: SizedTy, span: Span) -> Result<Check
 }
 
 /// A keyword.
-#[tactic(auto, unfolding(cl_code::specs::Nodes::has_own_name))]
+#[tactic(auto, unfolding(cl_code::specs::Nodes::has_own_name, cl_code::specs::Nodes::goes_op))]
 fn keyword(alloc: Global, keyword: Keyword, span: Span) -> Result<Checked, Fault<Break>>
     ensures found { FineAs (keyword_type keyword) span result }
     ensures text { IfOk result (λ c. expression_of c.code ≡ LeafAt (Named (keyword_name keyword)) span) }

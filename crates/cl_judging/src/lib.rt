@@ -13,7 +13,6 @@ mod matches;
 mod max_len;
 mod named;
 mod names;
-mod natives;
 mod node;
 mod parts;
 mod scope;

@@ -15,7 +15,7 @@ use cl_typing::{Checked, ascii_of, buffer_of, of, utf8_of};
 use std::alloc::Global;
 
 /// An int.
-#[tactic(auto, unfolding(cl_code::specs::Nodes::has_own_name))]
+#[tactic(auto, unfolding(cl_code::specs::Nodes::has_own_name, cl_code::specs::Nodes::goes_op))]
 pub(crate) fn int(alloc: Global, z: i128, span: Span) -> Result<Checked, Fault<Break>>
     ensures found { FineAs IntType span result }
     ensures text { IfOk result (λ c. expression_of c.code ≡ LeafAt (Signed z) span) }
@@ -25,7 +25,7 @@ pub(crate) fn int(alloc: Global, z: i128, span: Span) -> Result<Checked, Fault<B
 }
 
 /// A uint.
-#[tactic(auto, unfolding(cl_code::specs::Nodes::has_own_name))]
+#[tactic(auto, unfolding(cl_code::specs::Nodes::has_own_name, cl_code::specs::Nodes::goes_op))]
 pub(crate) fn uint(alloc: Global, n: u128, span: Span) -> Result<Checked, Fault<Break>>
     ensures found { FineAs UintType span result }
     ensures text { IfOk result (λ c. expression_of c.code ≡ LeafAt (Unsigned n) span) }
@@ -35,7 +35,7 @@ pub(crate) fn uint(alloc: Global, n: u128, span: Span) -> Result<Checked, Fault<
 }
 
 /// A principal that is written out.
-#[tactic(auto, unfolding(cl_code::specs::Nodes::has_own_name))]
+#[tactic(auto, unfolding(cl_code::specs::Nodes::has_own_name, cl_code::specs::Nodes::goes_op))]
 pub(crate) fn standing(alloc: Global, p: &Principal, span: Span) -> Result<Checked, Fault<Break>>
     ensures found { FineAs PrincipalType span result }
     ensures text { IfOk result (λ c. expression_of c.code ≡ LeafAt (StandingLeaf p.now) span) }
@@ -45,7 +45,7 @@ pub(crate) fn standing(alloc: Global, p: &Principal, span: Span) -> Result<Check
 }
 
 /// A contract under the address of the contract that is checked.
-#[tactic(auto, unfolding(cl_code::specs::Nodes::has_own_name))]
+#[tactic(auto, unfolding(cl_code::specs::Nodes::has_own_name, cl_code::specs::Nodes::goes_op))]
 pub(crate) fn local(alloc: Global, c: &ContractName, span: Span) -> Result<Checked, Fault<Break>>
     ensures found { FineAs PrincipalType span result }
     ensures text { IfOk result (λ k. expression_of k.code ≡ LeafAt (LocalLeaf c.now) span) }
@@ -55,7 +55,7 @@ pub(crate) fn local(alloc: Global, c: &ContractName, span: Span) -> Result<Check
 }
 
 /// A buffer.
-#[tactic(auto, unfolding(cl_code::specs::Nodes::has_own_name))]
+#[tactic(auto, unfolding(cl_code::specs::Nodes::has_own_name, cl_code::specs::Nodes::goes_op))]
 pub(crate) fn buff(alloc: Global, bytes: &[u8], span: Span) -> Result<Checked, Fault<Break>>
     ensures found { RuledAs (made (BuffType (length bytes.now))) span result }
     ensures text { IfOk result (λ c. expression_of c.code ≡ LeafAt (Bytes bytes.now) span) }
@@ -66,7 +66,7 @@ pub(crate) fn buff(alloc: Global, bytes: &[u8], span: Span) -> Result<Checked, F
 }
 
 /// A string of ASCII characters.
-#[tactic(auto, unfolding(cl_code::specs::Nodes::has_own_name))]
+#[tactic(auto, unfolding(cl_code::specs::Nodes::has_own_name, cl_code::specs::Nodes::goes_op))]
 pub(crate) fn ascii(alloc: Global, text: &[u8], span: Span) -> Result<Checked, Fault<Break>>
     ensures found { RuledAs (made (AsciiType (length text.now))) span result }
     ensures text { IfOk result (λ c. expression_of c.code ≡ LeafAt (AsciiLeaf text.now) span) }
@@ -77,7 +77,7 @@ pub(crate) fn ascii(alloc: Global, text: &[u8], span: Span) -> Result<Checked, F
 }
 
 /// A string of Unicode characters.
-#[tactic(auto, unfolding(cl_code::specs::Nodes::has_own_name))]
+#[tactic(auto, unfolding(cl_code::specs::Nodes::has_own_name, cl_code::specs::Nodes::goes_op))]
 pub(crate) fn utf8(alloc: Global, text: &[char], span: Span) -> Result<Checked, Fault<Break>>
     ensures found { RuledAs (made (Utf8Type (length text.now))) span result }
     ensures text { IfOk result (λ c. expression_of c.code ≡ LeafAt (Unicode text.now) span) }

@@ -7,8 +7,7 @@ ghost use Rattle.cl_rules.specs.Context.{same, keyword_type, is_named};
 ghost use Rattle.cl_judging.specs.Seen.{no_value_in, top_level_in, taken_in};
 
 use crate::context::{Context, Signature, function_under, is_in, map_under, type_under};
-use crate::natives::native;
-use cl_forms::{Keyword, is_one_of, is_reserved};
+use cl_forms::{Keyword, Version, is_one_of, is_reserved, native};
 use cl_types::{Name, NoMemory, SizedTy, TyKind};
 use cl_typing::{none_type, of};
 use indexmap::IndexMap;
@@ -79,11 +78,10 @@ fn is_define_word(name: &Name) -> bool
     )
 }
 
-#[tactic(auto, using(crate::proofs::NativeNames::some_head))]
-fn is_native(name: &Name) -> bool
-    ensures { result ≡ is_some (native name.now) }
+fn is_native(version: Version, name: &Name) -> bool
+    ensures { result ≡ is_some (native version name.now) }
 {
-    native(name).is_some()
+    native(name, version).is_some()
 }
 
 fn has_type(types: &IndexMap<Name, SizedTy>, name: &Name) -> bool
@@ -108,7 +106,7 @@ fn has_function(functions: &IndexMap<Name, Signature>, name: &Name) -> bool
 pub(crate) fn is_no_value(ctx: &Context, name: &Name) -> bool
     ensures { result ≡ no_value_in ctx.now name.now }
 {
-    is_native(name)
+    is_native(ctx.version, name)
         || has_function(&ctx.functions, name)
         || has_type(&ctx.variables, name)
         || has_map(&ctx.maps, name)
@@ -132,5 +130,5 @@ fn is_top_level(ctx: &Context, name: &Name) -> bool
 pub(crate) fn is_taken(ctx: &Context, scope: &IndexMap<Name, SizedTy>, name: &Name) -> bool
     ensures { result ≡ taken_in ctx.now scope.now.entries name.now }
 {
-    is_reserved(name) || is_top_level(ctx, name) || has_type(scope, name)
+    is_reserved(ctx.version, name) || is_top_level(ctx, name) || has_type(scope, name)
 }

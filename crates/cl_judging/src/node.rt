@@ -1,7 +1,7 @@
 //! Nodes of typed trees.
 ghost use Rattle.std.specs.Prelude.{◌≡◌, ◌<◌, length, map, true, IfOk};
 ghost use Rattle.cl_code.specs.Expression.{expression};
-ghost use Rattle.cl_code.specs.Nodes.{has_own_name, has_parts};
+ghost use Rattle.cl_code.specs.Nodes.{has_own_name, has_parts, versions_of};
 ghost use Rattle.cl_code.specs.Typed.{TypedAs, expression_of, typeds};
 ghost use Rattle.cl_types.specs.declared.fault.Fault.TheVariants.{Refused};
 ghost use Rattle.cl_typing.specs.Verdicts.{facts_of, facts_concluded, texts_of};
@@ -44,7 +44,8 @@ pub(crate) fn node(op: Op, codes: Vec<Code>, concluded: Concluded, span: Span) -
     requires fit { has_parts op (length codes.items) ≡ true }
     requires named { has_own_name op ≡ true }
     ensures facts { facts_of result ≡ facts_concluded concluded }
-    ensures code { result.code ≡ TypedAs (expression op (map expression_of codes.items) span) concluded.ty (typeds codes.items) }
+    ensures code { result.code ≡ TypedAs (expression op (map expression_of codes.items) span)
+        concluded.ty (versions_of op) (typeds codes.items) }
 {
     Checked {
         code: Code::make(op, codes, concluded.ty, span),
@@ -73,8 +74,9 @@ pub(crate) fn finish(
     requires few { length parts.items < 1048576 }
     requires fit { has_parts op (length parts.items) ≡ true }
     requires named { has_own_name op ≡ true }
-    ensures found { Finishes parts.items concluded span result }
-    ensures text { IfOk result (λ c. expression_of c.code ≡ expression op (texts_of parts.items) span) }
+    ensures found { Finishes op parts.items concluded span result }
+    ensures text { IfOk result
+        (λ c. expression_of c.code ≡ expression op (texts_of parts.items) span) }
 {
     match concluded {
         Ok(concluded) => Ok(node(op, trees(alloc, parts)?, concluded, span)),

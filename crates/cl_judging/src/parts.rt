@@ -8,7 +8,7 @@ ghost use Rattle.cl_rules.specs.Context.{bind, named_in};
 ghost use Rattle.cl_code.specs.Expression.{expression, headed, word};
 ghost use Rattle.cl_code.specs.Nodes.{has_own_name, has_parts};
 ghost use Rattle.cl_code.specs.Typed.{type_of};
-ghost use Rattle.cl_judging.specs.Walking.{Judges, head_at, is_headed};
+ghost use Rattle.cl_judging.specs.Walking.{GoesWith, Judges, head_at, is_headed};
 
 use crate::controls::on_parts;
 use crate::node::Evaluated;
@@ -72,11 +72,13 @@ pub(crate) fn judge(
 }
 
 /// What a node of a native does.
-#[tactic(auto, unfolding(cl_code::specs::Nodes::has_own_name))]
+#[tactic(auto, unfolding(cl_code::specs::Nodes::has_own_name, cl_code::specs::Nodes::goes_op))]
 pub(crate) fn op_of(native: Evaluated, head: Span) -> Op
-    ensures text { (es : List Tree) (at : Place) → expression result es at ≡ headed (name_of (head_at native)) head es at }
+    ensures text { (es : List Tree) (at : Place) →
+        expression result es at ≡ headed (name_of (head_at native)) head es at }
     ensures fit { (n : ℕ) → has_parts result n ≡ takes (row_of (head_at native)).arity n }
     ensures named { has_own_name result ≡ true }
+    ensures goes { GoesWith native result }
 {
     match native {
         Evaluated::Values(native) => Op::OnValues { native, head },

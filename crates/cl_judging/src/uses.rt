@@ -1,16 +1,14 @@
 //! What is given by name to be applied, and verdicts on what applies it.
 ghost use Rattle.std.specs.Prelude.{◌≡◌, length, Some, true, IfSome, IfNone};
-ghost use Rattle.cl_forms.specs.Heads.{row_of};
 ghost use Rattle.cl_code.specs.Expression.{applied_name, word};
-ghost use Rattle.cl_code.specs.Nodes.{has_own_applied};
+ghost use Rattle.cl_code.specs.Nodes.{goes_applied, has_own_applied};
 ghost use Rattle.cl_judging.specs.Uses.{Applies, AppliesNothing, Iterates, function_shown, iteration_verdict, native_use, takes_used};
 
 use crate::context::{Context, Signature, function_under};
 use crate::kinds::has_enough;
-use crate::natives::native;
 use crate::scope::name_in;
 use cl_code::{Applied, Iteration, Word};
-use cl_forms::Head;
+use cl_forms::{Head, is_by_name, native};
 use cl_sexpr::{Rule, Sexpr, Span};
 use cl_types::Fault;
 use cl_typing::{Checked, Concluded, Usable, on_filter, on_fold, on_map};
@@ -24,28 +22,10 @@ pub(crate) struct Use<'a> {
     pub usable: Usable<'a>,
 }
 
-/// Whether a native on values can be given by name.
-fn is_by_name(native: Native) -> bool
-    ensures { result ≡ (row_of (Head.OnValues native)).by_name }
-{
-    match native {
-        Native::DefaultTo
-        | Native::UnwrapPanic
-        | Native::UnwrapErrPanic
-        | Native::MakeList
-        | Native::Merge
-        | Native::Append
-        | Native::Concat
-        | Native::ElementAt
-        | Native::IndexOf => false,
-        _ => true,
-    }
-}
-
 fn value_use<'a>(native: Native, at: Span) -> Option<Use<'a>>
     ensures { result ≡ native_use (Head.OnValues native) at }
 {
-    if is_by_name(native) {
+    if is_by_name(Head::OnValues(native)) {
         Some(Use {
             applied: Applied::OnValues(native, at),
             usable: Usable::OnValues(native),
@@ -88,11 +68,12 @@ fn function_use<'a>(f: &'a Signature, word: Word) -> Use<'a>
 fn use_of<'a>(ctx: &'a Context, name: Word) -> Option<Use<'a>>
     ensures text { IfSome result (λ u. applied_name u.applied ≡ word name) }
     ensures own { IfSome result (λ u. has_own_applied u.applied ≡ true) }
+    ensures goes { IfSome result (λ u. goes_applied ctx.now.version u.applied ≡ true) }
     ensures some { IfSome result (λ u. Applies ctx.now (word name) u.usable) }
     ensures none { IfNone result (AppliesNothing ctx.now (word name)) }
 {
-    if let Some(head) = native(&name.name) {
-        return native_use(head, name.span);
+    if let Some(row) = native(&name.name, ctx.version) {
+        return native_use(row.head, name.span);
     }
     if let Some(f) = function_under(&ctx.functions, &name.name) {
         return Some(function_use(f, name));
@@ -104,6 +85,7 @@ fn use_of<'a>(ctx: &'a Context, name: Word) -> Option<Use<'a>>
 pub(crate) fn use_at<'a>(ctx: &'a Context, e: &Sexpr) -> Option<Use<'a>>
     ensures text { IfSome result (λ u. e.now ≡ applied_name u.applied) }
     ensures own { IfSome result (λ u. has_own_applied u.applied ≡ true) }
+    ensures goes { IfSome result (λ u. goes_applied ctx.now.version u.applied ≡ true) }
     ensures some { IfSome result (λ u. Applies ctx.now e.now u.usable) }
     ensures none { IfNone result (AppliesNothing ctx.now e.now) }
 {

@@ -3,8 +3,8 @@ ghost use Rattle.std.specs.Prelude.{◌≡◌, ◌∷◌, [], ◌+◌, ◌<◌, 
 ghost use Rattle.cl_sexpr.specs.Fits.{AllFit, Fits, HasPair, PairsFit};
 ghost use Rattle.cl_sexpr.specs.Tree.{ListAt, TupleAt, forest, forest_depth, forest_size, pairs as pairs_as, pairs_size, tree_size};
 ghost use Rattle.cl_forms.specs.declared.head.Head.TheVariants as heads;
-ghost use Rattle.cl_forms.specs.Heads.{row_of, takes};
-ghost use Rattle.cl_forms.specs.HeadNames.{head_of, name_of};
+ghost use Rattle.cl_forms.specs.Heads.{native, row_of, takes};
+ghost use Rattle.cl_forms.specs.HeadNames.{has_head, name_of};
 ghost use Rattle.cl_forms.specs.Shapes.{bindings_of};
 ghost use Rattle.cl_rules.specs.Context.{bind as bind_name, named_in};
 ghost use Rattle.cl_rules.specs.ControlShapes.{bound_name};
@@ -29,7 +29,6 @@ use crate::matches::{five, four, on_optional, on_response, part_of, parts_of, re
 use crate::max_len::{on_max_len, single, uint_at};
 use crate::named::on_name;
 use crate::names::is_taken;
-use crate::natives::native;
 use crate::node::{Evaluated, broken, finish};
 use crate::parts::{add_binding, headed, judge, op_of, push, split, split_two};
 use crate::scope::{
@@ -41,7 +40,7 @@ use crate::tuples::{bound_exprs, bound_keys, exprs_in, keys_in, on_tuple, stand_
 use crate::uses::{on_iteration, takes_values, use_at};
 use crate::verdicts::on_bodies;
 use cl_code::{Iteration, NameNative, Op, Word};
-use cl_forms::Head;
+use cl_forms::{Head, native};
 use cl_sexpr::{Break, Node, Rule, Sexpr, Span};
 use cl_types::{Fault, Name, SizedTy};
 use cl_typing::Checked;
@@ -85,8 +84,10 @@ fn check_native(
     requires small { forest_size (forest args.now) < 2 ^ 21 }
     requires fits { AllFit (forest args.now) }
     requires enough { takes (row_of (head_at native)).arity (length args.now) ≡ true }
+    requires had { has_head ctx.now.version (head_at native) ≡ true }
     ensures found { ChecksNative ctx.now native scope.old.entries args.now span result }
-    ensures text { IfOk result (λ c. expression_of c.code ≡ headed (name_of (head_at native)) head args.now span) }
+    ensures text { IfOk result
+        (λ c. expression_of c.code ≡ headed (name_of (head_at native)) head args.now span) }
     ensures kept { IfOk result (λ _. scope.new.entries ≡ scope.old.entries) }
 {
     let parts = match check_parts(alloc, ctx, scope, args) {
@@ -686,8 +687,10 @@ fn check_head(
 ) -> Result<Checked, Fault<Break>>
     requires small { forest_size (forest args.now) < 2 ^ 21 }
     requires fits { AllFit (forest args.now) }
+    requires had { has_head ctx.now.version head ≡ true }
     ensures found { ChecksHead ctx.now head scope.old.entries args.now span result }
-    ensures text { IfOk result (λ c. expression_of c.code ≡ headed (name_of head) at args.now span) }
+    ensures text { IfOk result
+        (λ c. expression_of c.code ≡ headed (name_of head) at args.now span) }
     ensures kept { IfOk result (λ _. scope.new.entries ≡ scope.old.entries) }
 {
     if !has_enough(head, args) {
@@ -721,9 +724,10 @@ fn check_call(
     requires small { forest_size (forest args.now) < 2 ^ 21 }
     requires fits { AllFit (forest args.now) }
     requires there { Some f.now ≡ named_in head.name ctx.now.functions.entries }
-    requires own { None ≡ head_of head.name }
+    requires own { None ≡ native ctx.now.version head.name }
     ensures found { ChecksCall ctx.now head.name scope.old.entries args.now span result }
-    ensures text { IfOk result (λ c. expression_of c.code ≡ headed head.name head.span args.now span) }
+    ensures text { IfOk result
+        (λ c. expression_of c.code ≡ headed head.name head.span args.now span) }
     ensures kept { IfOk result (λ _. scope.new.entries ≡ scope.old.entries) }
 {
     if !has_count(args, f) {
@@ -754,8 +758,8 @@ fn check_list(
     let Some((head, args)) = headed(items) else {
         return Err(broken(Rule::EmptyForm, span));
     };
-    if let Some(native) = native(&head.name) {
-        return check_head(alloc, ctx, scope, native, head.span, args, span);
+    if let Some(row) = native(&head.name, ctx.version) {
+        return check_head(alloc, ctx, scope, row.head, head.span, args, span);
     }
     if let Some(f) = function_under(&ctx.functions, &head.name) {
         return check_call(alloc, ctx, scope, f, head, args, span);

@@ -7,8 +7,10 @@ use Rattle.cl_values.specs.declared.native.Native.TheVariants.{Add}
 use Rattle.cl_forms.specs.declared.head.TokenNative.TheVariants.{MintFt}
 use Rattle.cl_forms.specs.declared.head.Head.{Head}
 use Rattle.cl_forms.specs.declared.head.Head.TheVariants.{OnValues, OnToken, TupleOf, VarSet, MapSet, MapInsert, MapDelete, Map, Filter, Fold, ContractCall}
+use Rattle.cl_forms.specs.declared.version.Version.{Version}
+use Rattle.cl_forms.specs.declared.version.Version.TheVariants.{One, Two}
 use Rattle.cl_forms.specs.Heads.{native}
-use Rattle.cl_forms.specs.HeadNames.{name_of, head_of_row}
+use Rattle.cl_forms.specs.HeadNames.{name_of, head_of_row, has_head}
 use Rattle.cl_forms.specs.Names.{same, is_one_of}
 use Rattle.cl_forms.specs.Writes.{writing_natives, applying_natives}
 use Rattle.cl_forms.proofs.Found.{found_by_name}
@@ -63,16 +65,13 @@ tuple_name (OnToken MintFt) = refl
 tuple_name (OnToken act) = refl
 tuple_name head = refl
 
-pub is_native : (head : Head) → native (name_of head) ≡ None → ⊥
-is_native head h = no_head (sym (found_by_name head) ∙ ap head_of_row h)
+pub is_native : (version : Version) (head : Head) → has_head version head ≡ true → native version (name_of head) ≡ None → ⊥
+is_native version head had h = no_head (sym (found_by_name version head had) ∙ ap head_of_row h)
   where
     no_head : Some head ≡ None → ⊥
     no_head h = cc
 
 -- ---- names that are no native's
-
-clash : (x y : List ℕ) → native x ≡ None → same x y ≡ true → is_some (native y) ≡ false
-clash x y none e = ap is_some (sym (ap native (keys_equal x y e)) ∙ none)
 
 native_step : (b d r n : Bool) → (b ≡ true → d ≡ false) → (d && r) ≡ true → (r ≡ true → n ≡ false) → (b || n) ≡ false
 native_step true true r n bad h rest = let no : true ≡ false = bad refl in absurd cc
@@ -80,30 +79,50 @@ native_step true false r n bad h rest = absurd cc
 native_step false true r n bad h rest = rest h
 native_step false false r n bad h rest = absurd cc
 
-all_natives : (x : List ℕ) (names : List (List ℕ)) → list_all (λ y. is_some (native y)) names ≡ true → native x ≡ None → list_any (same x) names ≡ false
-all_natives x [] h none = refl
-all_natives x (y ∷ ys) h none = native_step (same x y) (is_some (native y)) (list_all (λ y. is_some (native y)) ys) (list_any (same x) ys) (clash x y none) h (λ k. all_natives x ys k none)
+or_false : (b : Bool) → (b || false) ≡ false → b ≡ false
+or_false true h = h
+or_false false h = refl
 
-pub no_writing : (x : List ℕ) → native x ≡ None → is_one_of writing_natives x ≡ false
-unfolding native
-no_writing x h = all_natives x writing_natives refl h
+-- whether a version has natives of all these names
+abbrev are_natives : Version → List (List ℕ) → Bool
+are_natives version names = list_all (λ y. is_some (native version y)) names
 
-pub no_applying : (x : List ℕ) → native x ≡ None → is_one_of applying_natives x ≡ false
+writing_are : (version : Version) → are_natives version writing_natives ≡ true
 unfolding native
-no_applying x h = all_natives x applying_natives refl h
+writing_are One = refl
+writing_are Two = refl
 
-pub no_crossing : (x : List ℕ) → native x ≡ None → same x (codes "contract-call?") ≡ false
+applying_are : (version : Version) → are_natives version applying_natives ≡ true
 unfolding native
-no_crossing x h = or_false (same x (codes "contract-call?")) (all_natives x (codes "contract-call?" ∷ []) refl h)
-  where
-    or_false : (b : Bool) → (b || false) ≡ false → b ≡ false
-    or_false true h = h
-    or_false false h = refl
+applying_are One = refl
+applying_are Two = refl
 
-pub no_tuple : (x : List ℕ) → native x ≡ None → same x (codes "tuple") ≡ false
+crossing_is : (version : Version) → are_natives version (codes "contract-call?" ∷ []) ≡ true
 unfolding native
-no_tuple x h = or_false (same x (codes "tuple")) (all_natives x (codes "tuple" ∷ []) refl h)
-  where
-    or_false : (b : Bool) → (b || false) ≡ false → b ≡ false
-    or_false true h = h
-    or_false false h = refl
+crossing_is One = refl
+crossing_is Two = refl
+
+tuple_is : (version : Version) → are_natives version (codes "tuple" ∷ []) ≡ true
+unfolding native
+tuple_is One = refl
+tuple_is Two = refl
+
+module _ (version : Version) (x : List ℕ) (none : native version x ≡ None) where
+  clash : (y : List ℕ) → same x y ≡ true → is_some (native version y) ≡ false
+  clash y e = ap is_some (sym (ap (native version) (keys_equal x y e)) ∙ none)
+
+  all_natives : (names : List (List ℕ)) → are_natives version names ≡ true → list_any (same x) names ≡ false
+  all_natives [] h = refl
+  all_natives (y ∷ ys) h = native_step (same x y) (is_some (native version y)) (are_natives version ys) (list_any (same x) ys) (clash y) h (all_natives ys)
+
+  pub no_writing : is_one_of writing_natives x ≡ false
+  no_writing = all_natives writing_natives (writing_are version)
+
+  pub no_applying : is_one_of applying_natives x ≡ false
+  no_applying = all_natives applying_natives (applying_are version)
+
+  pub no_crossing : same x (codes "contract-call?") ≡ false
+  no_crossing = or_false (same x (codes "contract-call?")) (all_natives (codes "contract-call?" ∷ []) (crossing_is version))
+
+  pub no_tuple : same x (codes "tuple") ≡ false
+  no_tuple = or_false (same x (codes "tuple")) (all_natives (codes "tuple" ∷ []) (tuple_is version))

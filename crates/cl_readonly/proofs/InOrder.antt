@@ -8,7 +8,9 @@ use Rattle.cl_types.specs.Types.{PlainType}
 use Rattle.cl_types.specs.declared.sized.Access.{Access}
 use Rattle.cl_values.proofs.Lists.{rest_of}
 use Rattle.cl_sexpr.specs.Tree.{Tree, Leaf}
+use Rattle.cl_forms.specs.declared.version.Version.{Version}
 use Rattle.cl_forms.specs.Forms.{Form, FunctionForm}
+use Rattle.cl_forms.specs.Heads.{native}
 use Rattle.cl_forms.specs.Names.{same, name_at, Names as NamesAt, is_one_of}
 use Rattle.cl_forms.specs.Order.{is_in}
 use Rattle.cl_forms.specs.Writes.{Writes, has_writing_body, has_write}
@@ -99,9 +101,21 @@ no_function (Fungible t) access params body h k = cc
 no_function (NonFungible t) access params body h k = cc
 no_function (TopLevel e) access params body h k = cc
 
+-- the version stays
+pub version_after : (D : Defined) (d : Definition) (found : List Found) → (defined_after D (form_defined d) found).context.version ≡ D.context.version
+version_after D (Constant c) [] = refl
+version_after D (Constant c) (f ∷ fs) = refl
+version_after D (Variable v) found = refl
+version_after D (MapOf m) found = refl
+version_after D (Fungible t) found = refl
+version_after D (NonFungible t) found = refl
+version_after D (AFunction f) [] = refl
+version_after D (AFunction f) (g ∷ gs) = refl
+version_after D (TopLevel e) found = refl
+
 -- ---- one place after another
 
-module _ (checked : Checked) (is_public : Leaf → List ℕ → Bool) (names : IsIndexed checked) (own : HaveOwnNames (forms_of checked)) where
+module _ (checked : Checked) (is_public : Leaf → List ℕ → Bool) (names : IsIndexed checked) (own : HaveOwnNames checked.version (forms_of checked)) where
   form_there : (n : ℕ) (d : Definition) → slice_get checked.definitions.items n ≡ Some d → slice_get (forms_of checked) n ≡ Some (form_defined d)
   form_there n d at = slice_get-map form_defined checked.definitions.items n ∙ ap (option_map form_defined) at
 
@@ -112,32 +126,32 @@ module _ (checked : Checked) (is_public : Leaf → List ℕ → Bool) (names : I
       same_place n m h = cc
 
   other_noted : (D : Defined) (d : Definition) (n : ℕ) (front : List ℕ) (found : List Found) (fs gs : List (List ℕ)) → is_function d ≡ false → slice_get checked.definitions.items n ≡ Some d →
-      IsWith is_public D d fs gs → Noted (forms_of checked) is_public D.context.functions fs front → Noted (forms_of checked) is_public (defined_after D (form_defined d) found).context.functions gs (front ++ n ∷ [])
+      IsWith is_public D d fs gs → Noted checked.version (forms_of checked) is_public D.context.functions fs front → Noted checked.version (forms_of checked) is_public (defined_after D (form_defined d) found).context.functions gs (front ++ n ∷ [])
   other_noted D d n front found fs gs h at is noted =
       let same_ones : fs ≡ gs = (other_with is_public D d fs h).0 ∙ sym is.0 in
-      subst (λ (ss : List Signature). Noted (forms_of checked) is_public ss gs (front ++ n ∷ [])) (sym (other_functions D d found h))
-      (subst (λ (xs : List (List ℕ)). Noted (forms_of checked) is_public D.context.functions xs (front ++ n ∷ [])) same_ones
-      (noted_past (forms_of checked) is_public D.context.functions fs front n
+      subst (λ (ss : List Signature). Noted checked.version (forms_of checked) is_public ss gs (front ++ n ∷ [])) (sym (other_functions D d found h))
+      (subst (λ (xs : List (List ℕ)). Noted checked.version (forms_of checked) is_public D.context.functions xs (front ++ n ∷ [])) same_ones
+      (noted_past checked.version (forms_of checked) is_public D.context.functions fs front n
       (λ form access params body there kind. no_function d access params body h (ap (λ (f : Form). f.kind) (same_form (form_defined d) form (sym (form_there n d at) ∙ there)) ∙ kind)) noted))
 
   -- with the definition at a place
-  definition_noted : (D : Defined) (d : Definition) (n : ℕ) (front : List ℕ) (found : List Found) (fs gs : List (List ℕ)) → slice_get checked.definitions.items n ≡ Some d → StandsAs D d found → ((m : ℕ) → NamesAt (forms_of checked) n m → is_in m front ≡ true) →
-      IsWith is_public D d fs gs → Noted (forms_of checked) is_public D.context.functions fs front → Noted (forms_of checked) is_public (defined_after D (form_defined d) found).context.functions gs (front ++ n ∷ [])
-  definition_noted D (AFunction f) n front found fs gs at stands after is noted =
+  definition_noted : (D : Defined) (d : Definition) (n : ℕ) (front : List ℕ) (found : List Found) (fs gs : List (List ℕ)) → D.context.version ≡ checked.version → slice_get checked.definitions.items n ≡ Some d → StandsAs D d found → ((m : ℕ) → NamesAt (forms_of checked) n m → is_in m front ≡ true) →
+      IsWith is_public D d fs gs → Noted checked.version (forms_of checked) is_public D.context.functions fs front → Noted checked.version (forms_of checked) is_public (defined_after D (form_defined d) found).context.functions gs (front ++ n ∷ [])
+  definition_noted D (AFunction f) n front found fs gs of_version at stands after is noted =
       let one = one_part D.context f.params.items _ f.body found stands.trees in
-      subst (λ (found : List Found). Noted (forms_of checked) is_public (defined_after D (function_form f) found).context.functions gs (front ++ n ∷ [])) (sym one.1)
-      (noted_more (forms_of checked) is_public own once D.context fs front n (function_form f) f.name f.access f.params.items (expression_of f.body) (form_there n (AFunction f) at) refl refl after noted (signature_of f.name f.access f.params.items one.0) gs refl is.0 is.1)
-  definition_noted D d n front found fs gs at stands after is noted = other_noted D d n front found fs gs refl at is noted
+      subst (λ (found : List Found). Noted checked.version (forms_of checked) is_public (defined_after D (function_form f) found).context.functions gs (front ++ n ∷ [])) (sym one.1)
+      (noted_more checked.version (forms_of checked) is_public own once D.context of_version fs front n (function_form f) f.name f.access f.params.items (expression_of f.body) (form_there n (AFunction f) at) refl refl after noted (signature_of f.name f.access f.params.items one.0) gs refl is.0 is.1)
+  definition_noted D d n front found fs gs of_version at stands after is noted = other_noted D d n front found fs gs refl at is noted
 
 -- After the definitions before a place of the order, whatever the contract stands for, these are the functions so far that write.
 abbrev pub Walked : Checked → (Leaf → List ℕ → Bool) → List Known → ℕ → List (List ℕ) → Type 0
 Walked checked is_public known i fs =
-    (E : Defined) → StandsAfter known checked E → (D : Defined) × AllStand D (at_places checked (drop i checked.order.items)) E × Noted (forms_of checked) is_public D.context.functions fs (take i checked.order.items)
+    (E : Defined) → StandsAfter known checked E → (D : Defined) × AllStand D (at_places checked (drop i checked.order.items)) E × Noted checked.version (forms_of checked) is_public D.context.functions fs (take i checked.order.items) × (D.context.version ≡ checked.version)
 
 pub walked_none : (checked : Checked) (is_public : Leaf → List ℕ → Bool) (known : List Known) (fs : List (List ℕ)) → fs ≡ [] → Walked checked is_public known 0 fs
-walked_none checked is_public known fs none E stand = (nothing_defined known checked.principal checked.source_length, stand, subst (λ (fs : List (List ℕ)). Noted (forms_of checked) is_public [] fs []) (sym none) first)
+walked_none checked is_public known fs none E stand = (nothing_defined known checked.principal checked.version checked.source_length, stand, subst (λ (fs : List (List ℕ)). Noted checked.version (forms_of checked) is_public [] fs []) (sym none) first, refl)
   where
-    first : Noted (forms_of checked) is_public [] [] []
+    first : Noted checked.version (forms_of checked) is_public [] [] []
     first = record {
       functions = λ x h. absurd cc;
       sound = λ x h. absurd cc;
@@ -148,7 +162,7 @@ walked_none checked is_public known fs none E stand = (nothing_defined known che
 one_more : (xs : List ℕ) (i n : ℕ) → i < length xs → get_or xs i n ≡ n → take i xs ++ n ∷ [] ≡ take (i + 1) xs
 one_more xs i n lt at = sym (take_more xs i n lt ∙ ap (λ m. take i xs ++ m ∷ []) at)
 
-module _ (checked : Checked) (is_public : Leaf → List ℕ → Bool) (names : IsIndexed checked) (own : HaveOwnNames (forms_of checked)) (known : List Known) where
+module _ (checked : Checked) (is_public : Leaf → List ℕ → Bool) (names : IsIndexed checked) (own : HaveOwnNames checked.version (forms_of checked)) (known : List Known) where
   no_form : (place : ℕ) → slice_get checked.definitions.items place ≡ None → (form : Form) → slice_get (forms_of checked) place ≡ Some form → ⊥
   no_form place is form there = none_is (sym (slice_get-map form_defined checked.definitions.items place ∙ ap (option_map form_defined) is) ∙ there)
     where
@@ -158,11 +172,12 @@ module _ (checked : Checked) (is_public : Leaf → List ℕ → Bool) (names : I
   pub walked_past : (i place : ℕ) (fs gs : List (List ℕ)) → i < length checked.order.items → get_or checked.order.items i place ≡ place → slice_get checked.definitions.items place ≡ None → gs ≡ fs → Walked checked is_public known i fs → Walked checked is_public known (i + 1) gs
   walked_past i place fs gs lt at is same_ones walked E stand =
       let here = walked E stand in
-      let more = noted_past (forms_of checked) is_public here.0.context.functions fs (take i checked.order.items) place (λ form access params body there kind. no_form place is form there) here.2 in (
+      let more = noted_past checked.version (forms_of checked) is_public here.0.context.functions fs (take i checked.order.items) place (λ form access params body there kind. no_form place is form there) here.2 in (
         here.0,
         subst (λ (ds : List Definition). AllStand here.0 ds E) (next_place checked i place None lt at is) here.1,
-        subst (λ (xs : List (List ℕ)). Noted (forms_of checked) is_public here.0.context.functions xs (take (i + 1) checked.order.items)) (sym same_ones)
-            (subst (Noted (forms_of checked) is_public here.0.context.functions fs) (one_more checked.order.items i place lt at) more),
+        subst (λ (xs : List (List ℕ)). Noted checked.version (forms_of checked) is_public here.0.context.functions xs (take (i + 1) checked.order.items)) (sym same_ones)
+            (subst (Noted checked.version (forms_of checked) is_public here.0.context.functions fs) (one_more checked.order.items i place lt at) more),
+        here.3,
       )
 
   pub walked_more : (i place : ℕ) (d : Definition) (fs gs : List (List ℕ)) → i < length checked.order.items → get_or checked.order.items i place ≡ place → slice_get checked.definitions.items place ≡ Some d →
@@ -170,11 +185,13 @@ module _ (checked : Checked) (is_public : Leaf → List ℕ → Bool) (names : I
   walked_more i place d fs gs lt at is with walked E stand =
       let here = walked E stand in
       let rest : AllStand here.0 (d ∷ at_places checked (drop (i + 1) checked.order.items)) E = subst (λ (ds : List Definition). AllStand here.0 ds E) (next_place checked i place (Some d) lt at is) here.1 in
+      let own_functions : AreFunctions here.0.context fs = λ x there. (ap (λ (v : Version). native v x) here.3 ∙ (here.2.functions x there).0, (here.2.functions x there).1) in
       let split : checked.order.items ≡ take i checked.order.items ++ place ∷ drop (i + 1) checked.order.items = sym (take-append-drop i checked.order.items) ∙ ap (λ (ys : List ℕ). take i checked.order.items ++ ys) (rest_of checked.order.items i place lt at) in
-      let more = definition_noted checked is_public names own here.0 d place (take i checked.order.items) rest.0 fs gs is rest.1 (names.order.after (take i checked.order.items) place (drop (i + 1) checked.order.items) split) (with here.0 rest.0 here.2.functions rest.1) here.2 in (
+      let more = definition_noted checked is_public names own here.0 d place (take i checked.order.items) rest.0 fs gs here.3 is rest.1 (names.order.after (take i checked.order.items) place (drop (i + 1) checked.order.items) split) (with here.0 rest.0 own_functions rest.1) here.2 in (
         defined_after here.0 (form_defined d) rest.0,
         rest.2,
-        subst (Noted (forms_of checked) is_public (defined_after here.0 (form_defined d) rest.0).context.functions gs) (one_more checked.order.items i place lt at) more,
+        subst (Noted checked.version (forms_of checked) is_public (defined_after here.0 (form_defined d) rest.0).context.functions gs) (one_more checked.order.items i place lt at) more,
+        version_after here.0 d rest.0 ∙ here.3,
       )
 
   -- with what stands at the next place, if anything does
@@ -189,11 +206,11 @@ module _ (checked : Checked) (is_public : Leaf → List ℕ → Bool) (names : I
   pub walked_all : (i : ℕ) (fs : List (List ℕ)) (E : Defined) → length checked.order.items ≤ i → Walked checked is_public known i fs → StandsAfter known checked E → AreThoseThatWrite (forms_of checked) is_public fs
   walked_all i fs E far walked stand = record { sound = noted.sound; complete = complete }
     where
-      here : (D : Defined) × AllStand D (at_places checked (drop i checked.order.items)) E × Noted (forms_of checked) is_public D.context.functions fs (take i checked.order.items)
+      here : (D : Defined) × AllStand D (at_places checked (drop i checked.order.items)) E × Noted checked.version (forms_of checked) is_public D.context.functions fs (take i checked.order.items) × (D.context.version ≡ checked.version)
       here = walked E stand
 
-      noted : Noted (forms_of checked) is_public here.0.context.functions fs checked.order.items
-      noted = subst (Noted (forms_of checked) is_public here.0.context.functions fs) (take_all i checked.order.items far) here.2
+      noted : Noted checked.version (forms_of checked) is_public here.0.context.functions fs checked.order.items
+      noted = subst (Noted checked.version (forms_of checked) is_public here.0.context.functions fs) (take_all i checked.order.items far) here.2
 
       complete : (x : List ℕ) → Writes (forms_of checked) is_public x → is_one_of fs x ≡ true
       complete x (has_writing_body {body = body} d w) =

@@ -10,6 +10,7 @@ use Rattle.cl_types.specs.declared.sized.Access.{Access}
 use Rattle.cl_types.proofs.Lattice.{keys_equal, key_same}
 use Rattle.cl_sexpr.specs.Tree.{Tree, LeafAt, Leaf, Named, Then}
 use Rattle.cl_forms.specs.Forms.{Form, FormKind, FunctionForm}
+use Rattle.cl_forms.specs.declared.version.Version.{Version}
 use Rattle.cl_forms.specs.Heads.{native}
 use Rattle.cl_forms.specs.Names.{same, Plain, atoms_in, atoms_of_form, atoms_of_expression, is_among, name_at, Names, is_one_of}
 use Rattle.cl_forms.specs.Forms.{expression_of}
@@ -98,10 +99,10 @@ inserted_is fs name x h = by (list_any (same name) fs) h
 
 -- ---- what stands so far
 
-module _ (forms : List Form) (is_public : Leaf → List ℕ → Bool) where
+module _ (version : Version) (forms : List Form) (is_public : Leaf → List ℕ → Bool) where
   -- After the forms at these places, of whose functions these are the signatures, these are the functions so far that write.
   pub record Noted (ss : List Signature) (fs : List (List ℕ)) (front : List ℕ) : Type 0 where
-    pub functions : (x : List ℕ) → is_one_of fs x ≡ true → (native x ≡ None) × (is_known ss x ≡ true)
+    pub functions : (x : List ℕ) → is_one_of fs x ≡ true → (native version x ≡ None) × (is_known ss x ≡ true)
     pub sound : (x : List ℕ) → is_one_of fs x ≡ true → Writes forms is_public x
     pub complete : (x : List ℕ) → Writes forms is_public x → is_known ss x ≡ true → is_one_of fs x ≡ true
     pub known : (m : ℕ) (form : Form) (x : List ℕ) (access : Access) (params : List (List ℕ × PlainType)) (body : Tree) → is_in m front ≡ true → slice_get forms m ≡ Some form → form.name ≡ Some x → form.kind ≡ FunctionForm access params body → is_known ss x ≡ true
@@ -131,7 +132,7 @@ module _ (forms : List Form) (is_public : Leaf → List ℕ → Bool) where
   -- ---- one function
 
   -- an expression that writes has a call that does, where what writes is known or named
-  module _ (G : Context) (fs : List (List ℕ)) (e : Tree) (natives : (y : List ℕ) → Writes forms is_public y → native y ≡ None)
+  module _ (G : Context) (fs : List (List ℕ)) (e : Tree) (natives : (y : List ℕ) → Writes forms is_public y → native G.version y ≡ None)
       (complete : (y : List ℕ) → Writes forms is_public y → is_known G.functions y ≡ true → is_one_of fs y ≡ true) (known : (y : List ℕ) → Writes forms is_public y → list_any (same y) (atoms_in Plain e) ≡ true → is_known G.functions y ≡ true) where
     -- what is called and writes is among these
     called_writes : (y : List ℕ) → Writes forms is_public y → NamesUnknown G e → list_any (calls_it y) (calls_in e) ≡ true → is_one_of fs y ≡ true
@@ -158,14 +159,14 @@ module _ (forms : List Form) (is_public : Leaf → List ℕ → Bool) where
         by true h = h
         by false h = case h w
 
-  module _ (own : HaveOwnNames forms) (once : (x : List ℕ) (n m : ℕ) → name_at forms n ≡ Some x → name_at forms m ≡ Some x → n ≡ m) where
+  module _ (own : HaveOwnNames version forms) (once : (x : List ℕ) (n m : ℕ) → name_at forms n ≡ Some x → name_at forms m ≡ Some x → n ≡ m) where
     named_at : (n : ℕ) (form : Form) (x : List ℕ) → slice_get forms n ≡ Some form → form.name ≡ Some x → name_at forms n ≡ Some x
     named_at n form x at named = ap (option_and_then (λ (f : Form). f.name)) at ∙ named
 
-    own_natives : (y : List ℕ) → Writes forms is_public y → native y ≡ None
+    own_natives : (y : List ℕ) → Writes forms is_public y → native version y ≡ None
     own_natives y (has_writing_body d w) = let p = place_in forms d.form d.there in own y p.0 (named_at p.0 d.form y p.1 d.named)
 
-    module _ (G : Context) (fs : List (List ℕ)) (front : List ℕ) (n : ℕ) (form : Form) (name : List ℕ) (access : Access) (params : List (List ℕ × PlainType)) (body : Tree)
+    module _ (G : Context) (of_version : G.version ≡ version) (fs : List (List ℕ)) (front : List ℕ) (n : ℕ) (form : Form) (name : List ℕ) (access : Access) (params : List (List ℕ × PlainType)) (body : Tree)
         (at : slice_get forms n ≡ Some form) (named : form.name ≡ Some name) (kind : form.kind ≡ FunctionForm access params body)
         (after : (m : ℕ) → Names forms n m → is_in m front ≡ true) (noted : Noted G.functions fs front) where
       -- what the body names is known
@@ -185,7 +186,7 @@ module _ (forms : List Form) (is_public : Leaf → List ℕ → Bool) where
           let one : p.0 ≡ n = once name p.0 n (named_at p.0 d.form name p.1 d.named) (named_at n form name at named) in
           let forms_same : d.form ≡ form = same_form d.form form (sym p.1 ∙ ap (slice_get forms) one ∙ at) in
           let bodies : other ≡ body = same_body d.form.kind form.kind d.access access d.params params other body (ap (λ (f : Form). f.kind) forms_same) d.function kind in
-          must_write G fs body own_natives noted.complete named_known names (subst (WritesIn forms is_public) bodies w)
+          must_write G fs body (λ y w. ap (λ (v : Version). native v y) of_version ∙ own_natives y w) noted.complete named_known names (subst (WritesIn forms is_public) bodies w)
 
       name_is : (m : ℕ) (other : Form) (x : List ℕ) → m ≡ n → slice_get forms m ≡ Some other → other.name ≡ Some x → name ≡ x
       name_is m other x is there named' =

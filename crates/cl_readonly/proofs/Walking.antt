@@ -13,7 +13,8 @@ use Rattle.cl_rules.specs.Verdicts.{Found}
 use Rattle.cl_rules.specs.Shapes.{Plan, Ends, Part, Gives}
 use Rattle.cl_rules.specs.Table.{shape}
 use Rattle.cl_code.specs.declared.op.Op.{Op}
-use Rattle.cl_code.specs.Nodes.{has_own_name, has_parts}
+use Rattle.cl_code.specs.Nodes.{has_parts, versions_of}
+use Rattle.cl_code.proofs.Versions.{has_goes}
 use Rattle.cl_code.specs.Expression.{expression}
 use Rattle.cl_code.specs.Typed.{Typed, TypedAs, typeds, expression_of}
 use Rattle.cl_contracts.specs.Standing.{Stands, StandAll}
@@ -83,25 +84,25 @@ module _ (fs : List (List ℕ)) (is_public : Leaf → List ℕ → Bool) (G : Co
       (sym (here.3 ∙ ap any_of (drop_all i whole far)), λ no. here.4 (subst (AllNameUnknown G) (sym (drop_all i whole far)) tt))
 
   -- a node, of which this tells what it calls by itself, and this what its parts do
-  pub tree_tells : (B : Names) (f : Found) (op : Op) (qs : List Typed) (at : Span) (t : PlainType) (code : Typed) (mine inner : Bool) → AreFunctions G fs → has_own_name op ≡ true → has_parts op (length qs) ≡ true → TypedAs (expression op (map expression_of qs) at) t (typeds qs) ≡ code → Stands G B code f →
+  pub tree_tells : (B : Names) (f : Found) (op : Op) (qs : List Typed) (at : Span) (t : PlainType) (code : Typed) (mine inner : Bool) → AreFunctions G fs → has_parts op (length qs) ≡ true → TypedAs (expression op (map expression_of qs) at) t (versions_of op) (typeds qs) ≡ code → Stands G B code f →
       mine ≡ node_writes fs is_public op → ((p : Plan) (gs : List Found) → StandAll G p (typeds qs) gs → TellsAll qs inner) → Tells code (mine || inner)
-  tree_tells B f op qs at t code mine inner own named fit is stands mine_is inner_is =
-      let s : Stands G B (TypedAs (expression op (map expression_of qs) at) t (typeds qs)) f = subst (λ (q : Typed). Stands G B q f) (sym is) stands in
+  tree_tells B f op qs at t code mine inner own fit is stands mine_is inner_is =
+      let s : Stands G B (TypedAs (expression op (map expression_of qs) at) t (versions_of op) (typeds qs)) f = subst (λ (q : Typed). Stands G B q f) (sym is) stands in
       let count : has_parts op (length (map expression_of qs)) ≡ true = ap (has_parts op) (length-map qs expression_of) ∙ fit in
       let inside = inner_is (shape G B (expression op (map expression_of qs) at)).plan s.0 s.2 in
       subst (λ (q : Typed). Tells q (mine || inner)) is (
-        (λ i. mine_is i || inside.0 i) ∙ sym (node_has fs is_public G own B op (map expression_of qs) at named count s.1),
+        (λ i. mine_is i || inside.0 i) ∙ sym (node_has fs is_public G own B op (map expression_of qs) at (sym (has_goes G.version op) ∙ s.6) count s.1),
         λ k x none unknown.
-            node_named x none G B op (map expression_of qs) at unknown named s.1 (all_named x G qs none unknown (inside.1 (or_parts mine inner k).1)),
+            node_named x G none B op (map expression_of qs) at unknown (sym (has_goes G.version op) ∙ s.6) s.1 (all_named x G qs none unknown (inside.1 (or_parts mine inner k).1)),
       )
 
   -- a node that writes by itself
-  pub tree_writes_here : (B : Names) (f : Found) (op : Op) (qs : List Typed) (at : Span) (t : PlainType) (code : Typed) → AreFunctions G fs → has_own_name op ≡ true → has_parts op (length qs) ≡ true → TypedAs (expression op (map expression_of qs) at) t (typeds qs) ≡ code → Stands G B code f →
+  pub tree_writes_here : (B : Names) (f : Found) (op : Op) (qs : List Typed) (at : Span) (t : PlainType) (code : Typed) → AreFunctions G fs → has_parts op (length qs) ≡ true → TypedAs (expression op (map expression_of qs) at) t (versions_of op) (typeds qs) ≡ code → Stands G B code f →
       true ≡ node_writes fs is_public op → Tells code true
-  tree_writes_here B f op qs at t code own named fit is stands here =
-      let s : Stands G B (TypedAs (expression op (map expression_of qs) at) t (typeds qs)) f = subst (λ (q : Typed). Stands G B q f) (sym is) stands in
+  tree_writes_here B f op qs at t code own fit is stands here =
+      let s : Stands G B (TypedAs (expression op (map expression_of qs) at) t (versions_of op) (typeds qs)) f = subst (λ (q : Typed). Stands G B q f) (sym is) stands in
       let count : has_parts op (length (map expression_of qs)) ≡ true = ap (has_parts op) (length-map qs expression_of) ∙ fit in (
-        ap (λ b. b || any_of qs) here ∙ sym (node_has fs is_public G own B op (map expression_of qs) at named count s.1) ∙ ap (λ (q : Typed). has_write (is_one_of fs) is_public (expression_of q)) is,
+        ap (λ b. b || any_of qs) here ∙ sym (node_has fs is_public G own B op (map expression_of qs) at (sym (has_goes G.version op) ∙ s.6) count s.1) ∙ ap (λ (q : Typed). has_write (is_one_of fs) is_public (expression_of q)) is,
         λ k. absurd (clash k),
       )
     where

@@ -5,15 +5,16 @@ use Rattle.cl_types.specs.declared.sized.Access.TheVariants.{ReadOnly}
 use Rattle.cl_sexpr.specs.declared.sexpr.Span.{Span}
 use Rattle.cl_sexpr.specs.Tree.{Leaf}
 use Rattle.cl_forms.specs.Forms.{Form, FormKind, FunctionForm}
+use Rattle.cl_forms.specs.declared.version.Version.{Version}
 use Rattle.cl_forms.specs.Heads.{native}
 use Rattle.cl_forms.specs.Names.{same, name_at, is_one_of}
 use Rattle.cl_forms.specs.Writes.{Writes, has_write}
 use Rattle.cl_rules.specs.Context.{Context}
 use Rattle.cl_readonly.specs.Naming.{NamesUnknown}
 
--- no form has the name of a native
-abbrev pub HaveOwnNames : List Form → Type 0
-HaveOwnNames forms = (x : List ℕ) (n : ℕ) → name_at forms n ≡ Some x → native x ≡ None
+-- no form has the name of a native of the version
+abbrev pub HaveOwnNames : Version → List Form → Type 0
+HaveOwnNames version forms = (x : List ℕ) (n : ℕ) → name_at forms n ≡ Some x → native version x ≡ None
 
 abbrev pub with_kind : (Leaf → List ℕ → Bool) → List (List ℕ) → FormKind → List ℕ → List (List ℕ)
 with_kind is_public functions (FunctionForm access params body) x = if has_write (is_one_of functions) is_public body then insert_key same functions x else functions

@@ -16,10 +16,10 @@ calls_it x c = same x c.operator || (is_one_of applying_natives c.operator && gi
 abbrev pub IsNamed : List ℕ → Tree → Type 0
 IsNamed x e = (place : Place) → list_any (calls_it x) (calls_in e) ≡ true → list_any (same x) (atoms_in place e) ≡ true
 
--- An expression names what it calls, unless that is a native's name or that of a function that is defined already. A call in a
+-- An expression names what it calls, unless that is the name of a native of the version or of a function that is defined already. A call in a
 -- pair may go unnamed, so it isn't so of each text: it needs that the expression is typed.
 abbrev pub NamesUnknown : Context → Tree → Type 0
-NamesUnknown G e = (x : List ℕ) → native x ≡ None → is_some (signature_in x G.functions) ≡ false → IsNamed x e
+NamesUnknown G e = (x : List ℕ) → native G.version x ≡ None → is_some (signature_in x G.functions) ≡ false → IsNamed x e
 
 abbrev pub AllNameUnknown : Context → List Typed → Type 0
 AllNameUnknown G [] = Unit {0}

@@ -30,6 +30,6 @@ node_writes functions is_public op = false
 
 -- ---- functions so far
 
--- each of these is the name of a function that is defined, and no native's
+-- each of these is the name of a function that is defined, and no native's of the version
 abbrev pub AreFunctions : Context → List (List ℕ) → Type 0
-AreFunctions G functions = (x : List ℕ) → is_one_of functions x ≡ true → (native x ≡ None) × (is_some (signature_in x G.functions) ≡ true)
+AreFunctions G functions = (x : List ℕ) → is_one_of functions x ≡ true → (native G.version x ≡ None) × (is_some (signature_in x G.functions) ≡ true)

@@ -70,7 +70,7 @@ pub fn functions_that_write(
 ) -> Result<IndexSet<Name>, NoMemory>
     requires indexed { AreIndexed deployed.now }
     requires names { IsIndexed checked.now }
-    requires own { HaveOwnNames (forms_of checked.now) }
+    requires own { HaveOwnNames checked.now.version (forms_of checked.now) }
     ensures { IfOk result (λ s. (known : List Known) (E : Defined) → Knows deployed.now known → StandsAfter known checked.now E → AreThoseThatWrite (forms_of checked.now) (calls_public known checked.now.principal) s.keys) }
 {
     let mut writing = IndexSet::new(alloc);
@@ -130,7 +130,7 @@ pub fn first_writing(
 ) -> Result<Option<Span>, NoMemory>
     requires indexed { AreIndexed deployed.now }
     requires names { IsIndexed checked.now }
-    requires own { HaveOwnNames (forms_of checked.now) }
+    requires own { HaveOwnNames checked.now.version (forms_of checked.now) }
     ensures none { IfOk result (λ found. found ≡ None → (known : List Known) (E : Defined) → Knows deployed.now known → StandsAfter known checked.now E → NoneWrites known checked.now.principal (forms_of checked.now)) }
     ensures first { IfOk result (λ found. IfSome found (λ span. (known : List Known) (E : Defined) → Knows deployed.now known → StandsAfter known checked.now E → FirstWriting known checked.now.principal (forms_of checked.now) checked.now.order.items span)) }
 {

@@ -8,7 +8,7 @@ use Rattle.cl_types.specs.declared.sized.TyRefusal.{TyRefusal}
 use Rattle.cl_types.specs.declared.sized.TyRefusal.TheVariants.{Differ}
 use Rattle.cl_sexpr.specs.declared.rule.Rule.{Rule}
 use Rattle.cl_values.specs.declared.native.Native.{Native}
-use Rattle.cl_values.specs.declared.native.Native.TheVariants.{Add, Subtract, Multiply, Divide, Modulo, Power, Xor, SquareRoot, Log2, Less, AtMost, Greater, AtLeast, Same, MakeList}
+use Rattle.cl_values.specs.declared.native.Native.TheVariants.{Add, Subtract, Multiply, Divide, Modulo, Power, Xor, SquareRoot, Log2, Less, AtMost, Greater, AtLeast, Same, MakeList, BitAnd, BitOr, BitXor, BitNot}
 use Rattle.cl_sexpr.specs.declared.rule.Rule.TheVariants.{ArgumentKind, NotSame, TooLarge, ThrownDiffer, UnusedResponse, NoSuchKey}
 use Rattle.cl_rules.specs.Faults.{type_rules}
 use Rattle.cl_rules.specs.NativeTypes.{Ruled, and_lub, lub_then}
@@ -69,7 +69,7 @@ Joins t ts (Err NoMemory) = Unit {0}
 abbrev pub is_fit : PlainType → Bool
 is_fit t = everywhere keys_are_names t && (everywhere keys_rise t && (nat_le (depth_of t) 32 && everywhere is_within t))
 
--- the only type, and the only two
+-- the only type, the only two, and the only three
 abbrev pub one_of : List PlainType → Option PlainType
 one_of (t ∷ []) = Some t
 one_of ts = None
@@ -77,6 +77,10 @@ one_of ts = None
 abbrev pub two_of : List PlainType → Option (PlainType × PlainType)
 two_of (t ∷ u ∷ []) = Some (t, u)
 two_of ts = None
+
+abbrev pub three_of : List PlainType → Option (PlainType × PlainType × PlainType)
+three_of (t ∷ u ∷ s ∷ []) = Some (t, u, s)
+three_of ts = None
 
 -- a native whose row is one of a list of types
 abbrev pub is_list_row : Native → Bool
@@ -95,6 +99,10 @@ is_list_row Greater = true
 is_list_row AtLeast = true
 is_list_row Same = true
 is_list_row MakeList = true
+is_list_row BitAnd = true
+is_list_row BitOr = true
+is_list_row BitXor = true
+is_list_row BitNot = true
 is_list_row native = false
 
 -- what a verdict finds, or the first rule that it breaks

@@ -1,6 +1,7 @@
 //! Kinds of types.
 ghost use Rattle.std.specs.Prelude.{◌≡◌, map, ◌||◌};
 ghost use Rattle.std.specs.List.{list_all};
+ghost use Rattle.cl_rules.specs.NativeTypes.{have_order};
 ghost use Rattle.cl_types.specs.TypeKinds.{is_int, is_uint, is_bool, is_principal, is_optional, is_response, is_undetermined, is_sequence, is_hashed, are_numbers};
 
 use cl_types::{SizedTy, TyKind};
@@ -113,4 +114,18 @@ pub fn are_bools(types: &[&SizedTy]) -> bool
         }
     }
     true
+}
+
+/// Whether both are numbers, buffers or strings of one kind.
+pub fn have_order(t: &SizedTy, u: &SizedTy) -> bool
+    ensures { result ≡ have_order t.now u.now }
+{
+    match (&t.ty().kind, &u.ty().kind) {
+        (TyKind::Int, TyKind::Int)
+        | (TyKind::Uint, TyKind::Uint)
+        | (TyKind::Buff(_), TyKind::Buff(_))
+        | (TyKind::Ascii(_), TyKind::Ascii(_))
+        | (TyKind::Utf8(_), TyKind::Utf8(_)) => true,
+        _ => false,
+    }
 }

@@ -3,7 +3,7 @@ ghost use Rattle.std.specs.Prelude.{◌≡◌, ◌≤◌, map, nat_le, true, fal
 ghost use Rattle.cl_types.specs.Types.{BuffType, AsciiType, Utf8Type, ListType, depth_of};
 ghost use Rattle.cl_types.specs.TypeKinds.{entry_of, resized};
 ghost use Rattle.cl_types.specs.Sized.{everywhere, keys_rise, length_of, most_size};
-ghost use Rattle.cl_rules.specs.NativeTypes.{made, one, append_row, concat_row, element_row, index_row, max_len_row};
+ghost use Rattle.cl_rules.specs.NativeTypes.{made, one, append_row, concat_row, element_row, index_row, max_len_row, slice_row, replace_row, consensus_row};
 ghost use Rattle.cl_typing.specs.Verdicts.{Rules};
 
 use crate::joining::joined_list;
@@ -12,7 +12,7 @@ use crate::making::{into_box, made, of, optional, optional_uint, where_kind};
 use crate::native_types::only;
 use crate::rows::{inner, nothing};
 use cl_sexpr::Rule;
-use cl_types::{Fault, NoMemory, SizedTy, Ty, TyKind, admits};
+use cl_types::{Fault, NoMemory, SizedTy, Ty, TyKind, admits, size};
 use std::alloc::{AllocError, Global};
 
 /// The greatest length of a sequence, where it is within the limit.
@@ -162,6 +162,57 @@ pub(crate) fn index(alloc: Global, s: &SizedTy, item: &SizedTy) -> Result<SizedT
     let entry = entry(alloc, s)?;
     let answer = optional_uint(alloc)?;
     where_kind(is_sequence(s) && admits(&entry, item), answer)
+}
+
+/// An optional part of a sequence, between two uints.
+pub(crate) fn part_between(
+    alloc: Global,
+    s: &SizedTy,
+    i: &SizedTy,
+    j: &SizedTy,
+) -> Result<SizedTy, Fault<Rule>>
+    ensures { Rules (slice_row s.now i.now j.now) result }
+{
+    if !(is_sequence(s) && is_uint(i) && is_uint(j)) {
+        return Err(Fault::Refused(Rule::ArgumentKind));
+    }
+    let part = s.copy(alloc)?;
+    optional(alloc, part)
+}
+
+/// An optional sequence with an item at a uint, which the entry type admits.
+pub(crate) fn replaced(
+    alloc: Global,
+    s: &SizedTy,
+    i: &SizedTy,
+    item: &SizedTy,
+) -> Result<SizedTy, Fault<Rule>>
+    ensures { Rules (replace_row s.now i.now item.now) result }
+{
+    let entry = entry(alloc, s)?;
+    if !(is_sequence(s) && is_uint(i) && admits(&entry, item)) {
+        return Err(Fault::Refused(Rule::ArgumentKind));
+    }
+    let whole = s.copy(alloc)?;
+    optional(alloc, whole)
+}
+
+/// An optional buffer that is as long as a type's greatest wire form.
+pub(crate) fn consensus(alloc: Global, t: &SizedTy) -> Result<SizedTy, Fault<Rule>>
+    ensures { Rules (consensus_row t.now) result }
+{
+    let bytes = Box::new(
+        alloc,
+        Ty {
+            kind: TyKind::Buff(size(t)),
+        },
+    )?;
+    made(
+        alloc,
+        Ty {
+            kind: TyKind::Optional(bytes),
+        },
+    )
 }
 
 /// The sequence's type with another greatest length.

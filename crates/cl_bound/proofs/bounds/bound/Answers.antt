@@ -15,7 +15,7 @@ returns-in-Some-clause-broken c = (
   c.in-Some.dimension,
   c.of.ensures.rule,
   λ deployed known D are knows stands.
-      let done = c.in_ok-deployment.ensures.defined known c.args.checked.now.principal D (c.new-prices.ensures.shown known c.args.checked.now.source_length (are known knows)) stands in
+      let done = c.in_ok-deployment.ensures.defined known c.args.checked.now.principal D (c.new-prices.ensures.shown known c.args.checked.now.version c.args.checked.now.source_length (are known knows)) stands in
       first_above_all c.what_callers_know.ensures.typed known c.args.checked.now D stands c.the_first_bound_is_found.ensures.first c.deployment.new.prices.costs c.args.costs.now c.in-Some.dimension c.in-Some.span c.of.result.span
       (c.in_ok-deployment.ensures.costs ∙ c.new-prices.ensures.costs) c.of.ensures.span
       (c.in-Some.ensures D done.0 (done.1 ∙ ap (λ (t : List CostFn). told (cost_under (function_of t) D.deploy)) (sym c.in_ok-deployment.ensures.costs))),
@@ -23,14 +23,14 @@ returns-in-Some-clause-broken c = (
 
 pub returns-in_ok-functions-in-None-clause-bounded : goal.returns-in_ok-functions-in-None-clause-bounded
 returns-in_ok-functions-in-None-clause-bounded c deployed known D are knows stands =
-    let done = c.in_ok-deployment.ensures.defined known c.args.checked.now.principal D (c.new-prices.ensures.shown known c.args.checked.now.source_length (are known knows)) stands in
+    let done = c.in_ok-deployment.ensures.defined known c.args.checked.now.principal D (c.new-prices.ensures.shown known c.args.checked.now.version c.args.checked.now.source_length (are known knows)) stands in
     all_bounded c.what_callers_know.ensures.typed known c.args.checked.now D stands c.the_first_bound_is_found.ensures.none c.deployment.new.prices.costs c.args.costs.now
     (c.in_ok-deployment.ensures.costs ∙ c.new-prices.ensures.costs)
     (c.in-None.ensures D done.0 (done.1 ∙ ap (λ (t : List CostFn). told (cost_under (function_of t) D.deploy)) (sym c.in_ok-deployment.ensures.costs)))
 
 pub returns-in_ok-functions-in-None-clause-told : goal.returns-in_ok-functions-in-None-clause-told
 returns-in_ok-functions-in-None-clause-told c deployed known D are knows stands =
-    let done = c.in_ok-deployment.ensures.defined known c.args.checked.now.principal D (c.new-prices.ensures.shown known c.args.checked.now.source_length (are known knows)) stands in
+    let done = c.in_ok-deployment.ensures.defined known c.args.checked.now.principal D (c.new-prices.ensures.shown known c.args.checked.now.version c.args.checked.now.source_length (are known knows)) stands in
     let same : c.deployment.new.prices.costs ≡ c.args.costs.now = c.in_ok-deployment.ensures.costs ∙ c.new-prices.ensures.costs in
     let bounded : Bounded D (forms_of c.args.checked.now) (function_of c.args.costs.now) =
     all_bounded c.what_callers_know.ensures.typed known c.args.checked.now D stands c.the_first_bound_is_found.ensures.none c.deployment.new.prices.costs c.args.costs.now same
@@ -44,6 +44,6 @@ returns-in_ok-functions-in-None-clause-kept c deployed are = record {
   principal = refl;
   length = refl;
   functions = λ known D knows stands.
-      let done = c.in_ok-deployment.ensures.defined known c.args.checked.now.principal D (c.new-prices.ensures.shown known c.args.checked.now.source_length (are known knows)) stands in
+      let done = c.in_ok-deployment.ensures.defined known c.args.checked.now.principal D (c.new-prices.ensures.shown known c.args.checked.now.version c.args.checked.now.source_length (are known knows)) stands in
       subst (λ (t : List CostFn). ShowFunctions (function_of t) D.context.functions c.deployment.new.prices.functions.entries) (c.in_ok-deployment.ensures.costs ∙ c.new-prices.ensures.costs) done.0.functions;
 }

@@ -11,6 +11,7 @@ returns-clause-empty c x =
 pub returns-clause-shown : goal.returns-clause-shown
 returns-clause-shown c known size k = record {
   principal = refl;
+  version = refl;
   indexed = c.requires;
   deployed = k;
   constants = sym c.new-constants.ensures.empty;

@@ -18,7 +18,7 @@ use Rattle.std.specs.Prelude.{codes, is_some, ◌==◌}
 use Rattle.cl_code.specs.Expression.{headed, word, keyed, bound_items}
 use Rattle.cl_judging.proofs.Lets.{take_front, bind_longer, not_taken}
 use Rattle.cl_judging.specs.Calls.{JudgesCall, JudgesCallee}
-use Rattle.cl_judging.proofs.FunctionCalls.{call_named, call_short, call_fails, call_found, call_list, unknown_list, word_text}
+use Rattle.cl_judging.proofs.FunctionCalls.{call_named, call_goes, call_short, call_fails, call_found, call_list, unknown_list, word_text}
 use Rattle.cl_judging.proofs.LetShapes.{let_taken, let_odd, let_part_fails, let_body_fails, let_found, let_whole, let_head, let_enough, let_few, let_fits, let_text as whole_text, exprs_count}
 use Rattle.cl_forms.specs.Shapes.{bindings_of, binding_of}
 use Rattle.cl_judging.specs.Named.{JudgesNamed, seen_given}
@@ -46,8 +46,11 @@ use Rattle.cl_judging.proofs.MatchShapes.{optional_taken, optional_input_fails, 
 use Rattle.std.proofs.lemmas.Bool.{leb-true}
 use Rattle.cl_judging.proofs.MaxLens.{max_odd, max_fails, max_found, max_text}
 use Rattle.cl_judging.specs.Uses.{Iterates, iteration_verdict}
-use Rattle.cl_judging.proofs.UseShapes.{not_applied, use_short, use_fails, use_found, use_fits, use_own}
-use Rattle.cl_forms.specs.HeadNames.{name_of}
+use Rattle.cl_judging.proofs.UseShapes.{not_applied, use_short, use_fails, use_found, use_fits, use_own, use_goes}
+use Rattle.cl_forms.specs.HeadNames.{name_of, head_of_row, has_head}
+use Rattle.cl_forms.specs.declared.version.Version.{Version}
+use Rattle.cl_code.specs.Nodes.{goes_op, goes_applied}
+use Rattle.cl_judging.proofs.NativeNames.{no_native, head_had}
 use Rattle.cl_code.specs.OpNames.{iteration_head, name_head}
 use Rattle.cl_rules.specs.ControlShapes.{bound_name}
 use Rattle.cl_judging.specs.Seen.{shadowed_in}
@@ -177,7 +180,8 @@ pub check_let_with-on_bodies-concluded-requires : goal.check_let_with-on_bodies-
 check_let_with-on_bodies-concluded-requires t c = rw c.deref.ensures.value (let_enough c.args.items.now c.args.body.now c.check_more.new.founds.items (sym c.are_bindings.ensures ∙ c.if-not-are_bindings.false) (c.in-Ok-check_more.ensures.text ∙ ap (λ (ts : List Tree). ts ++ c.args.body.now) c.in-Ok.ensures.text))
 
 pub check_let_with-returns-clause-found : goal.check_let_with-returns-clause-found
-check_let_with-returns-clause-found t c = let_found c.args.ctx.now c.args.scope.now.entries c.args.items.now c.args.body.now c.args.span c.requires.body c.in_ok-is_shadowed.field-0 c.are_bindings.result c.in_ok-is_shadowed.ensures.found c.if-branch.false c.are_bindings.ensures c.if-not-are_bindings.false c.check_bindings.new.scope.entries c.in-Ok.founds c.check_more.new.founds c.in-Ok-check_more.field-0 c.on_bodies-concluded.result c.finish.result (subst (λ (N : Names). ChecksBindings c.args.ctx.now N c.check_bindings.new.scope.entries c.args.items.now (Ok c.in-Ok.founds)) c.in_ok-is_shadowed.ensures.kept c.in-Ok.ensures.found) c.in-Ok-check_more.ensures.found (subst (λ (cs : List Checked). JudgesLet (length c.args.items.now) cs c.on_bodies-concluded.result) c.deref.ensures.value c.on_bodies-concluded.ensures) c.finish.ensures.found
+unfolding goes_op
+check_let_with-returns-clause-found t c = let_found c.args.ctx.now c.args.scope.now.entries c.args.items.now c.args.body.now c.args.span c.requires.body c.in_ok-is_shadowed.field-0 c.are_bindings.result c.in_ok-is_shadowed.ensures.found c.if-branch.false c.are_bindings.ensures c.if-not-are_bindings.false c.check_bindings.new.scope.entries c.in-Ok.founds c.check_more.new.founds c.in-Ok-check_more.field-0 c.on_bodies-concluded.result c.finish.result (subst (λ (N : Names). ChecksBindings c.args.ctx.now N c.check_bindings.new.scope.entries c.args.items.now (Ok c.in-Ok.founds)) c.in_ok-is_shadowed.ensures.kept c.in-Ok.ensures.found) c.in-Ok-check_more.ensures.found (subst (λ (cs : List Checked). JudgesLet (length c.args.items.now) cs c.on_bodies-concluded.result) c.deref.ensures.value c.on_bodies-concluded.ensures) (λ G shows. c.finish.ensures.found G refl)
 
 pub check_let_with-returns-clause-text : goal.check_let_with-returns-clause-text
 check_let_with-returns-clause-text t c = text_by c.finish.result _ (headed (codes "let") c.args.head (ListAt (forest c.args.items.now) c.args.at ∷ c.args.body.now) c.args.span) c.finish.ensures.text (whole_text c.args.items.now c.args.body.now (texts_of c.check_more.new.founds.items) c.in_ok-bindings.bindings.items c.args.head c.args.at c.args.span (sym c.are_bindings.ensures ∙ c.if-not-are_bindings.false) (c.in-Ok-check_more.ensures.text ∙ ap (λ (ts : List Tree). ts ++ c.args.body.now) c.in-Ok.ensures.text) c.in_ok-bindings.ensures.text c.in_ok-bindings.ensures.count)
@@ -189,7 +193,7 @@ pub check_call-returns-in-Err-clause-found : goal.check_call-returns-in-Err-clau
 check_call-returns-in-Err-clause-found t c = call_fails c.args.f.now c.args.scope.now.entries c.args.args.now c.args.ctx.now c.args.head.name c.args.span c.requires.there c.has_count.result c.has_count.ensures c.if-not-has_count.false c.in-Err.fault c.in-Err.ensures.found
 
 pub check_call-returns-clause-found : goal.check_call-returns-clause-found
-check_call-returns-clause-found t c = call_found c.args.f.now c.args.scope.now.entries c.args.args.now c.args.ctx.now c.args.head.name c.args.span c.requires.there c.has_count.result c.has_count.ensures c.if-not-has_count.false c.in-Ok.parts c.on_call-concluded.result c.finish.result c.in-Ok.ensures.found (subst (λ (cs : List Checked). JudgesCall c.args.f.now cs c.on_call-concluded.result) c.deref.ensures.value c.on_call-concluded.ensures) c.finish.ensures.found
+check_call-returns-clause-found t c = call_found c.args.f.now c.args.scope.now.entries c.args.args.now c.args.ctx.now c.args.head.name c.args.span c.requires.there c.has_count.result c.has_count.ensures c.if-not-has_count.false c.in-Ok.parts c.on_call-concluded.result c.finish.result c.in-Ok.ensures.found (subst (λ (cs : List Checked). JudgesCall c.args.f.now cs c.on_call-concluded.result) c.deref.ensures.value c.on_call-concluded.ensures) (λ G shows. c.finish.ensures.found G (call_goes G.version c.args.head (no_native c.args.ctx.now c.args.head.name c.requires.own G shows)))
 
 pub check_list-returns-in-Some-function_under-clause-found : goal.check_list-returns-in-Some-function_under-clause-found
 check_list-returns-in-Some-function_under-clause-found t c = call_list c.args.ctx.now c.args.scope.now.entries c.args.items.now c.in-Some.head c.in-Some.args.now c.args.span c.check_call.result c.in-Some.ensures.some c.in_default-native.ensures c.check_call.ensures.found
@@ -223,19 +227,19 @@ check_native-finish-requires t c = record {
 }
 
 pub check_native-returns-clause-found : goal.check_native-returns-clause-found
-check_native-returns-clause-found t c = native_found c.args.ctx.now c.args.native c.args.scope.now.entries c.args.args.now c.args.span true (sym c.requires.enough) refl c.in-Ok.parts c.judge-concluded.result c.finish.result c.in-Ok.ensures.found (subst (λ (cs : List Checked). Judges c.args.native cs c.judge-concluded.result) c.deref.ensures.value c.judge-concluded.ensures) c.finish.ensures.found
+check_native-returns-clause-found t c = native_found c.args.ctx.now c.args.native c.args.scope.now.entries c.args.args.now c.args.span true (sym c.requires.enough) refl c.in-Ok.parts c.judge-concluded.result c.finish.result c.in-Ok.ensures.found (subst (λ (cs : List Checked). Judges c.args.native cs c.judge-concluded.result) c.deref.ensures.value c.judge-concluded.ensures) (λ G shows. c.finish.ensures.found G (c.op_of.ensures.goes G.version (ap (λ (version : Version). has_head version (head_at c.args.native)) shows.version ∙ c.requires.had)))
 
 pub check_list-returns-in-Some-native-clause-found : goal.check_list-returns-in-Some-native-clause-found
-check_list-returns-in-Some-native-clause-found t c = native_list c.args.ctx.now c.args.scope.now.entries c.args.items.now c.in-Some.head c.in-Some.args.now c.args.span c.in-Some-native.native c.check_head.result c.in-Some.ensures.some c.in-Some-native.ensures c.check_head.ensures.found
+check_list-returns-in-Some-native-clause-found t c = native_list c.args.ctx.now c.args.scope.now.entries c.args.items.now c.in-Some.head c.in-Some.args.now c.args.span c.in-Some-native.row.head c.check_head.result c.in-Some.ensures.some (ap head_of_row c.in-Some-native.ensures) c.check_head.ensures.found
 
 pub check_list-returns-in-Some-native-clause-text : goal.check_list-returns-in-Some-native-clause-text
-check_list-returns-in-Some-native-clause-text t c = text_by c.check_head.result _ (ListAt (forest c.args.items.now) c.args.span) c.check_head.ensures.text (list_text c.args.items.now c.in-Some.head c.in-Some.args.now c.args.span c.in-Some-native.native c.in-Some.ensures.some c.in-Some-native.ensures)
+check_list-returns-in-Some-native-clause-text t c = text_by c.check_head.result _ (ListAt (forest c.args.items.now) c.args.span) c.check_head.ensures.text (list_text c.args.ctx.now.version c.args.items.now c.in-Some.head c.in-Some.args.now c.args.span c.in-Some-native.row.head c.in-Some.ensures.some (ap head_of_row c.in-Some-native.ensures))
 
 pub check_call-finish-requires : goal.check_call-finish-requires
 check_call-finish-requires t c = record {
   few = few_parts c.in-Ok.parts.items c.args.args.now c.in-Ok.ensures.text c.requires.small;
   fit = refl;
-  named = call_named c.args.head c.requires.own;
+  named = call_named c.args.head;
 }
 
 pub check_head-returns-then-not-has_enough-clause-found : goal.check_head-returns-then-not-has_enough-clause-found
@@ -279,7 +283,8 @@ check_named-finish-requires t c =
     }
 
 pub check_named-returns-clause-found : goal.check_named-returns-clause-found
-check_named-returns-clause-found t c = named_found c.args.ctx.now c.args.native c.args.scope.now.entries c.args.args.now c.args.span c.requires.enough c.in-Some-name_in.name c.in-Some.rest.now (c.in-Some.ensures.some ∙ ap (λ (t : Tree). t ∷ c.in-Some.rest.now) c.in-Some-name_in.ensures.some) (seen_given c.in-Some-given_by.found) c.in-Some-given_by.ensures c.in-Ok.parts c.on_name-concluded.result c.finish.result c.in-Ok.ensures.found (subst (λ (cs : List Checked). JudgesNamed c.args.native (seen_given c.in-Some-given_by.found) cs c.on_name-concluded.result) c.deref.ensures.value c.on_name-concluded.ensures) c.finish.ensures.found
+unfolding goes_op
+check_named-returns-clause-found t c = named_found c.args.ctx.now c.args.native c.args.scope.now.entries c.args.args.now c.args.span c.requires.enough c.in-Some-name_in.name c.in-Some.rest.now (c.in-Some.ensures.some ∙ ap (λ (t : Tree). t ∷ c.in-Some.rest.now) c.in-Some-name_in.ensures.some) (seen_given c.in-Some-given_by.found) c.in-Some-given_by.ensures c.in-Ok.parts c.on_name-concluded.result c.finish.result c.in-Ok.ensures.found (subst (λ (cs : List Checked). JudgesNamed c.args.native (seen_given c.in-Some-given_by.found) cs c.on_name-concluded.result) c.deref.ensures.value c.on_name-concluded.ensures) (λ G shows. c.finish.ensures.found G refl)
 
 pub check_head-returns-in-ContractCall-clause-found : goal.check_head-returns-in-ContractCall-clause-found
 check_head-returns-in-ContractCall-clause-found t c = subst (λ (h : Head). ChecksHead c.args.ctx.now h c.args.scope.now.entries c.args.args.now c.args.span c.check_contract_call.result) c.in-ContractCall.ensures c.check_contract_call.ensures.found
@@ -312,7 +317,8 @@ check_contract_call-finish-requires t c =
     }
 
 pub check_contract_call-returns-clause-found : goal.check_contract_call-returns-clause-found
-check_contract_call-returns-clause-found t c = callee_found c.args.ctx.now c.args.scope.now.entries c.args.args.now c.args.span c.requires.enough c.in-Some.first.now c.in-Some.second.now c.in-Some.rest.now c.in-Some.ensures.some c.in-Some-target_in.principal c.in-Some-target_in.ensures.literal c.in-Some-another_at.contract.now c.in-Some-another_at.ensures c.in-Some-name_in.function c.in-Some-name_in.ensures.some c.in-Some-callable.f.now c.in-Some-callable.ensures c.has_as_many.result c.has_as_many.ensures c.if-not-has_as_many.false c.in-Ok.parts c.on_callee-concluded.result c.finish.result c.in-Ok.ensures.found (subst (λ (cs : List Checked). JudgesCallee c.in-Some-callable.f.now cs c.on_callee-concluded.result) c.deref.ensures.value c.on_callee-concluded.ensures) c.finish.ensures.found
+unfolding goes_op
+check_contract_call-returns-clause-found t c = callee_found c.args.ctx.now c.args.scope.now.entries c.args.args.now c.args.span c.requires.enough c.in-Some.first.now c.in-Some.second.now c.in-Some.rest.now c.in-Some.ensures.some c.in-Some-target_in.principal c.in-Some-target_in.ensures.literal c.in-Some-another_at.contract.now c.in-Some-another_at.ensures c.in-Some-name_in.function c.in-Some-name_in.ensures.some c.in-Some-callable.f.now c.in-Some-callable.ensures c.has_as_many.result c.has_as_many.ensures c.if-not-has_as_many.false c.in-Ok.parts c.on_callee-concluded.result c.finish.result c.in-Ok.ensures.found (subst (λ (cs : List Checked). JudgesCallee c.in-Some-callable.f.now cs c.on_callee-concluded.result) c.deref.ensures.value c.on_callee-concluded.ensures) (λ G shows. c.finish.ensures.found G refl)
 
 -- ---- names and literals that are within the limits
 
@@ -337,7 +343,8 @@ check_max_len-finish-requires t c =
     record { few = omega (arith, one); fit = ap (λ (n : ℕ). n == 1) one; named = max_own c.args.head c.in-Some-uint_at.most c.in-Some-uint_at.at }
 
 pub check_max_len-returns-clause-found : goal.check_max_len-returns-clause-found
-check_max_len-returns-clause-found t c = max_found c.args.ctx.now c.args.scope.now.entries c.args.args.now c.args.span c.requires.enough c.in-Some.item.now c.in-Some-uint_at.most c.in-Some-uint_at.at (c.in-Some.ensures.some ∙ ap (λ (d : Tree). c.in-Some.item.now ∷ d ∷ []) c.in-Some-uint_at.ensures.some) c.in-Ok.found c.in_ok-parts.parts.items c.on_max_len-concluded.result c.finish.result c.in-Ok.ensures.text c.in_ok-parts.ensures c.in-Ok.ensures.found (rw c.deref.ensures.value at c.on_max_len-concluded.ensures) c.finish.ensures.found
+unfolding goes_op
+check_max_len-returns-clause-found t c = max_found c.args.ctx.now c.args.scope.now.entries c.args.args.now c.args.span c.requires.enough c.in-Some.item.now c.in-Some-uint_at.most c.in-Some-uint_at.at (c.in-Some.ensures.some ∙ ap (λ (d : Tree). c.in-Some.item.now ∷ d ∷ []) c.in-Some-uint_at.ensures.some) c.in-Ok.found c.in_ok-parts.parts.items c.on_max_len-concluded.result c.finish.result c.in-Ok.ensures.text c.in_ok-parts.ensures c.in-Ok.ensures.found (rw c.deref.ensures.value at c.on_max_len-concluded.ensures) (λ G shows. c.finish.ensures.found G refl)
 
 pub check_each-check_expr-requires : goal.check_each-check_expr-requires
 check_each-check_expr-requires t c =
@@ -401,12 +408,13 @@ check_tuple-finish-requires t c =
     }
 
 pub check_tuple-returns-clause-found : goal.check_tuple-returns-clause-found
+unfolding goes_op
 check_tuple-returns-clause-found t c =
     let exprs : refs c.deref-2.result.now ≡ parts_in c.args.pairs.now = ap refs c.deref-2.ensures.value ∙ c.in_ok-exprs.ensures in
     tuple_whole c.args.ctx.now c.args.scope.now.entries c.args.pairs.now c.args.span c.finish.result (tuple_found c.args.ctx.now sound_shape c.args.scope.now.entries c.args.pairs.now c.args.span refl (sym (c.in_ok-stand_twice.ensures.twice ∙ ap stands_twice (c.deref.ensures.value ∙ c.in_ok-keys.ensures)) ∙ c.if-branch.false) c.in-Ok.parts c.on_tuple-concluded.result c.finish.result
     (subst (λ (ts : List Tree). ChecksAll c.args.ctx.now (parts c.args.scope.now.entries ts) (forest_depth (forest ts) + 1) (Ok c.in-Ok.parts)) exprs c.in-Ok.ensures.found)
     (subst (λ (cs : List Checked). ConcludesRow (tuple_row (keys_of c.args.pairs.now)) 0 cs c.on_tuple-concluded.result) c.deref-4.ensures.value (subst (λ (ks : List (List ℕ)). ConcludesRow (tuple_row ks) 0 c.deref-4.result.now c.on_tuple-concluded.result) (c.deref-3.ensures.value ∙ c.in_ok-keys.ensures) c.on_tuple-concluded.ensures))
-    c.finish.ensures.found)
+    (λ G shows. c.finish.ensures.found G refl))
 
 pub check_tuple-returns-clause-text : goal.check_tuple-returns-clause-text
 check_tuple-returns-clause-text t c =
@@ -469,9 +477,10 @@ check_optional-finish-requires t c =
     }
 
 pub check_optional-returns-clause-found : goal.check_optional-returns-clause-found
+unfolding goes_op
 check_optional-returns-clause-found t c =
     let cases = subst (λ (N : Names). AddsTwo c.args.ctx.now (bind c.args.part.name c.in-Some.ty N) c.args.some.now N c.args.none.now c.in_ok-parts.parts.items c.check_cases.new.founds.items (Ok c.in-Ok-check_cases.field-0)) c.in-Ok.ensures.kept c.in-Ok-check_cases.ensures.found in
-    optional_ends c.args.ctx.now c.args.scope.now.entries c.args.input.now c.args.part c.args.some.now c.args.none.now c.args.span c.requires.free c.in-Ok.found c.in-Ok.ensures.text c.in-Ok.ensures.found c.in-Some.ty (sym c.in-Some.is ∙ c.in_ok-ty.ensures) c.in_ok-parts.parts.items c.check_cases.new.founds.items c.in-Ok-check_cases.field-0 c.in_ok-parts.ensures cases c.on_optional-concluded.result c.finish.result (rw c.deref.ensures.value at c.on_optional-concluded.ensures) c.finish.ensures.found
+    optional_ends c.args.ctx.now c.args.scope.now.entries c.args.input.now c.args.part c.args.some.now c.args.none.now c.args.span c.requires.free c.in-Ok.found c.in-Ok.ensures.text c.in-Ok.ensures.found c.in-Some.ty (sym c.in-Some.is ∙ c.in_ok-ty.ensures) c.in_ok-parts.parts.items c.check_cases.new.founds.items c.in-Ok-check_cases.field-0 c.in_ok-parts.ensures cases c.on_optional-concluded.result c.finish.result (rw c.deref.ensures.value at c.on_optional-concluded.ensures) (λ G shows. c.finish.ensures.found G refl)
 
 pub check_optional-returns-clause-text : goal.check_optional-returns-clause-text
 check_optional-returns-clause-text t c = text_by c.finish.result _ (headed (codes "match") c.args.head (c.args.input.now ∷ word c.args.part ∷ c.args.some.now ∷ c.args.none.now ∷ []) c.args.span) c.finish.ensures.text (optional_text c.args.head c.args.span c.args.part c.args.input.now c.args.some.now c.args.none.now (texts_of c.check_cases.new.founds.items) (all_texts c.args.ctx.now (bind c.args.part.name c.in-Some.ty c.check_expr.new.scope.entries) c.args.some.now c.check_expr.new.scope.entries c.args.none.now c.args.input.now c.in-Ok.found c.in_ok-parts.parts.items c.check_cases.new.founds.items c.in-Ok-check_cases.field-0 c.in-Ok.ensures.text c.in_ok-parts.ensures c.in-Ok-check_cases.ensures.found))
@@ -526,9 +535,10 @@ check_response-finish-requires t c =
     }
 
 pub check_response-returns-clause-found : goal.check_response-returns-clause-found
+unfolding goes_op
 check_response-returns-clause-found t c =
     let cases = subst (λ (N : Names). AddsTwo c.args.ctx.now (bind c.args.good.name c.in-Some.ok N) c.args.first.now (bind c.args.bad.name c.in-Some.err N) c.args.second.now c.in_ok-parts.parts.items c.check_both.new.founds.items (Ok c.in-Ok-check_both.field-0)) c.in-Ok.ensures.kept c.in-Ok-check_both.ensures.found in
-    response_ends c.args.ctx.now c.args.scope.now.entries c.args.input.now c.args.good c.args.first.now c.args.bad c.args.second.now c.args.span c.requires.free c.in-Ok.found c.in-Ok.ensures.text c.in-Ok.ensures.found c.in-Some.ok c.in-Some.err (sym c.in-Some.is ∙ c.in_ok-ok.ensures) c.in_ok-parts.parts.items c.check_both.new.founds.items c.in-Ok-check_both.field-0 c.in_ok-parts.ensures cases c.on_response-concluded.result c.finish.result (rw c.deref.ensures.value at c.on_response-concluded.ensures) c.finish.ensures.found
+    response_ends c.args.ctx.now c.args.scope.now.entries c.args.input.now c.args.good c.args.first.now c.args.bad c.args.second.now c.args.span c.requires.free c.in-Ok.found c.in-Ok.ensures.text c.in-Ok.ensures.found c.in-Some.ok c.in-Some.err (sym c.in-Some.is ∙ c.in_ok-ok.ensures) c.in_ok-parts.parts.items c.check_both.new.founds.items c.in-Ok-check_both.field-0 c.in_ok-parts.ensures cases c.on_response-concluded.result c.finish.result (rw c.deref.ensures.value at c.on_response-concluded.ensures) (λ G shows. c.finish.ensures.found G refl)
 
 pub check_response-returns-clause-text : goal.check_response-returns-clause-text
 check_response-returns-clause-text t c = text_by c.finish.result _ (headed (codes "match") c.args.head (c.args.input.now ∷ word c.args.good ∷ c.args.first.now ∷ word c.args.bad ∷ c.args.second.now ∷ []) c.args.span) c.finish.ensures.text (response_text c.args.head c.args.span c.args.good c.args.bad c.args.input.now c.args.first.now c.args.second.now (texts_of c.check_both.new.founds.items) (all_texts c.args.ctx.now (bind c.args.good.name c.in-Some.ok c.check_expr.new.scope.entries) c.args.first.now (bind c.args.bad.name c.in-Some.err c.check_expr.new.scope.entries) c.args.second.now c.args.input.now c.in-Ok.found c.in_ok-parts.parts.items c.check_both.new.founds.items c.in-Ok-check_both.field-0 c.in-Ok.ensures.text c.in_ok-parts.ensures c.in-Ok-check_both.ensures.found))
@@ -635,12 +645,13 @@ check_pairs-finish-requires t c =
     }
 
 pub check_pairs-returns-clause-found : goal.check_pairs-returns-clause-found
+unfolding goes_op
 check_pairs-returns-clause-found t c =
     let exprs : refs c.deref-2.result.now ≡ exprs_of c.args.args.now = ap refs c.deref-2.ensures.value ∙ c.in_ok-exprs.ensures in
     pairs_found c.args.ctx.now c.args.scope.now.entries c.args.args.now c.args.span c.requires.enough c.are_bindings.result c.are_bindings.ensures c.if-not-are_bindings.false (sym (c.in_ok-stand_twice.ensures.twice ∙ ap stands_twice (c.deref.ensures.value ∙ c.in_ok-keys.ensures)) ∙ c.if-branch.false) c.in-Ok.parts c.on_tuple-concluded.result c.finish.result
     (subst (λ (ts : List Tree). ChecksAll c.args.ctx.now (parts c.args.scope.now.entries ts) (forest_depth (forest ts) + 1) (Ok c.in-Ok.parts)) exprs c.in-Ok.ensures.found)
     (subst (λ (cs : List Checked). ConcludesRow (tuple_row (keys_of (filter_map binding_of c.args.args.now))) 0 cs c.on_tuple-concluded.result) c.deref-4.ensures.value (subst (λ (ks : List (List ℕ)). ConcludesRow (tuple_row ks) 0 c.deref-4.result.now c.on_tuple-concluded.result) (c.deref-3.ensures.value ∙ c.in_ok-keys.ensures) c.on_tuple-concluded.ensures))
-    c.finish.ensures.found
+    (λ G shows. c.finish.ensures.found G refl)
 
 pub check_pairs-returns-clause-text : goal.check_pairs-returns-clause-text
 check_pairs-returns-clause-text t c =
@@ -671,7 +682,7 @@ check_iteration-finish-requires t c =
     }
 
 pub check_iteration-returns-clause-found : goal.check_iteration-returns-clause-found
-check_iteration-returns-clause-found t c = use_found c.args.ctx.now c.args.iteration c.args.scope.now.entries c.args.args.now c.args.span c.requires.enough c.in-Some.first.now c.in-Some.rest.now c.in-Some.ensures.some c.in-Some-use_at.used.usable c.in-Some-use_at.ensures.some c.takes_values.result c.takes_values.ensures c.if-not-takes_values.false c.in-Ok.parts c.on_iteration-concluded.result c.finish.result c.in-Ok.ensures.found (subst (λ (cs : List Checked). Iterates (iteration_verdict c.args.iteration) c.in-Some-use_at.used.usable cs c.on_iteration-concluded.result) c.deref.ensures.value c.on_iteration-concluded.ensures) c.finish.ensures.found
+check_iteration-returns-clause-found t c = use_found c.args.ctx.now c.args.iteration c.args.scope.now.entries c.args.args.now c.args.span c.requires.enough c.in-Some.first.now c.in-Some.rest.now c.in-Some.ensures.some c.in-Some-use_at.used.usable c.in-Some-use_at.ensures.some c.takes_values.result c.takes_values.ensures c.if-not-takes_values.false c.in-Ok.parts c.on_iteration-concluded.result c.finish.result c.in-Ok.ensures.found (subst (λ (cs : List Checked). Iterates (iteration_verdict c.args.iteration) c.in-Some-use_at.used.usable cs c.on_iteration-concluded.result) c.deref.ensures.value c.on_iteration-concluded.ensures) (λ G shows. c.finish.ensures.found G (use_goes G.version c.args.iteration c.args.head c.in-Some-use_at.used.applied (ap (λ (version : Version). goes_applied version c.in-Some-use_at.used.applied) shows.version ∙ c.in-Some-use_at.ensures.goes)))
 
 -- ---- what calls ask for, and the texts of what they give
 
@@ -710,7 +721,7 @@ pub check_let_with-check_more-requires : goal.check_let_with-check_more-requires
 check_let_with-check_more-requires t c = (omega (arith, c.decreases), (omega (arith, c.requires.small), c.requires.others))
 
 pub check_head-check_native-requires : goal.check_head-check_native-requires
-check_head-check_native-requires t c = (omega (arith, c.decreases), (c.requires.small, (c.requires.fits, enough_as (head_at c.in-Evaluated.native) c.args.head c.args.args.now c.has_enough.result c.in-Evaluated.ensures c.has_enough.ensures c.if-not-has_enough.false)))
+check_head-check_native-requires t c = (omega (arith, c.decreases), (c.requires.small, (c.requires.fits, (enough_as (head_at c.in-Evaluated.native) c.args.head c.args.args.now c.has_enough.result c.in-Evaluated.ensures c.has_enough.ensures c.if-not-has_enough.false, ap (has_head c.args.ctx.now.version) c.in-Evaluated.ensures ∙ c.requires.had))))
 
 pub check_head-returns-in-Evaluated-clause-text : goal.check_head-returns-in-Evaluated-clause-text
 check_head-returns-in-Evaluated-clause-text t c = text_by c.check_native.result _ _ c.check_native.ensures.text (ap (λ (h : Head). headed (name_of h) c.args.at c.args.args.now c.args.span) c.in-Evaluated.ensures)
@@ -760,7 +771,7 @@ check_head-returns-in-Iterate-clause-text t c = text_by c.check_iteration.result
 pub check_list-check_head-requires : goal.check_list-check_head-requires
 check_list-check_head-requires t c =
     let size : forest_size (forest c.args.items.now) ≡ 1 + forest_size (forest c.in-Some.args.now) + 1 = ap (λ (ts : List Tree). forest_size (forest ts)) c.in-Some.ensures.some in
-    (omega (arith, size, c.decreases), (omega (arith, size, c.requires.small), (subst (λ (ts : List Tree). AllFit (forest ts)) c.in-Some.ensures.some c.requires.fits).1))
+    (omega (arith, size, c.decreases), (omega (arith, size, c.requires.small), ((subst (λ (ts : List Tree). AllFit (forest ts)) c.in-Some.ensures.some c.requires.fits).1, head_had c.args.ctx.now.version c.in-Some.head.name c.in-Some-native.row.head (ap head_of_row c.in-Some-native.ensures))))
 
 pub check_expr-check_list-requires : goal.check_expr-check_list-requires
 check_expr-check_list-requires t c =

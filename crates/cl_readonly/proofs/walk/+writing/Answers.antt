@@ -9,13 +9,13 @@ use Rattle.cl_readonly.proofs.walk.+writing.Goals as goal
 
 pub tree_writes-returns-then-node_writes : goal.tree_writes-returns-then-node_writes
 tree_writes-returns-then-node_writes t c known G B f knows own stands =
-    tree_writes_here c.args.writing.now.keys (calls_public known c.args.own.now) G B f c.code.inside.op c.code.inside.parts.items c.code.inside.span c.code.inside.ty c.args.code.now own c.code.invariant.named c.code.invariant.fit c.code.view_is stands
+    tree_writes_here c.args.writing.now.keys (calls_public known c.args.own.now) G B f c.code.inside.op c.code.inside.parts.items c.code.inside.span c.code.inside.ty c.args.code.now own c.code.invariant.fit c.code.view_is stands
     (c.if-node_writes.ensures known knows)
 
 pub tree_writes-returns : goal.tree_writes-returns
 tree_writes-returns t c known G B f knows own stands =
     subst (Tells c.args.writing.now.keys (calls_public known c.args.own.now) G c.args.code.now) (ap (λ (b : Bool). b || c.any_writes.result) c.if-node_writes.false)
-    (tree_tells c.args.writing.now.keys (calls_public known c.args.own.now) G B f c.code.inside.op c.code.inside.parts.items c.code.inside.span c.code.inside.ty c.args.code.now c.node_writes.result c.any_writes.result own c.code.invariant.named c.code.invariant.fit c.code.view_is stands
+    (tree_tells c.args.writing.now.keys (calls_public known c.args.own.now) G B f c.code.inside.op c.code.inside.parts.items c.code.inside.span c.code.inside.ty c.args.code.now c.node_writes.result c.any_writes.result own c.code.invariant.fit c.code.view_is stands
     (c.node_writes.ensures known knows)
     (λ p gs s. subst (λ (qs : List Typed). TellsAll c.args.writing.now.keys (calls_public known c.args.own.now) G qs c.any_writes.result) c.deref.ensures.value
     (c.any_writes.ensures known G p gs knows own (subst (λ (qs : List Typed). StandAll G p (typeds qs) gs) (sym c.deref.ensures.value) s))))

@@ -3,5 +3,5 @@ use Rattle.cl_bound.proofs.Knowing.{begins}
 use Rattle.cl_bound.proofs.prices.Prices.new.Goals as goal
 
 pub returns-clause-shown : goal.returns-clause-shown
-returns-clause-shown c known size shows =
-    begins (record { costs = c.args.costs.now; deployed = c.args.deployed; principal = c.args.principal.now; functions = c.new.result }) c.args.principal.now known size refl c.new.ensures.empty shows
+returns-clause-shown c known version size shows =
+    begins (record { costs = c.args.costs.now; deployed = c.args.deployed; principal = c.args.principal.now; functions = c.new.result }) c.args.principal.now known version size refl c.new.ensures.empty shows
