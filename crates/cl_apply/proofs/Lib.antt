@@ -5,3 +5,4 @@ pub mod DefinedLaws
 pub mod EntryLaws
 pub mod MergeLaws
 pub mod PartLaws
+pub mod SequenceLaws

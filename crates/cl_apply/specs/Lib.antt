@@ -5,3 +5,5 @@ pub mod Hashes
 pub mod Reading
 pub mod Calls
 pub mod Entries
+pub mod Joining
+pub mod Definedness

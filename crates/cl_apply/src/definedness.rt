@@ -2,7 +2,7 @@
 //! in kinds, sizes and depths. A size or depth that is read and not used tells the proof alone that the
 //! value is within the limits.
 ghost use Rattle.std.specs.Prelude.{◌≡◌, ◌≢◌, ◌↔◌, ◌∷◌, [], ◌&&◌, nat_le, ◌+◌, ◌≤◌, true, false};
-ghost use Rattle.cl_values.specs.declared.native.Arity.TheVariants.{One, Two, Each};
+ghost use Rattle.cl_values.specs.declared.native.Arity.TheVariants.{One, Two, Three, Each};
 ghost use Rattle.cl_values.specs.Tree.{SomeV, ResponseV, depth_of, entries_of};
 ghost use Rattle.cl_values.specs.Computed.{Computed, Undefined, is_within, is_defined, kept};
 ghost use Rattle.cl_values.specs.Applied.{Answered};
@@ -12,12 +12,14 @@ ghost use Rattle.sha2.specs.Sha256.{sha256};
 ghost use Rattle.sha2.specs.Sha512.{sha512, sha512_256};
 ghost use Rattle.cl_values.specs.Wire.{size_of, entries_size};
 ghost use Rattle.cl_values.specs.Tuples.{is_among, merge, part_at};
+ghost use Rattle.cl_values.specs.Contents.{consensus_bytes};
 ghost use Rattle.cl_apply.specs.Added.{added_size};
 ghost use Rattle.cl_apply.specs.Calls.{call_value};
 ghost use Rattle.cl_values.specs.Sequences.{append, concat, element_at, index_of, within_length};
 
 use crate::NativeCall;
 use crate::rows::{read_each, read_one, read_two};
+use crate::sequence_definedness::{replaces, slices};
 use cl_seq::{try_len, try_within};
 use cl_types::Name;
 use cl_values::{Arity, Kind, Native, NoValue, Val, Value, size_up_to};
@@ -254,6 +256,13 @@ fn has_key(key: &Name, value: &Val) -> bool
     }
 }
 
+/// `to-consensus-buff?`
+fn is_spelled(value: &Val) -> bool
+    ensures { result ≡ is_defined (kept (consensus_bytes (value.now ∷ []))) }
+{
+    value.size() + 6 <= Val::MOST_SIZE
+}
+
 /// A native of one argument.
 #[tactic(auto, unfolding(cl_values::specs::Natives::native_value))]
 fn is_defined_at_one(native: Native, value: &Val) -> bool
@@ -265,6 +274,7 @@ fn is_defined_at_one(native: Native, value: &Val) -> bool
         Native::MakeSome | Native::MakeOk | Native::MakeErr => wraps(value),
         Native::UnwrapPanic => has_part(value),
         Native::UnwrapErrPanic => has_err_part(value),
+        Native::ToConsensusBuff => is_spelled(value),
         _ => is_found(read_one(native, value)),
     }
 }
@@ -280,9 +290,23 @@ fn is_defined_at_two(native: Native, first: &Val, second: &Val) -> bool
         Native::Merge => merges(first, second),
         Native::Append => appends(first, second),
         Native::Concat => concats(first, second),
-        Native::ElementAt => has_entry(first, second),
-        Native::IndexOf => has_places(first, second),
+        Native::ElementAt | Native::EntryAt => has_entry(first, second),
+        Native::IndexOf | Native::PlaceOf => has_places(first, second),
         _ => is_found(read_two(native, first, second)),
+    }
+}
+
+/// A native of three arguments.
+#[tactic(auto, unfolding(cl_values::specs::Natives::native_value))]
+fn is_defined_at_three(native: Native, first: &Val, second: &Val, third: &Val) -> bool
+    requires { arity_of (value_row_of native) ≡ Three }
+    ensures { result ≡ is_defined
+        (kept (native_value native (first.now ∷ second.now ∷ third.now ∷ []))) }
+{
+    match native {
+        Native::Slice => slices(first, second, third),
+        Native::ReplaceAt => replaces(first, second, third),
+        _ => unreachable!(),
     }
 }
 
@@ -310,6 +334,10 @@ fn is_native_defined(native: Native, arguments: &[Val]) -> bool
         },
         Arity::Two => match arguments {
             [first, second] => is_defined_at_two(native, first, second),
+            _ => false,
+        },
+        Arity::Three => match arguments {
+            [first, second, third] => is_defined_at_three(native, first, second, third),
             _ => false,
         },
         Arity::Each => is_defined_at_each(native, arguments),

@@ -2,8 +2,11 @@
 #![tactic(auto)]
 
 mod arguments;
+mod bits;
 mod call;
+mod content;
 mod definedness;
+mod depths;
 mod equality;
 mod hashes;
 mod numbers;
@@ -11,6 +14,7 @@ mod optionals;
 mod pairs;
 mod refusal;
 mod rows;
+mod sequence_definedness;
 
 pub use call::{NativeCall, apply, try_apply};
 pub use definedness::defined;

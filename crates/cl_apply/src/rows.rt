@@ -1,6 +1,6 @@
 //! Each native by its row.
 ghost use Rattle.std.specs.Prelude.{◌≡◌, ◌∷◌, [], true};
-ghost use Rattle.cl_values.specs.declared.native.Arity.TheVariants.{One, Two, Each};
+ghost use Rattle.cl_values.specs.declared.native.Arity.TheVariants.{One, Two, Three, Each};
 ghost use Rattle.cl_values.specs.Tree.{UintV};
 ghost use Rattle.cl_values.specs.Computed.{Computed, Gives};
 ghost use Rattle.cl_values.specs.Applied.{Answered, Applied};
@@ -9,7 +9,9 @@ ghost use Rattle.cl_values.specs.Sequences.{length_of, element_at, index_of, opt
 ghost use Rattle.cl_apply.specs.Entries.{as_optional};
 ghost use Rattle.cl_apply.specs.Reading.{is_read};
 
-use crate::arguments::{both, only};
+use crate::arguments::{both, only, three};
+use crate::bits::{Joining, complement, joined, shifted_left, shifted_right};
+use crate::content::{after, before, no_earlier, no_later, part_between, replaced, wire_of};
 use crate::equality::equality;
 use crate::hashes::{Hash, digest};
 use crate::numbers::{Folded, difference, from_left};
@@ -66,6 +68,7 @@ pub(crate) fn read_one(native: Native, value: &Val) -> Result<Val, NoValue>
         Native::IsOk => is_ok(value),
         Native::IsErr => is_err(value),
         Native::Len => count(value),
+        Native::BitNot => complement(value),
         _ => unreachable!(),
     }
 }
@@ -85,6 +88,7 @@ fn apply_one(alloc: Global, native: Native, value: Val) -> Result<Val, Fault<NoV
         Native::MakeErr => response(alloc, false, value),
         Native::UnwrapPanic => unwrap_panic(value),
         Native::UnwrapErrPanic => unwrap_err_panic(value),
+        Native::ToConsensusBuff => wire_of(alloc, &value),
         _ => answer(read_one(native, &value)),
     }
 }
@@ -99,7 +103,7 @@ fn optional(alloc: Global, found: Option<Val>) -> Result<Val, Fault<NoValue>>
     }
 }
 
-fn found_value(alloc: Global, found: Option<Option<Val>>) -> Result<Val, Fault<NoValue>>
+pub(crate) fn found_value(alloc: Global, found: Option<Option<Val>>) -> Result<Val, Fault<NoValue>>
     ensures { Applied (as_optional found) result }
 {
     match found {
@@ -151,6 +155,12 @@ pub(crate) fn read_two(native: Native, first: &Val, second: &Val) -> Result<Val,
         Native::AtMost => at_most(first, second),
         Native::Greater => greater(first, second),
         Native::AtLeast => at_least(first, second),
+        Native::ContentLess => before(first, second),
+        Native::ContentAtMost => no_later(first, second),
+        Native::ContentGreater => after(first, second),
+        Native::ContentAtLeast => no_earlier(first, second),
+        Native::ShiftLeft => shifted_left(first, second),
+        Native::ShiftRight => shifted_right(first, second),
         _ => unreachable!(),
     }
 }
@@ -166,9 +176,28 @@ fn apply_two(alloc: Global, native: Native, first: Val, second: Val) -> Result<V
         Native::Merge => try_merge(alloc, first, second),
         Native::Append => try_append(first, second),
         Native::Concat => try_concat(first, second),
-        Native::ElementAt => entry_at(alloc, first, &second),
-        Native::IndexOf => place_of(alloc, &first, &second),
+        Native::ElementAt | Native::EntryAt => entry_at(alloc, first, &second),
+        Native::IndexOf | Native::PlaceOf => place_of(alloc, &first, &second),
         _ => answer(read_two(native, &first, &second)),
+    }
+}
+
+/// A native of three arguments.
+#[tactic(auto, unfolding(cl_values::specs::Natives::native_value))]
+fn apply_three(
+    alloc: Global,
+    native: Native,
+    first: Val,
+    second: &Val,
+    third: Val,
+) -> Result<Val, Fault<NoValue>>
+    requires { arity_of (value_row_of native) ≡ Three }
+    ensures { Applied (native_value native (first ∷ second.now ∷ third ∷ [])) result }
+{
+    match native {
+        Native::Slice => part_between(alloc, first, second, &third),
+        Native::ReplaceAt => replaced(alloc, first, second, third),
+        _ => unreachable!(),
     }
 }
 
@@ -185,6 +214,9 @@ pub(crate) fn read_each(native: Native, values: &[Val]) -> Result<Val, NoValue>
         Native::Multiply => from_left(Folded::Product, values),
         Native::Divide => from_left(Folded::Quotient, values),
         Native::Same => equality(values),
+        Native::BitAnd => joined(Joining::And, values),
+        Native::BitOr => joined(Joining::Or, values),
+        Native::BitXor => joined(Joining::Xor, values),
         _ => unreachable!(),
     }
 }
@@ -225,6 +257,10 @@ pub fn apply_native(
         },
         Arity::Two => match both(arguments) {
             Some((first, second)) => apply_two(alloc, native, first, second),
+            None => Err(Fault::Refused(NoValue::Undefined)),
+        },
+        Arity::Three => match three(arguments) {
+            Some((first, second, third)) => apply_three(alloc, native, first, &second, third),
             None => Err(Fault::Refused(NoValue::Undefined)),
         },
         Arity::Each => apply_each(alloc, native, arguments),

@@ -1,6 +1,7 @@
 //! Other contracts, and what is called of them.
-ghost use Rattle.std.specs.Prelude.{◌≡◌, [], option_map, option_and_then, IfSome};
+ghost use Rattle.std.specs.Prelude.{◌≡◌, [], true, option_map, option_and_then, IfSome};
 ghost use Rattle.cl_values.specs.Valid.{IsPrincipal};
+ghost use Rattle.cl_code.specs.Typed.{goes_by};
 ghost use Rattle.cl_contracts.specs.Seen.{AreIndexed, IsIndexed, forms_of, function_seen, deployed_seen};
 ghost use Rattle.cl_events.specs.State.{is_principal};
 ghost use Rattle.cl_forms.specs.Shapes.{beside};
@@ -100,7 +101,9 @@ pub fn contract_there<'a>(context: &'a Context, principal: &Principal) -> Option
 
 /// A function of a contract that other contracts may call.
 pub fn callable<'a>(checked: &'a Checked, name: &Name) -> Option<&'a Function>
-    ensures { IsIndexed checked.now → option_map (λ f. function_seen f.now) result ≡ option_and_then callable (function_in name.now (forms_of checked.now)) }
+    ensures seen { IsIndexed checked.now → option_map (λ f. function_seen f.now) result ≡ option_and_then callable (function_in name.now (forms_of checked.now)) }
+    ensures goes { IsIndexed checked.now →
+        IfSome result (λ f. goes_by checked.now.version f.now.body ≡ true) }
 {
     match checked.function(name) {
         Some(function) => match function.access {

@@ -9,6 +9,8 @@ use Rattle.cl_shapes.specs.declared.cost.Dimension.{Dimension}
 use Rattle.cl_sexpr.specs.declared.rule.Rule.{Rule}
 use Rattle.cl_sexpr.specs.declared.rule.Rule.TheVariants.{BoundTooLarge}
 use Rattle.cl_sexpr.specs.declared.sexpr.Span.{Span}
+use Rattle.cl_forms.specs.declared.version.Version.{Version}
+use Rattle.cl_forms.specs.Texts.{Text, text_of}
 use Rattle.cl_forms.specs.Forms.{Form}
 use Rattle.cl_events.specs.State.{State}
 use Rattle.cl_events.specs.declared.event.Event.{Event}
@@ -48,29 +50,30 @@ use Rattle.cl_engine.specs.Deploying.{Constants, IsBounded, IsChecked, IsDone, I
 use Rattle.cl_engine.proofs.Knowing.{known_push, standing_push, types_told}
 
 -- a bound above the limit is the first break
-pub above_breaks : (known : List Known) (p : Principal) (table : CostTable) (source : List ℕ) (forms : List Form) (order : List ℕ) (defined : Defined) (dimension : Dimension) (rule : Rule) (span : Span) (names : List (List ℕ)) → TypedAs known p source forms order defined → NoneWrites known p forms →
-    rule ≡ BoundTooLarge dimension → names ≡ [] → IsFirstAboveLimit defined forms order table dimension span → FirstBreakOf known p table source rule span names
-above_breaks known p table source forms order defined d rule span names typed none r n (inl first) = in_bounds forms order defined d typed none first r n
-above_breaks known p table source forms order defined d rule span names typed none r n (inr above) = in_deployment forms order defined d typed none above.0 r above.1 n
+pub above_breaks : (known : List Known) (p : Principal) (table : CostTable) (text : Text) (forms : List Form) (order : List ℕ) (defined : Defined) (dimension : Dimension) (rule : Rule) (span : Span) (names : List (List ℕ)) → TypedAs known p text forms order defined → NoneWrites known p forms →
+    rule ≡ BoundTooLarge dimension → names ≡ [] → IsFirstAboveLimit defined forms order table dimension span → FirstBreakOf known p table text rule span names
+above_breaks known p table text forms order defined d rule span names typed none r n (inl first) = in_bounds forms order defined d typed none first r n
+above_breaks known p table text forms order defined d rule span names typed none r n (inr above) = in_deployment forms order defined d typed none above.0 r above.1 n
 
--- what the checker gives is a contract that stands for the source
-pub checked_so : (es : Contracts) (q p : Principal) (source : List ℕ) (c : Checked) → q ≡ p → c.principal ≡ q → c.source_length ≡ length source → IsIndexed c →
-    ((known : List Known) → AreStanding [] es known → (defined : Defined) × TypedAs known q source (forms_of c) c.order.items defined × NoneWrites known q (forms_of c) × AllStand (nothing_defined known q (length source)) (definitions_in_order c) defined) →
-    IsChecked es p source c
-checked_so es q p source c same principal size indexed found = record {
+-- what the checker gives is a contract that stands for the text
+pub checked_so : (es : Contracts) (q p : Principal) (text : Text) (c : Checked) → q ≡ p → c.principal ≡ q → c.version ≡ text.version → c.source_length ≡ length text.bytes → IsIndexed c →
+    ((known : List Known) → AreStanding [] es known → (defined : Defined) × TypedAs known q text (forms_of c) c.order.items defined × NoneWrites known q (forms_of c) × AllStand (nothing_defined known q text.version (length text.bytes)) (definitions_in_order c) defined) →
+    IsChecked es p text c
+checked_so es q p text c same principal version size indexed found = record {
   principal_is = principal ∙ same;
+  version = version;
   size = size;
   indexed = indexed;
   found = λ known knows.
       let f = found known knows in (
         f.0,
-        subst (λ r. TypedAs known r source (forms_of c) c.order.items f.0) same f.1,
+        subst (λ r. TypedAs known r text (forms_of c) c.order.items f.0) same f.1,
         subst (λ r. NoneWrites known r (forms_of c)) same f.2,
-        subst (λ (n : Principal × ℕ). AllStand (nothing_defined known n.0 n.1) (definitions_in_order c) f.0) (λ i. (sym principal i, sym size i)) f.3,
+        subst (λ (n : Principal × (Version × ℕ)). AllStand (nothing_defined known n.0 n.1.0 n.1.1) (definitions_in_order c) f.0) (λ i. (sym principal i, (sym version i, sym size i))) f.3,
       );
 }
 
-module _ (costs : List CostFn) (es : Contracts) (s : State) (height : ℕ) (common : Common) (name source : List ℕ) (known : List Known) (sound : IsSoundWith es (seen s (contracts_seen es) height costs) known) where
+module _ (costs : List CostFn) (es : Contracts) (s : State) (height : ℕ) (common : Common) (name source : List ℕ) (version : Version) (known : List Known) (sound : IsSoundWith es (seen s (contracts_seen es) height costs) known) where
   abbrev before : Seen
   before = seen s (contracts_seen es) height costs
 
@@ -80,11 +83,14 @@ module _ (costs : List CostFn) (es : Contracts) (s : State) (height : ℕ) (comm
   abbrev p : Principal
   p = contract_of common.sender name
 
+  abbrev text : Text
+  text = text_of source version
+
   abbrev entry : Entry
-  entry = Deploy common name source
+  entry = Deploy common name source version
 
   -- nothing changes
-  stays : (r : TxResult) → DeploySteps (function_of costs) node common p source (record { node = node; result = r }) → MakesWith known before entry r es before
+  stays : (r : TxResult) → DeploySteps (function_of costs) node common p text (record { node = node; result = r }) → MakesWith known before entry r es before
   stays r steps = record { now = known; trees = sound.trees; forms = sound.forms; steps = steps }
 
   -- a contract of this name is deployed
@@ -92,25 +98,25 @@ module _ (costs : List CostFn) (es : Contracts) (s : State) (height : ℕ) (comm
   name_is_taken k there r is = stays r (name_taken k there (λ i. record { node = node; result = is i }))
 
   -- the source breaks a rule
-  pub source_is_refused : (rule : Rule) (span : Span) (names : List (List ℕ)) → known_at p known ≡ None → FirstBreakOf known p (function_of costs) source rule span names →
+  pub source_is_refused : (rule : Rule) (span : Span) (names : List (List ℕ)) → known_at p known ≡ None → FirstBreakOf known p (function_of costs) text rule span names →
       (r : TxResult) → r ≡ result_of nothing_told (Refused (ContractRefused (record { rule = rule; span = span; names = names }))) None [] → MakesWith known before entry r es before
   source_is_refused rule span names new first r is = stays r (source_refused rule span names new first (λ i. record { node = node; result = is i }))
 
-  module _ (c : Checked) (checked : IsChecked es p source c) where
-    abbrev found : (defined : Defined) × TypedAs known p source (forms_of c) c.order.items defined × NoneWrites known p (forms_of c) × StandsAfter known c defined
+  module _ (c : Checked) (checked : IsChecked es p text c) where
+    abbrev found : (defined : Defined) × TypedAs known p text (forms_of c) c.order.items defined × NoneWrites known p (forms_of c) × StandsAfter known c defined
     found = checked.found known sound.trees
 
     -- a bound is above the limit
     pub bound_is_refused : (dimension : Dimension) (rule : Rule) (span : Span) (names : List (List ℕ)) → known_at p known ≡ None → rule ≡ BoundTooLarge dimension → names ≡ [] → IsFirstAboveLimit found.0 (forms_of c) c.order.items (function_of costs) dimension span →
         (r : TxResult) → r ≡ result_of nothing_told (Refused (ContractRefused (record { rule = rule; span = span; names = names }))) None [] → MakesWith known before entry r es before
     bound_is_refused dimension rule span names new rule_is no_names above r is =
-        source_is_refused rule span names new (above_breaks known p (function_of costs) source (forms_of c) c.order.items found.0 dimension rule span names found.1 found.2 rule_is no_names above) r is
+        source_is_refused rule span names new (above_breaks known p (function_of costs) text (forms_of c) c.order.items found.0 dimension rule span names found.1 found.2 rule_is no_names above) r is
 
     module _ (bounds : Bounds) (bounded : IsBounded (function_of costs) es c bounds) where
       abbrev within : Bounded found.0 (forms_of c) (function_of costs) × ((told_of (function_of costs) found.0 (forms_of c)).bounds ≡ Some bounds)
       within = bounded.found known sound.trees found.0 found.3
 
-      abbrev accepted : Accepted known p (function_of costs) source
+      abbrev accepted : Accepted known p (function_of costs) text
       accepted = record { forms = forms_of c; order = c.order.items; defined = found.0; typed = found.1; none_writes = found.2; bounded = within.0 }
 
       abbrev told : Told
@@ -121,7 +127,7 @@ module _ (costs : List CostFn) (es : Contracts) (s : State) (height : ℕ) (comm
 
       -- what the limit leaves of the deployment
       abbrev left : Limited Contract
-      left = limited (function_of costs) (purse_of common) (deployment (contracts_seen es) (frame_of node common.sender p) (contract_deployed p source (forms_of c)) s)
+      left = limited (function_of costs) (purse_of common) (deployment (contracts_seen es) (frame_of node common.sender p) (contract_deployed p text (forms_of c)) s)
 
       abbrev left_in : Frame → Limited Contract
       left_in F = limited (function_of costs) (purse_of common) (deployment (contracts_seen es) F (contract_with c []) s)
@@ -130,7 +136,7 @@ module _ (costs : List CostFn) (es : Contracts) (s : State) (height : ℕ) (comm
       frame q = record { contract = q; sender = person common.sender; caller = person common.sender; height = height }
 
       pub same_left : (F : Frame) → F ≡ frame c.principal → left_in F ≡ left
-      same_left F is = λ i. limited (function_of costs) (purse_of common) (deployment (contracts_seen es) ((is ∙ ap frame checked.principal_is) i) (record { principal = checked.principal_is i; forms = forms_of c; source_length = checked.size i; constants = [] }) s)
+      same_left F is = λ i. limited (function_of costs) (purse_of common) (deployment (contracts_seen es) ((is ∙ ap frame checked.principal_is) i) (record { principal = checked.principal_is i; version = checked.version i; forms = forms_of c; source_length = checked.size i; constants = [] }) s)
 
       -- what is told is what the bounds and the typed functions tell
       pub same_told : DefinedAsKept → told ≡ told_with bounds c.definitions.items
@@ -146,21 +152,22 @@ module _ (costs : List CostFn) (es : Contracts) (s : State) (height : ℕ) (comm
         known = known;
         node = record { contracts = sound.sound.contracts; kept = sound.sound.kept };
         new = subst (λ q. known_at q known ≡ None) (sym checked.principal_is) new;
-        text = source;
+        text = text;
         accepted = record {
           forms = forms_of c;
           order = c.order.items;
           defined = found.0;
-          typed = subst (λ q. TypedAs known q source (forms_of c) c.order.items found.0) (sym checked.principal_is) found.1;
+          typed = subst (λ q. TypedAs known q text (forms_of c) c.order.items found.0) (sym checked.principal_is) found.1;
           none_writes = subst (λ q. NoneWrites known q (forms_of c)) (sym checked.principal_is) found.2;
           bounded = within.0;
         };
         forms = refl;
         order = refl;
+        version = checked.version;
         size = checked.size;
       }
 
-      steps_so : (z : Stepped) → known_at p known ≡ None → deployment_ended common node told one left ≡ Some z → DeploySteps (function_of costs) node common p source z
+      steps_so : (z : Stepped) → known_at p known ≡ None → deployment_ended common node told one left ≡ Some z → DeploySteps (function_of costs) node common p text z
       unfolding run_deployment
       steps_so z new ended = evaluated new accepted ended
 
@@ -192,7 +199,7 @@ module _ (costs : List CostFn) (es : Contracts) (s : State) (height : ℕ) (comm
       pub constants_so : DeployedHaveConstants → ConstantsAsKept → HasParts entry → known_at p known ≡ None → (cost : Cost5) (constants : Constants) (events : List Event) (after : State) → IsDone common left c cost constants.entries events after → AreConstants (put constants).1
       constants_so law kept parts new cost constants events after done = record {
         each = λ x v h.
-            let u = law (function_of costs) node common name source parts sound.sound new accepted (contract_with c constants.entries) done.state done.purse done.gave x v h in
+            let u = law (function_of costs) node common name source version parts sound.sound new accepted (contract_with c constants.entries) done.state done.purse done.gave x v h in
             is_constant x c u.type v (sym (kept known c found.0 checked.indexed found.3 x) ∙ u.there) u.typed.typed;
       }
 
@@ -208,7 +215,7 @@ module _ (costs : List CostFn) (es : Contracts) (s : State) (height : ℕ) (comm
             (subst (λ k. AreKnown [] (contracts_seen es ++ contract_with c constants.entries ∷ []) (known ++ k ∷ [])) same_known
             (known_push [] (contracts_seen es) known (contract_with c constants.entries) (forms_at (forms_of c) c.order.items) found.0 sound.forms
             (ap (forms_by (forms_of c)) found.1.is_ordered.order_is)
-            (subst (λ (n : Principal × ℕ). FormsTyped (nothing_defined known n.0 n.1) (forms_at (forms_of c) c.order.items) found.0) (λ i. (sym checked.principal_is i, sym checked.size i)) found.1.are_typed)));
+            (subst (λ (n : Principal × (Version × ℕ)). FormsTyped (nothing_defined known n.0 n.1.0 n.1.1) (forms_at (forms_of c) c.order.items) found.0) (λ i. (sym checked.principal_is i, (sym checked.version i, sym checked.size i))) found.1.are_typed)));
         steps = steps_so (record { node = node_with (known ++ one ∷ []) (seen after (contracts_seen (es ++ put constants ∷ [])) height costs); result = r }) new
             (ap (deployment_ended common node told one) done.gave
             ∙ (λ i. Some (settled_by (done.passes i) node (with_contract node (contract_with c constants.entries) one) told Done done.purse.spent done.state))

@@ -43,7 +43,7 @@ one_known : OneEnd → (before : List Known) (cs : List Contract) (a b : List Kn
 one_known one before [] a b h k = sym h ∙ k
 one_known one before (c ∷ cs) a b h k =
     let forms : k.0 ≡ h.0 = same_forms (in_order c.forms) k.0 h.0 k.2 h.2 in
-    let defined : k.1 ≡ h.1 = one (nothing_defined before c.principal c.source_length) k.1 h.1 h.0 (subst (λ fs. FormsTyped (nothing_defined before c.principal c.source_length) fs k.1) forms k.3) h.3 in
+    let defined : k.1 ≡ h.1 = one (nothing_defined before c.principal c.version c.source_length) k.1 h.1 h.0 (subst (λ fs. FormsTyped (nothing_defined before c.principal c.version c.source_length) fs k.1) forms k.3) h.3 in
     one_known one (before ++ known_of c.principal c.source_length h.1 ∷ []) cs a b h.4
     (subst (λ (D : Defined). AreKnown (before ++ known_of c.principal c.source_length D ∷ []) cs b) defined k.4)
 
@@ -52,12 +52,12 @@ one_node one n a b h k = h.is ∙ ap (λ ks. node_with ks n) (one_known one [] n
 
 -- ---- one more contract
 
-pub known_push : (before : List Known) (cs : List Contract) (after : List Known) (c : Contract) (forms : List Form) (defined : Defined) → AreKnown before cs after → in_order c.forms ≡ Some forms → FormsTyped (nothing_defined after c.principal c.source_length) forms defined →
+pub known_push : (before : List Known) (cs : List Contract) (after : List Known) (c : Contract) (forms : List Form) (defined : Defined) → AreKnown before cs after → in_order c.forms ≡ Some forms → FormsTyped (nothing_defined after c.principal c.version c.source_length) forms defined →
     AreKnown before (cs ++ c ∷ []) (after ++ known_of c.principal c.source_length defined ∷ [])
 known_push before [] after c forms defined h order typed = subst (λ ks. AreKnown ks (c ∷ []) (after ++ known_of c.principal c.source_length defined ∷ [])) (sym h) (forms, defined, order, typed, refl)
 known_push before (d ∷ cs) after c forms defined h order typed = (h.0, h.1, h.2, h.3, known_push (before ++ known_of d.principal d.source_length h.1 ∷ []) cs after c forms defined h.4 order typed)
 
-pub standing_push : (before : List Known) (es : List (Principal × ContractOfCode)) (after : List Known) (e : Principal × ContractOfCode) (defined : Defined) → AreStanding before es after → AllStand (nothing_defined after e.0 e.1.checked.source_length) (definitions_in_order e.1.checked) defined →
+pub standing_push : (before : List Known) (es : List (Principal × ContractOfCode)) (after : List Known) (e : Principal × ContractOfCode) (defined : Defined) → AreStanding before es after → AllStand (nothing_defined after e.0 e.1.checked.version e.1.checked.source_length) (definitions_in_order e.1.checked) defined →
     AreStanding before (es ++ e ∷ []) (after ++ known_of e.0 e.1.checked.source_length defined ∷ [])
 standing_push before [] after e defined h stands = subst (λ ks. AreStanding ks (e ∷ []) (after ++ known_of e.0 e.1.checked.source_length defined ∷ [])) (sym h) (defined, stands, refl)
 standing_push before (d ∷ es) after e defined h stands = (h.0, h.1, standing_push (before ++ known_of d.0 d.1.checked.source_length h.0 ∷ []) es after e defined h.2 stands)

@@ -18,13 +18,13 @@ use Rattle.cl_engine.specs.Within.{IsChargedWithin, GivesTyped}
 
 module _ (n : Seen) (known : List Known) (are : AreKnown [] n.contracts known) (N : IsSoundNode (costs_of n) (node_with known n)) (s : Stepped) where
   charged_by : CallsStayWithin → DeploymentsStayWithin → (entry : Entry) → HasParts entry → Steps (costs_of n) (node_with known n) entry s → IsChargedWithin n entry s.result
-  charged_by calls deployments (Deploy common name source) parts x = λ cost bounds c b. deployments (costs_of n) (node_with known n) common name source s parts N x cost bounds c b
+  charged_by calls deployments (Deploy common name source version) parts x = λ cost bounds c b. deployments (costs_of n) (node_with known n) common name source version s parts N x cost bounds c b
   charged_by calls deployments (Call common contract function args) parts x = λ cost c.
       record { known = known; are_known = are; within = calls (costs_of n) (node_with known n) common contract function args s parts N x cost c }
   charged_by calls deployments (Block height) parts x = ap (λ (s : Stepped). s.result.cost) x
 
   typed_by : CallsAreTyped → (entry : Entry) → HasParts entry → Steps (costs_of n) (node_with known n) entry s → GivesTyped n entry s.result
-  typed_by law (Deploy common name source) parts x = tt
+  typed_by law (Deploy common name source version) parts x = tt
   typed_by law (Call common contract function args) parts x = λ v is. record { known = known; are_known = are; typed = law (costs_of n) (node_with known n) common contract function args s parts N x v is }
   typed_by law (Block height) parts x = tt
 

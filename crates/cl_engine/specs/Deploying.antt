@@ -9,6 +9,7 @@ use Rattle.cl_types.specs.declared.fault.Fault.TheVariants.{Refused}
 use Rattle.cl_c32.specs.declared.principal.Principal.{Principal}
 use Rattle.cl_shapes.specs.declared.cost.Cost5.{Cost5}
 use Rattle.cl_shapes.specs.Limits.{Purse}
+use Rattle.cl_forms.specs.Texts.{Text}
 use Rattle.cl_values.specs.Tree.{Tree as Val}
 use Rattle.cl_events.specs.State.{State, at_rest}
 use Rattle.cl_events.specs.declared.event.Event.{Event}
@@ -49,12 +50,13 @@ pub record IsNew (contracts : Contracts) (principal : Principal) : Type 0 where
   pub none : contract_under principal contracts ≡ None
   pub none_seen : contract_at principal (contracts_seen contracts) ≡ None
 
--- a contract of this principal stands for a source that breaks no rule before the bounds
-pub record IsChecked (contracts : Contracts) (principal : Principal) (source : List ℕ) (c : Checked) : Type 0 where
+-- a contract of this principal stands for a text that breaks no rule before the bounds
+pub record IsChecked (contracts : Contracts) (principal : Principal) (text : Text) (c : Checked) : Type 0 where
   pub principal_is : c.principal ≡ principal
-  pub size : c.source_length ≡ length source
+  pub version : c.version ≡ text.version
+  pub size : c.source_length ≡ length text.bytes
   pub indexed : IsIndexed c
-  pub found : (known : List Known) → AreStanding [] contracts known → (defined : Defined) × TypedAs known principal source (forms_of c) c.order.items defined × NoneWrites known principal (forms_of c) × StandsAfter known c defined
+  pub found : (known : List Known) → AreStanding [] contracts known → (defined : Defined) × TypedAs known principal text (forms_of c) c.order.items defined × NoneWrites known principal (forms_of c) × StandsAfter known c defined
 
 -- and its bounds are within the limit, and these
 pub record IsBounded (costs : Costs) (contracts : Contracts) (c : Checked) (bounds : Bounds) : Type 0 where

@@ -14,7 +14,7 @@ use Rattle.cl_engine.specs.Seen.{Seen, node_with}
 abbrev pub AreKnown : List Known → List Contract → List Known → Type 0
 AreKnown before [] after = before ≡ after
 AreKnown before (c ∷ cs) after =
-    (forms : List Form) × (defined : Defined) × (in_order c.forms ≡ Some forms) × FormsTyped (nothing_defined before c.principal c.source_length) forms defined
+    (forms : List Form) × (defined : Defined) × (in_order c.forms ≡ Some forms) × FormsTyped (nothing_defined before c.principal c.version c.source_length) forms defined
     × AreKnown (before ++ known_of c.principal c.source_length defined ∷ []) cs after
 
 -- a node as the step speaks of it, which has besides what callers know of its contracts

@@ -6,3 +6,4 @@ pub mod Laws
 pub mod Sound
 pub mod Within
 pub mod Deploying
+pub mod Contents

@@ -28,12 +28,12 @@ pub record IsCallTyped (n : Seen) (contract : Principal) (function : List ℕ) (
 -- What is charged, aborted or not: of a call at most the bound of its function, of a deployment at most the bound that is told
 -- with it, of a block nothing.
 abbrev pub IsChargedWithin : Seen → Entry → TxResult → Type 0
-IsChargedWithin n (Deploy common name source) r = (cost : Cost5) (bounds : Bounds) → r.cost ≡ Some cost → r.bounds ≡ Some bounds → IsAtMost cost bounds.deploy
+IsChargedWithin n (Deploy common name source version) r = (cost : Cost5) (bounds : Bounds) → r.cost ≡ Some cost → r.bounds ≡ Some bounds → IsAtMost cost bounds.deploy
 IsChargedWithin n (Call common contract function args) r = (cost : Cost5) → r.cost ≡ Some cost → IsCallWithin n contract function cost
 IsChargedWithin n (Block height) r = r.cost ≡ None
 
 -- what a call gives, an ok and an err as responses, is of the type that its function returns
 abbrev pub GivesTyped : Seen → Entry → TxResult → Type 0
 GivesTyped n (Call common contract function args) r = (v : Tree) → given_by r.outcome ≡ Some v → IsCallTyped n contract function v
-GivesTyped n (Deploy common name source) r = Unit {0}
+GivesTyped n (Deploy common name source version) r = Unit {0}
 GivesTyped n (Block height) r = Unit {0}

@@ -2,32 +2,29 @@
 ghost use Rattle.std.specs.Prelude.{◌≡◌, ◌<◌, [], IfOk, OnErr};
 ghost use Rattle.indexmap.specs.IndexMap.{spare};
 ghost use Rattle.cl_costs.specs.Tables.{function_of};
-ghost use Rattle.cl_contracts.specs.Seen.{AreIndexed, deployed_seen};
+ghost use Rattle.cl_contracts.specs.Seen.{AreIndexed};
 ghost use Rattle.cl_node_sound.specs.Sound.{HasParts};
-ghost use Rattle.cl_file.specs.declared.entry.Entry.TheVariants.{Deploy};
-ghost use Rattle.cl_tx.specs.Nodes.{contract_of, nothing_told, result_of};
+ghost use Rattle.cl_tx.specs.Nodes.{nothing_told, result_of};
 ghost use Rattle.cl_tx.specs.declared.outcome.EntryRefusal.TheVariants.{ContractRefused};
 ghost use Rattle.cl_tx.specs.declared.outcome.Outcome.TheVariants.{Refused};
-ghost use Rattle.cl_bound.specs.Known.{AreBounds, AreBoundsOf, HasRoom};
-ghost use Rattle.cl_engine.specs.Seen.{seen};
-ghost use Rattle.cl_engine.specs.Sound.{IsSound};
-ghost use Rattle.cl_engine.specs.Deploying.{IsBounded, IsChecked, IsNew, MakesSound, told_seen};
+ghost use Rattle.cl_bound.specs.Known.{AreBoundsOf, HasRoom};
+ghost use Rattle.cl_engine.specs.Contents.{Deploys, HasBounds, IsSoundUnder, IsUnchanged, contracts_in, entry_of, principal_of, text_in};
+ghost use Rattle.cl_engine.specs.Deploying.{IsBounded, IsChecked, IsNew, told_seen};
 
+use crate::contents::Contents;
 use crate::deployment::{Ran, run};
 use crate::frame::{frame_of, principal_of};
+use crate::request::Request;
 use crate::told::{Told, told_of};
-use cl_bound::{KnownBounds, Priced, bound};
-use cl_c32::ContractName;
+use cl_bound::{Priced, bound};
 use cl_check::check;
-use cl_contracts::{Checked, Contract, Deployed, what_callers_know};
-use cl_costs::CostTable;
+use cl_contracts::{Checked, Contract, what_callers_know};
 use cl_endings::refused;
 use cl_events::Event;
 use cl_node_sound::{constants_have_their_types, new_contracts_have_no_tokens};
 use cl_sexpr::Refusal;
 use cl_shapes::Cost5;
-use cl_state::World;
-use cl_tx::{Common, EntryRefusal, Outcome, Row, SourceRefusal, TxResult};
+use cl_tx::{EntryRefusal, Outcome, Row, SourceRefusal, TxResult};
 use cl_types::{Fault, NoMemory};
 use std::alloc::Global;
 
@@ -57,48 +54,52 @@ fn source_refused(alloc: Global, refusal: Refusal) -> TxResult
 /// Deploys a contract whose bounds are within the limit.
 fn deploy_bounded(
     alloc: Global,
-    world: &mut World,
-    deployed: &mut Deployed,
-    known: &mut KnownBounds,
-    height: u64,
-    costs: &CostTable,
-    common: &Common,
-    name: &ContractName,
-    source: &[u8],
+    contents: &mut Contents,
+    request: &Request,
     checked: Checked,
     priced: Priced,
 ) -> Result<TxResult, NoMemory>
-    requires base { world.old.stack.below ≡ [] }
-    requires room { 0 < spare deployed.old.contracts }
-    requires space { HasRoom known.old }
-    requires indexed { AreIndexed deployed.old }
-    requires known { AreBounds (function_of costs.now) deployed.old.contracts.entries known.old }
-    requires sound { IsSound deployed.old.contracts.entries (seen world.old.stack.top (deployed_seen deployed.old) height costs.now) }
-    requires parts { HasParts (Deploy common.now name.now source.now) }
-    requires new { IsNew deployed.old.contracts.entries (contract_of common.now.sender name.now) }
-    requires checked { IsChecked deployed.old.contracts.entries (contract_of common.now.sender name.now) source.now checked }
-    requires bounded { IsBounded (function_of costs.now) deployed.old.contracts.entries checked priced.bounds }
-    requires kept { AreBoundsOf (function_of costs.now) deployed.old.contracts.entries checked priced.contract }
-    ensures steps { IfOk result (λ r. MakesSound deployed.old.contracts.entries (seen world.old.stack.top (deployed_seen deployed.old) height costs.now)
-        (Deploy common.now name.now source.now) r deployed.new.contracts.entries (seen world.new.stack.top (deployed_seen deployed.new) height costs.now)) }
-    ensures base { world.new.stack.below ≡ [] }
-    ensures indexed { AreIndexed deployed.new }
-    ensures known { AreBounds (function_of costs.now) deployed.new.contracts.entries known.new }
-    ensures refused { OnErr result ((world.new.stack.top ≡ world.old.stack.top) × (deployed.new.contracts.entries ≡ deployed.old.contracts.entries)) }
+    requires base { contents.old.world.stack.below ≡ [] }
+    requires room { 0 < spare contents.old.deployed.contracts }
+    requires space { HasRoom contents.old.known }
+    requires indexed { AreIndexed contents.old.deployed }
+    requires known { HasBounds contents.old request.now }
+    requires sound { IsSoundUnder contents.old request.now }
+    requires parts { HasParts (entry_of request.now) }
+    requires new { IsNew (contracts_in contents.old) (principal_of request.now) }
+    requires checked { IsChecked (contracts_in contents.old) (principal_of request.now)
+        (text_in request.now) checked }
+    requires bounded { IsBounded (function_of request.now.costs.now) (contracts_in contents.old)
+        checked priced.bounds }
+    requires kept { AreBoundsOf (function_of request.now.costs.now) (contracts_in contents.old)
+        checked priced.contract }
+    ensures steps { IfOk result (λ r. Deploys contents.old request.now r contents.new) }
+    ensures base { contents.new.world.stack.below ≡ [] }
+    ensures indexed { AreIndexed contents.new.deployed }
+    ensures known { HasBounds contents.new request.now }
+    ensures refused { OnErr result (IsUnchanged contents.old contents.new) }
 {
     constants_have_their_types();
     new_contracts_have_no_tokens();
     what_callers_know();
     let told = told_of(alloc, &checked.definitions, priced.bounds)?;
-    let frame = frame_of(common, &checked.principal, height);
-    match run(alloc, world, deployed, common, &checked, &frame, costs)? {
+    let frame = frame_of(request.common, &checked.principal, request.height);
+    match run(
+        alloc,
+        &mut contents.world,
+        &contents.deployed,
+        request.common,
+        &checked,
+        &frame,
+        request.costs,
+    )? {
         Ran::Done {
             cost,
             constants,
             events,
         } => {
-            deployed.add(Contract { checked, constants });
-            known.add(priced.contract);
+            contents.deployed.add(Contract { checked, constants });
+            contents.known.add(priced.contract);
             Ok(result(told, Outcome::Done, cost, events))
         }
         Ran::Stopped(why, cost) => Ok(result(told, Outcome::Aborted(why), cost, Vec::new(alloc))),
@@ -109,37 +110,29 @@ fn deploy_bounded(
 /// limit.
 fn deploy_checked(
     alloc: Global,
-    world: &mut World,
-    deployed: &mut Deployed,
-    known: &mut KnownBounds,
-    height: u64,
-    costs: &CostTable,
-    common: &Common,
-    name: &ContractName,
-    source: &[u8],
+    contents: &mut Contents,
+    request: &Request,
     checked: Checked,
 ) -> Result<TxResult, NoMemory>
-    requires base { world.old.stack.below ≡ [] }
-    requires room { 0 < spare deployed.old.contracts }
-    requires space { HasRoom known.old }
-    requires indexed { AreIndexed deployed.old }
-    requires known { AreBounds (function_of costs.now) deployed.old.contracts.entries known.old }
-    requires sound { IsSound deployed.old.contracts.entries (seen world.old.stack.top (deployed_seen deployed.old) height costs.now) }
-    requires parts { HasParts (Deploy common.now name.now source.now) }
-    requires new { IsNew deployed.old.contracts.entries (contract_of common.now.sender name.now) }
-    requires checked { IsChecked deployed.old.contracts.entries (contract_of common.now.sender name.now) source.now checked }
-    ensures steps { IfOk result (λ r. MakesSound deployed.old.contracts.entries (seen world.old.stack.top (deployed_seen deployed.old) height costs.now)
-        (Deploy common.now name.now source.now) r deployed.new.contracts.entries (seen world.new.stack.top (deployed_seen deployed.new) height costs.now)) }
-    ensures base { world.new.stack.below ≡ [] }
-    ensures indexed { AreIndexed deployed.new }
-    ensures known { AreBounds (function_of costs.now) deployed.new.contracts.entries known.new }
-    ensures refused { OnErr result ((world.new.stack.top ≡ world.old.stack.top) × (deployed.new.contracts.entries ≡ deployed.old.contracts.entries)) }
+    requires base { contents.old.world.stack.below ≡ [] }
+    requires room { 0 < spare contents.old.deployed.contracts }
+    requires space { HasRoom contents.old.known }
+    requires indexed { AreIndexed contents.old.deployed }
+    requires known { HasBounds contents.old request.now }
+    requires sound { IsSoundUnder contents.old request.now }
+    requires parts { HasParts (entry_of request.now) }
+    requires new { IsNew (contracts_in contents.old) (principal_of request.now) }
+    requires checked { IsChecked (contracts_in contents.old) (principal_of request.now)
+        (text_in request.now) checked }
+    ensures steps { IfOk result (λ r. Deploys contents.old request.now r contents.new) }
+    ensures base { contents.new.world.stack.below ≡ [] }
+    ensures indexed { AreIndexed contents.new.deployed }
+    ensures known { HasBounds contents.new request.now }
+    ensures refused { OnErr result (IsUnchanged contents.old contents.new) }
 {
     what_callers_know();
-    match bound(alloc, &checked, known, costs) {
-        Ok(priced) => deploy_bounded(
-            alloc, world, deployed, known, height, costs, common, name, source, checked, priced,
-        ),
+    match bound(alloc, &checked, &contents.known, request.costs) {
+        Ok(priced) => deploy_bounded(alloc, contents, request, checked, priced),
         Err(Fault::Refused(refusal)) => Ok(source_refused(alloc, refusal)),
         Err(Fault::NoMemory) => Err(NoMemory),
     }
@@ -148,38 +141,35 @@ fn deploy_checked(
 /// Deploys a contract for which there is room, or says why not.
 fn deploy_in_room(
     alloc: Global,
-    world: &mut World,
-    deployed: &mut Deployed,
-    known: &mut KnownBounds,
-    height: u64,
-    costs: &CostTable,
-    common: &Common,
-    name: &ContractName,
-    source: &[u8],
+    contents: &mut Contents,
+    request: &Request,
 ) -> Result<TxResult, NoMemory>
-    requires base { world.old.stack.below ≡ [] }
-    requires room { 0 < spare deployed.old.contracts }
-    requires space { HasRoom known.old }
-    requires indexed { AreIndexed deployed.old }
-    requires known { AreBounds (function_of costs.now) deployed.old.contracts.entries known.old }
-    requires sound { IsSound deployed.old.contracts.entries (seen world.old.stack.top (deployed_seen deployed.old) height costs.now) }
-    requires parts { HasParts (Deploy common.now name.now source.now) }
-    ensures steps { IfOk result (λ r. MakesSound deployed.old.contracts.entries (seen world.old.stack.top (deployed_seen deployed.old) height costs.now)
-        (Deploy common.now name.now source.now) r deployed.new.contracts.entries (seen world.new.stack.top (deployed_seen deployed.new) height costs.now)) }
-    ensures base { world.new.stack.below ≡ [] }
-    ensures indexed { AreIndexed deployed.new }
-    ensures known { AreBounds (function_of costs.now) deployed.new.contracts.entries known.new }
-    ensures refused { OnErr result ((world.new.stack.top ≡ world.old.stack.top) × (deployed.new.contracts.entries ≡ deployed.old.contracts.entries)) }
+    requires base { contents.old.world.stack.below ≡ [] }
+    requires room { 0 < spare contents.old.deployed.contracts }
+    requires space { HasRoom contents.old.known }
+    requires indexed { AreIndexed contents.old.deployed }
+    requires known { HasBounds contents.old request.now }
+    requires sound { IsSoundUnder contents.old request.now }
+    requires parts { HasParts (entry_of request.now) }
+    ensures steps { IfOk result (λ r. Deploys contents.old request.now r contents.new) }
+    ensures base { contents.new.world.stack.below ≡ [] }
+    ensures indexed { AreIndexed contents.new.deployed }
+    ensures known { HasBounds contents.new request.now }
+    ensures refused { OnErr result (IsUnchanged contents.old contents.new) }
 {
     what_callers_know();
-    let principal = principal_of(common, name);
-    if deployed.find(&principal).is_some() {
+    let principal = principal_of(request.common, request.name);
+    if contents.deployed.find(&principal).is_some() {
         return Ok(refused(alloc, EntryRefusal::NameTaken));
     }
-    match check(alloc, deployed, &principal, source) {
-        Ok(checked) => deploy_checked(
-            alloc, world, deployed, known, height, costs, common, name, source, checked,
-        ),
+    match check(
+        alloc,
+        &contents.deployed,
+        &principal,
+        request.source,
+        request.version,
+    ) {
+        Ok(checked) => deploy_checked(alloc, contents, request, checked),
         Err(Fault::Refused(refusal)) => Ok(source_refused(alloc, refusal)),
         Err(Fault::NoMemory) => Err(NoMemory),
     }
@@ -188,30 +178,21 @@ fn deploy_in_room(
 /// Deploys a contract under the sender's address, or says why not.
 pub(crate) fn deploy(
     alloc: Global,
-    world: &mut World,
-    deployed: &mut Deployed,
-    known: &mut KnownBounds,
-    height: u64,
-    costs: &CostTable,
-    common: &Common,
-    name: &ContractName,
-    source: &[u8],
+    contents: &mut Contents,
+    request: &Request,
 ) -> Result<TxResult, NoMemory>
-    requires base { world.old.stack.below ≡ [] }
-    requires indexed { AreIndexed deployed.old }
-    requires known { AreBounds (function_of costs.now) deployed.old.contracts.entries known.old }
-    requires sound { IsSound deployed.old.contracts.entries (seen world.old.stack.top (deployed_seen deployed.old) height costs.now) }
-    requires parts { HasParts (Deploy common.now name.now source.now) }
-    ensures steps { IfOk result (λ r. MakesSound deployed.old.contracts.entries (seen world.old.stack.top (deployed_seen deployed.old) height costs.now)
-        (Deploy common.now name.now source.now) r deployed.new.contracts.entries (seen world.new.stack.top (deployed_seen deployed.new) height costs.now)) }
-    ensures base { world.new.stack.below ≡ [] }
-    ensures indexed { AreIndexed deployed.new }
-    ensures known { AreBounds (function_of costs.now) deployed.new.contracts.entries known.new }
-    ensures refused { OnErr result ((world.new.stack.top ≡ world.old.stack.top) × (deployed.new.contracts.entries ≡ deployed.old.contracts.entries)) }
+    requires base { contents.old.world.stack.below ≡ [] }
+    requires indexed { AreIndexed contents.old.deployed }
+    requires known { HasBounds contents.old request.now }
+    requires sound { IsSoundUnder contents.old request.now }
+    requires parts { HasParts (entry_of request.now) }
+    ensures steps { IfOk result (λ r. Deploys contents.old request.now r contents.new) }
+    ensures base { contents.new.world.stack.below ≡ [] }
+    ensures indexed { AreIndexed contents.new.deployed }
+    ensures known { HasBounds contents.new request.now }
+    ensures refused { OnErr result (IsUnchanged contents.old contents.new) }
 {
-    deployed.reserve()?;
-    known.reserve()?;
-    deploy_in_room(
-        alloc, world, deployed, known, height, costs, common, name, source,
-    )
+    contents.deployed.reserve()?;
+    contents.known.reserve()?;
+    deploy_in_room(alloc, contents, request)
 }

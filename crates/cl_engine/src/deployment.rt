@@ -52,7 +52,7 @@ fn settle(
     ensures base { world.new.stack.below ≡ [] }
     ensures refused { OnErr result (world.new.stack.top ∷ [] ≡ world.old.stack.below) }
 {
-    match failing(world, common) {
+    match failing(alloc, world, common) {
         None => {
             let events = keep(alloc, world)?;
             Ok(Ran::Done {

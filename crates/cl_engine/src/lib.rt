@@ -2,6 +2,7 @@
 #![tactic(auto)]
 
 mod call;
+mod contents;
 mod deploy;
 mod deployment;
 mod frame;
@@ -9,6 +10,7 @@ mod laws;
 mod lookup;
 mod node;
 mod parts;
+mod request;
 mod told;
 
 pub use laws::nodes_are_known_in_one_way;

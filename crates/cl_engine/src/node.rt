@@ -17,8 +17,10 @@ ghost use Rattle.cl_engine.specs.Steps.{Makes};
 ghost use Rattle.cl_engine.specs.Within.{IsChargedWithin, GivesTyped};
 
 use crate::call::call;
+use crate::contents::Contents;
 use crate::deploy::deploy;
 use crate::parts::{are_holders, has_parts};
+use crate::request::Request;
 use cl_bound::KnownBounds;
 use cl_c32::Principal;
 use cl_contracts::Deployed;
@@ -36,9 +38,7 @@ use std::marker::Model;
 /// contracts are accepted and entries charged. Contracts see the state, the contracts, the height
 /// and the costs.
 pub struct Node {
-    world: World,
-    deployed: Deployed,
-    known: KnownBounds,
+    contents: Contents,
     height: u64,
     costs: CostTable,
 }
@@ -46,15 +46,11 @@ pub struct Node {
 impl Drop for Node {
     fn drop(self) {
         let Node {
-            world,
-            deployed,
-            known,
+            contents,
             height: _,
             costs: _,
         } = self;
-        drop(world);
-        drop(deployed);
-        drop(known);
+        drop(contents);
     }
 }
 
@@ -71,13 +67,15 @@ impl Model for Node {
 
     ghost coded = { seen_code };
 
-    ghost view = { λ n. seen n.world.stack.top (deployed_seen n.deployed) n.height n.costs };
+    ghost view = { λ n. seen n.contents.world.stack.top (deployed_seen n.contents.deployed) n.height
+        n.costs };
 
     ghost invariant = { λ n. record {
-      base : n.world.stack.below ≡ [];
-      indexed : AreIndexed n.deployed;
-      known : AreBounds (function_of n.costs) n.deployed.contracts.entries n.known;
-      sound : IsSound n.deployed.contracts.entries (seen n.world.stack.top (deployed_seen n.deployed) n.height n.costs);
+      base : n.contents.world.stack.below ≡ [];
+      indexed : AreIndexed n.contents.deployed;
+      known : AreBounds (function_of n.costs) n.contents.deployed.contracts.entries n.contents.known;
+      sound : IsSound n.contents.deployed.contracts.entries
+          (seen n.contents.world.stack.top (deployed_seen n.contents.deployed) n.height n.costs);
     } };
 }
 
@@ -109,9 +107,11 @@ impl Node {
         are_holders(holders.as_slice());
         let world = World::genesis(holders)?;
         Ok(Node {
-            world,
-            deployed: Deployed::new(alloc),
-            known: KnownBounds::new(alloc),
+            contents: Contents {
+                world,
+                deployed: Deployed::new(alloc),
+                known: KnownBounds::new(alloc),
+            },
             height: 0,
             costs: *costs,
         })
@@ -125,7 +125,7 @@ impl Node {
         ensures moves { self.now.state.moves ≡ [] }
         ensures kept { Kept self.now.contracts Whole self.now.state }
     {
-        &self.world
+        &self.contents.world
     }
 
     /// The deployed contracts.
@@ -133,7 +133,7 @@ impl Node {
         ensures seen { deployed_seen result.now ≡ self.now.contracts }
         ensures indexed { AreIndexed result.now }
     {
-        &self.deployed
+        &self.contents.deployed
     }
 
     /// The height of the block.
@@ -171,17 +171,18 @@ impl Node {
                 common,
                 name,
                 source,
-            } => deploy(
-                alloc,
-                &mut self.world,
-                &mut self.deployed,
-                &mut self.known,
-                self.height,
-                &self.costs,
-                common,
-                name,
-                source.as_slice(),
-            ),
+                version,
+            } => {
+                let request = Request {
+                    height: self.height,
+                    costs: &self.costs,
+                    common,
+                    name,
+                    source: source.as_slice(),
+                    version: *version,
+                };
+                deploy(alloc, &mut self.contents, &request)
+            }
             Entry::Call {
                 common,
                 contract,
@@ -189,8 +190,8 @@ impl Node {
                 args,
             } => call(
                 alloc,
-                &mut self.world,
-                &self.deployed,
+                &mut self.contents.world,
+                &self.contents.deployed,
                 self.height,
                 &self.costs,
                 common,

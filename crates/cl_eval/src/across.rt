@@ -9,6 +9,7 @@ ghost use Rattle.cl_frames.specs.Homes.{home_seen};
 ghost use Rattle.cl_frames.specs.Across.{IsAt};
 ghost use Rattle.cl_frames.specs.Watching.{Walks, amount};
 ghost use Rattle.cl_frames.specs.Seen.{scope, scope_of, Fits};
+ghost use Rattle.cl_frames.specs.Going.{AllGoIn};
 
 use crate::calls::enter;
 use crate::walk::evaluate_parts;
@@ -33,7 +34,8 @@ pub(crate) fn evaluate_contract_call<W: Watch>(
     meter: &mut Meter,
     watch: &mut W,
 ) -> Result<Val, Stop>
-    requires { length codes.now < 1048576 }
+    requires few { length codes.now < 1048576 }
+    requires goes { AllGoIn context.now codes.now }
     ensures meant { Fits context.now → Walks context.now meter.old (W.seen watch.old) (contract_call_form (means below) (applied below) (scope context.now names.now) (target literal.now ∷ word function.now ∷ map expression_of codes.now) world.old.stack.top) result meter.new (W.seen watch.new) world.new.stack.top }
     ensures below { world.new.stack.below ≡ world.old.stack.below }
     ensures grew { amount (W.seen watch.old) ≤ amount (W.seen watch.new) }

@@ -6,6 +6,7 @@ ghost use Rattle.cl_meaning.specs.Calls.{call_form, body_in};
 ghost use Rattle.cl_code.specs.Typed.{expression_of};
 ghost use Rattle.cl_meaning.specs.Meaning.{means, applied};
 ghost use Rattle.cl_frames.specs.Seen.{scope, scope_of, Fits};
+ghost use Rattle.cl_frames.specs.Going.{GoesIn, AllGoIn};
 ghost use Rattle.cl_frames.specs.Watching.{Walks, amount};
 
 use crate::walk::{evaluate, evaluate_parts};
@@ -30,7 +31,8 @@ pub(crate) fn evaluate_call<W: Watch>(
     meter: &mut Meter,
     watch: &mut W,
 ) -> Result<Val, Stop>
-    requires { length codes.now < 1048576 }
+    requires few { length codes.now < 1048576 }
+    requires goes { AllGoIn context.now codes.now }
     ensures meant { Fits context.now → Walks context.now meter.old (W.seen watch.old) (call_form name.now (means below) (applied below) (scope context.now names.now) (map expression_of codes.now) world.old.stack.top) result meter.new (W.seen watch.new) world.new.stack.top }
     ensures below { world.new.stack.below ≡ world.old.stack.below }
     ensures grew { amount (W.seen watch.old) ≤ amount (W.seen watch.new) }
@@ -53,7 +55,8 @@ pub fn enter<W: Watch>(
     meter: &mut Meter,
     watch: &mut W,
 ) -> Result<Val, Stop>
-    requires { length values.items < 4294967296 }
+    requires few { length values.items < 4294967296 }
+    requires goes { GoesIn context.now function.now.body }
     ensures meant { (outer : BoundValues) → Fits context.now → Walks context.now meter.old (W.seen watch.old) (applied depth (scope_of context.now outer) (OwnFunction (function_seen function.now)) values.items world.old.stack.top) result meter.new (W.seen watch.new) world.new.stack.top }
     ensures below { world.new.stack.below ≡ world.old.stack.below }
     ensures grew { amount (W.seen watch.old) ≤ amount (W.seen watch.new) }
@@ -79,6 +82,7 @@ fn evaluate_body<W: Watch>(
     meter: &mut Meter,
     watch: &mut W,
 ) -> Result<Val, Stop>
+    requires goes { GoesIn context.now function.now.body }
     ensures meant { (outer : BoundValues) → Fits context.now → Walks context.now meter.old (W.seen watch.old) (body_in (means below) (scope_of context.now outer) (function_seen function.now) names.now.values world.old.stack.top) result meter.new (W.seen watch.new) world.new.stack.top }
     ensures below { world.new.stack.below ≡ world.old.stack.below }
     ensures grew { amount (W.seen watch.old) ≤ amount (W.seen watch.new) }

@@ -5,6 +5,7 @@ ghost use Rattle.cl_meaning.specs.Tokens.{print_form};
 ghost use Rattle.cl_code.specs.Typed.{expression_of};
 ghost use Rattle.cl_meaning.specs.Meaning.{means};
 ghost use Rattle.cl_frames.specs.Seen.{scope, Fits};
+ghost use Rattle.cl_frames.specs.Going.{AllGoIn};
 ghost use Rattle.cl_frames.specs.Watching.{Walks, amount};
 
 use crate::walk::{evaluate, evaluate_parts, evaluate_thrown, evaluate_truth};
@@ -27,7 +28,8 @@ pub(crate) fn evaluate_if<W: Watch>(
     meter: &mut Meter,
     watch: &mut W,
 ) -> Result<Val, Stop>
-    requires { length codes.now ≡ 3 }
+    requires fit { length codes.now ≡ 3 }
+    requires goes { AllGoIn context.now codes.now }
     ensures meant { Fits context.now → Walks context.now meter.old (W.seen watch.old) (if_form (means below) (scope context.now names.now) (map expression_of codes.now) world.old.stack.top) result meter.new (W.seen watch.new) world.new.stack.top }
     ensures below { world.new.stack.below ≡ world.old.stack.below }
     ensures grew { amount (W.seen watch.old) ≤ amount (W.seen watch.new) }
@@ -54,7 +56,8 @@ pub(crate) fn evaluate_begin<W: Watch>(
     meter: &mut Meter,
     watch: &mut W,
 ) -> Result<Val, Stop>
-    requires { length codes.now < 1048576 }
+    requires few { length codes.now < 1048576 }
+    requires goes { AllGoIn context.now codes.now }
     ensures meant { Fits context.now → Walks context.now meter.old (W.seen watch.old) (begin_form (means below) (scope context.now names.now) (map expression_of codes.now) world.old.stack.top) result meter.new (W.seen watch.new) world.new.stack.top }
     ensures below { world.new.stack.below ≡ world.old.stack.below }
     ensures grew { amount (W.seen watch.old) ≤ amount (W.seen watch.new) }
@@ -76,6 +79,7 @@ pub(crate) fn evaluate_and<W: Watch>(
 ) -> Result<Val, Stop>
     requires few { length codes.now < 1048576 }
     requires some { 0 < length codes.now }
+    requires goes { AllGoIn context.now codes.now }
     ensures meant { Fits context.now → Walks context.now meter.old (W.seen watch.old) (and_form (means below) (scope context.now names.now) (map expression_of codes.now) world.old.stack.top) result meter.new (W.seen watch.new) world.new.stack.top }
     ensures below { world.new.stack.below ≡ world.old.stack.below }
     ensures grew { amount (W.seen watch.old) ≤ amount (W.seen watch.new) }
@@ -95,6 +99,7 @@ fn and_parts<W: Watch>(
     meter: &mut Meter,
     watch: &mut W,
 ) -> Result<Val, Stop>
+    requires goes { AllGoIn context.now codes.now }
     ensures meant { Fits context.now → Walks context.now meter.old (W.seen watch.old) (and_on (means below) (scope context.now names.now) (map expression_of codes.now) world.old.stack.top) result meter.new (W.seen watch.new) world.new.stack.top }
     ensures below { world.new.stack.below ≡ world.old.stack.below }
     ensures grew { amount (W.seen watch.old) ≤ amount (W.seen watch.new) }
@@ -120,6 +125,7 @@ pub(crate) fn evaluate_or<W: Watch>(
 ) -> Result<Val, Stop>
     requires few { length codes.now < 1048576 }
     requires some { 0 < length codes.now }
+    requires goes { AllGoIn context.now codes.now }
     ensures meant { Fits context.now → Walks context.now meter.old (W.seen watch.old) (or_form (means below) (scope context.now names.now) (map expression_of codes.now) world.old.stack.top) result meter.new (W.seen watch.new) world.new.stack.top }
     ensures below { world.new.stack.below ≡ world.old.stack.below }
     ensures grew { amount (W.seen watch.old) ≤ amount (W.seen watch.new) }
@@ -139,6 +145,7 @@ fn or_parts<W: Watch>(
     meter: &mut Meter,
     watch: &mut W,
 ) -> Result<Val, Stop>
+    requires goes { AllGoIn context.now codes.now }
     ensures meant { Fits context.now → Walks context.now meter.old (W.seen watch.old) (or_on (means below) (scope context.now names.now) (map expression_of codes.now) world.old.stack.top) result meter.new (W.seen watch.new) world.new.stack.top }
     ensures below { world.new.stack.below ≡ world.old.stack.below }
     ensures grew { amount (W.seen watch.old) ≤ amount (W.seen watch.new) }
@@ -162,7 +169,8 @@ pub(crate) fn evaluate_asserts<W: Watch>(
     meter: &mut Meter,
     watch: &mut W,
 ) -> Result<Val, Stop>
-    requires { length codes.now ≡ 2 }
+    requires fit { length codes.now ≡ 2 }
+    requires goes { AllGoIn context.now codes.now }
     ensures meant { Fits context.now → Walks context.now meter.old (W.seen watch.old) (asserts_form (means below) (scope context.now names.now) (map expression_of codes.now) world.old.stack.top) result meter.new (W.seen watch.new) world.new.stack.top }
     ensures below { world.new.stack.below ≡ world.old.stack.below }
     ensures grew { amount (W.seen watch.old) ≤ amount (W.seen watch.new) }
@@ -188,7 +196,8 @@ pub(crate) fn evaluate_unwrap<W: Watch>(
     meter: &mut Meter,
     watch: &mut W,
 ) -> Result<Val, Stop>
-    requires { length codes.now ≡ 2 }
+    requires fit { length codes.now ≡ 2 }
+    requires goes { AllGoIn context.now codes.now }
     ensures meant { Fits context.now → Walks context.now meter.old (W.seen watch.old) (unwrap_form (means below) (scope context.now names.now) (map expression_of codes.now) world.old.stack.top) result meter.new (W.seen watch.new) world.new.stack.top }
     ensures below { world.new.stack.below ≡ world.old.stack.below }
     ensures grew { amount (W.seen watch.old) ≤ amount (W.seen watch.new) }
@@ -214,7 +223,8 @@ pub(crate) fn evaluate_unwrap_err<W: Watch>(
     meter: &mut Meter,
     watch: &mut W,
 ) -> Result<Val, Stop>
-    requires { length codes.now ≡ 2 }
+    requires fit { length codes.now ≡ 2 }
+    requires goes { AllGoIn context.now codes.now }
     ensures meant { Fits context.now → Walks context.now meter.old (W.seen watch.old) (unwrap_err_form (means below) (scope context.now names.now) (map expression_of codes.now) world.old.stack.top) result meter.new (W.seen watch.new) world.new.stack.top }
     ensures below { world.new.stack.below ≡ world.old.stack.below }
     ensures grew { amount (W.seen watch.old) ≤ amount (W.seen watch.new) }
@@ -240,7 +250,8 @@ pub(crate) fn evaluate_try<W: Watch>(
     meter: &mut Meter,
     watch: &mut W,
 ) -> Result<Val, Stop>
-    requires { length codes.now ≡ 1 }
+    requires fit { length codes.now ≡ 1 }
+    requires goes { AllGoIn context.now codes.now }
     ensures meant { Fits context.now → Walks context.now meter.old (W.seen watch.old) (try_form (means below) (scope context.now names.now) (map expression_of codes.now) world.old.stack.top) result meter.new (W.seen watch.new) world.new.stack.top }
     ensures below { world.new.stack.below ≡ world.old.stack.below }
     ensures grew { amount (W.seen watch.old) ≤ amount (W.seen watch.new) }
@@ -261,7 +272,8 @@ pub(crate) fn evaluate_as_contract<W: Watch>(
     meter: &mut Meter,
     watch: &mut W,
 ) -> Result<Val, Stop>
-    requires { length codes.now ≡ 1 }
+    requires fit { length codes.now ≡ 1 }
+    requires goes { AllGoIn context.now codes.now }
     ensures meant { Fits context.now → Walks context.now meter.old (W.seen watch.old) (as_contract_form (means below) (scope context.now names.now) (map expression_of codes.now) world.old.stack.top) result meter.new (W.seen watch.new) world.new.stack.top }
     ensures below { world.new.stack.below ≡ world.old.stack.below }
     ensures grew { amount (W.seen watch.old) ≤ amount (W.seen watch.new) }
@@ -290,7 +302,8 @@ pub(crate) fn evaluate_print<W: Watch>(
     meter: &mut Meter,
     watch: &mut W,
 ) -> Result<Val, Stop>
-    requires { length codes.now ≡ 1 }
+    requires fit { length codes.now ≡ 1 }
+    requires goes { AllGoIn context.now codes.now }
     ensures meant { Fits context.now → Walks context.now meter.old (W.seen watch.old) (print_form (means below) (scope context.now names.now) (map expression_of codes.now) world.old.stack.top) result meter.new (W.seen watch.new) world.new.stack.top }
     ensures below { world.new.stack.below ≡ world.old.stack.below }
     ensures grew { amount (W.seen watch.old) ≤ amount (W.seen watch.new) }

@@ -11,6 +11,7 @@ ghost use Rattle.cl_meaning.specs.Sequences.{map_form, mapped, filter_form, filt
 ghost use Rattle.cl_meaning.specs.Meaning.{head_form, means, applied};
 ghost use Rattle.cl_frames.specs.Applying.{callee_seen};
 ghost use Rattle.cl_frames.specs.Seen.{scope, scope_of, Fits};
+ghost use Rattle.cl_frames.specs.Going.{AllGoIn, AppliedGoesIn, CalledGoesIn};
 ghost use Rattle.cl_frames.specs.Runs.{items_in};
 ghost use Rattle.cl_frames.specs.Watching.{Walks, amount};
 
@@ -42,6 +43,8 @@ pub(crate) fn evaluate_iteration<W: Watch>(
     requires own { has_own_applied given.now ≡ true }
     requires few { length codes.now < 1048576 }
     requires fit { takes (row_of (iteration_head iteration)).arity (suc (length codes.now)) ≡ true }
+    requires applies { AppliedGoesIn context.now given.now }
+    requires goes { AllGoIn context.now codes.now }
     ensures meant { Fits context.now → Walks context.now meter.old (W.seen watch.old) (head_form (iteration_head iteration) (row_of (iteration_head iteration)).cost (means below) (applied below) (scope context.now names.now) (applied_name given.now ∷ map expression_of codes.now) world.old.stack.top) result meter.new (W.seen watch.new) world.new.stack.top }
     ensures below { world.new.stack.below ≡ world.old.stack.below }
     ensures grew { amount (W.seen watch.old) ≤ amount (W.seen watch.new) }
@@ -69,6 +72,8 @@ fn evaluate_fold<W: Watch>(
 ) -> Result<Val, Stop>
     requires own { has_own_applied given.now ≡ true }
     requires fit { length codes.now ≡ 2 }
+    requires applies { AppliedGoesIn context.now given.now }
+    requires goes { AllGoIn context.now codes.now }
     ensures meant { Fits context.now → Walks context.now meter.old (W.seen watch.old) (fold_form (means below) (applied below) (scope context.now names.now) (applied_name given.now ∷ map expression_of codes.now) world.old.stack.top) result meter.new (W.seen watch.new) world.new.stack.top }
     ensures below { world.new.stack.below ≡ world.old.stack.below }
     ensures grew { amount (W.seen watch.old) ≤ amount (W.seen watch.new) }
@@ -99,6 +104,7 @@ fn fold<W: Watch>(
     meter: &mut Meter,
     watch: &mut W,
 ) -> Result<Val, Stop>
+    requires goes { CalledGoesIn context.now callee.now }
     ensures meant { (bound : BoundValues) → Fits context.now → Walks context.now meter.old (W.seen watch.old) (fold_of (applied below) (scope_of context.now bound) sequence.now start (callee_seen callee.now) world.old.stack.top) result meter.new (W.seen watch.new) world.new.stack.top }
     ensures below { world.new.stack.below ≡ world.old.stack.below }
     ensures grew { amount (W.seen watch.old) ≤ amount (W.seen watch.new) }
@@ -133,6 +139,8 @@ fn evaluate_map<W: Watch>(
 ) -> Result<Val, Stop>
     requires own { has_own_applied given.now ≡ true }
     requires few { length codes.now < 1048576 }
+    requires applies { AppliedGoesIn context.now given.now }
+    requires goes { AllGoIn context.now codes.now }
     ensures meant { Fits context.now → Walks context.now meter.old (W.seen watch.old) (map_form (means below) (applied below) (scope context.now names.now) (applied_name given.now ∷ map expression_of codes.now) world.old.stack.top) result meter.new (W.seen watch.new) world.new.stack.top }
     ensures below { world.new.stack.below ≡ world.old.stack.below }
     ensures grew { amount (W.seen watch.old) ≤ amount (W.seen watch.new) }
@@ -156,7 +164,8 @@ fn map_rows<W: Watch>(
     meter: &mut Meter,
     watch: &mut W,
 ) -> Result<Val, Stop>
-    requires { length sequences.now < 1048576 }
+    requires few { length sequences.now < 1048576 }
+    requires goes { CalledGoesIn context.now callee.now }
     ensures meant { (bound : BoundValues) → Fits context.now → Walks context.now meter.old (W.seen watch.old) (mapped (applied below) (scope_of context.now bound) sequences.now (callee_seen callee.now) world.old.stack.top) result meter.new (W.seen watch.new) world.new.stack.top }
     ensures below { world.new.stack.below ≡ world.old.stack.below }
     ensures grew { amount (W.seen watch.old) ≤ amount (W.seen watch.new) }
@@ -179,6 +188,8 @@ fn evaluate_filter<W: Watch>(
 ) -> Result<Val, Stop>
     requires own { has_own_applied given.now ≡ true }
     requires fit { length codes.now ≡ 1 }
+    requires applies { AppliedGoesIn context.now given.now }
+    requires goes { AllGoIn context.now codes.now }
     ensures meant { Fits context.now → Walks context.now meter.old (W.seen watch.old) (filter_form (means below) (applied below) (scope context.now names.now) (applied_name given.now ∷ map expression_of codes.now) world.old.stack.top) result meter.new (W.seen watch.new) world.new.stack.top }
     ensures below { world.new.stack.below ≡ world.old.stack.below }
     ensures grew { amount (W.seen watch.old) ≤ amount (W.seen watch.new) }
@@ -203,6 +214,7 @@ fn filter<W: Watch>(
     meter: &mut Meter,
     watch: &mut W,
 ) -> Result<Val, Stop>
+    requires goes { CalledGoesIn context.now callee.now }
     ensures meant { (bound : BoundValues) → Fits context.now → Walks context.now meter.old (W.seen watch.old) (filtered (applied below) (scope_of context.now bound) sequence (callee_seen callee.now) world.old.stack.top) result meter.new (W.seen watch.new) world.new.stack.top }
     ensures below { world.new.stack.below ≡ world.old.stack.below }
     ensures grew { amount (W.seen watch.old) ≤ amount (W.seen watch.new) }
@@ -223,7 +235,8 @@ fn apply_each<W: Watch>(
     meter: &mut Meter,
     watch: &mut W,
 ) -> Result<Vec<Val>, Stop>
-    requires { length sequences.now < 1048576 }
+    requires few { length sequences.now < 1048576 }
+    requires goes { CalledGoesIn context.now callee.now }
     ensures meant { (bound : BoundValues) → Fits context.now → Walks context.now meter.old (W.seen watch.old) (with_known (rows_of (all_entries sequences.now)) (each (applied below) (scope_of context.now bound) (callee_seen callee.now)) world.old.stack.top) (items_in result) meter.new (W.seen watch.new) world.new.stack.top }
     ensures below { world.new.stack.below ≡ world.old.stack.below }
     ensures grew { amount (W.seen watch.old) ≤ amount (W.seen watch.new) }
@@ -255,7 +268,8 @@ fn apply<W: Watch>(
     meter: &mut Meter,
     watch: &mut W,
 ) -> Result<Val, Stop>
-    requires { length values.items < 1048576 }
+    requires few { length values.items < 1048576 }
+    requires goes { CalledGoesIn context.now callee.now }
     ensures meant { (bound : BoundValues) → Fits context.now → Walks context.now meter.old (W.seen watch.old) (applied depth (scope_of context.now bound) (callee_seen callee.now) values.items world.old.stack.top) result meter.new (W.seen watch.new) world.new.stack.top }
     ensures below { world.new.stack.below ≡ world.old.stack.below }
     ensures grew { amount (W.seen watch.old) ≤ amount (W.seen watch.new) }

@@ -6,6 +6,7 @@ ghost use Rattle.cl_code.specs.Expression.{word};
 ghost use Rattle.cl_code.specs.Typed.{expression_of};
 ghost use Rattle.cl_meaning.specs.Meaning.{head_form, means, applied};
 ghost use Rattle.cl_frames.specs.Seen.{scope, Fits};
+ghost use Rattle.cl_frames.specs.Going.{AllGoIn};
 ghost use Rattle.cl_frames.specs.Watching.{Walks, amount};
 
 use crate::walk::{evaluate, evaluate_parts};
@@ -31,6 +32,7 @@ pub(crate) fn evaluate_on_name<W: Watch>(
 ) -> Result<Val, Stop>
     requires few { length codes.now < 1048576 }
     requires fit { takes (row_of (name_head native)).arity (suc (length codes.now)) ≡ true }
+    requires goes { AllGoIn context.now codes.now }
     ensures meant { Fits context.now → Walks context.now meter.old (W.seen watch.old) (head_form (name_head native) (row_of (name_head native)).cost (means below) (applied below) (scope context.now names.now) (word name.now ∷ map expression_of codes.now) world.old.stack.top) result meter.new (W.seen watch.new) world.new.stack.top }
     ensures below { world.new.stack.below ≡ world.old.stack.below }
     ensures grew { amount (W.seen watch.old) ≤ amount (W.seen watch.new) }

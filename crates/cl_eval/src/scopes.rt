@@ -8,6 +8,7 @@ ghost use Rattle.cl_meaning.specs.Control.{match_form, let_form, let_in};
 ghost use Rattle.cl_code.specs.Typed.{expression_of};
 ghost use Rattle.cl_meaning.specs.Meaning.{means};
 ghost use Rattle.cl_frames.specs.Seen.{costs_of, scope, scope_of, Fits};
+ghost use Rattle.cl_frames.specs.Going.{GoesIn, AllGoIn};
 ghost use Rattle.cl_frames.specs.Watching.{BindsAll, Walks, amount, watched};
 
 use crate::walk::{evaluate, evaluate_parts};
@@ -32,7 +33,8 @@ pub(crate) fn evaluate_match_optional<W: Watch>(
     meter: &mut Meter,
     watch: &mut W,
 ) -> Result<Val, Stop>
-    requires { length codes.now ≡ 3 }
+    requires fit { length codes.now ≡ 3 }
+    requires goes { AllGoIn context.now codes.now }
     ensures meant { Fits context.now → Walks context.now meter.old (W.seen watch.old) (match_form (means below) (scope context.now names.now) (optional_branches part.now (map expression_of codes.now)) world.old.stack.top) result meter.new (W.seen watch.new) world.new.stack.top }
     ensures below { world.new.stack.below ≡ world.old.stack.below }
     ensures grew { amount (W.seen watch.old) ≤ amount (W.seen watch.new) }
@@ -66,7 +68,8 @@ pub(crate) fn evaluate_match_response<W: Watch>(
     meter: &mut Meter,
     watch: &mut W,
 ) -> Result<Val, Stop>
-    requires { length codes.now ≡ 3 }
+    requires fit { length codes.now ≡ 3 }
+    requires goes { AllGoIn context.now codes.now }
     ensures meant { Fits context.now → Walks context.now meter.old (W.seen watch.old) (match_form (means below) (scope context.now names.now) (response_branches good.now bad.now (map expression_of codes.now)) world.old.stack.top) result meter.new (W.seen watch.new) world.new.stack.top }
     ensures below { world.new.stack.below ≡ world.old.stack.below }
     ensures grew { amount (W.seen watch.old) ≤ amount (W.seen watch.new) }
@@ -102,6 +105,7 @@ fn evaluate_with<W: Watch>(
     meter: &mut Meter,
     watch: &mut W,
 ) -> Result<Val, Stop>
+    requires goes { GoesIn context.now code.now }
     ensures meant { Fits context.now → Walks context.now meter.old (W.seen watch.old) (taken_with (means below) (scope context.now names.now) name.now.name value (expression_of code.now) world.old.stack.top) result meter.new (W.seen watch.new) world.new.stack.top }
     ensures below { world.new.stack.below ≡ world.old.stack.below }
     ensures grew { amount (W.seen watch.old) ≤ amount (W.seen watch.new) }
@@ -123,6 +127,7 @@ fn evaluate_in<W: Watch>(
     meter: &mut Meter,
     watch: &mut W,
 ) -> Result<Val, Stop>
+    requires goes { GoesIn context.now code.now }
     ensures meant { Fits context.now → Walks context.now meter.old (W.seen watch.old) (means below (scope_of context.now (names.now.values ++ own.now)) (expression_of code.now) world.old.stack.top) result meter.new (W.seen watch.new) world.new.stack.top }
     ensures below { world.new.stack.below ≡ world.old.stack.below }
     ensures grew { amount (W.seen watch.old) ≤ amount (W.seen watch.new) }
@@ -144,6 +149,7 @@ pub(crate) fn evaluate_let<W: Watch>(
 ) -> Result<Val, Stop>
     requires few { length codes.now < 1048576 }
     requires fit { length bindings.now < length codes.now }
+    requires goes { AllGoIn context.now codes.now }
     ensures meant { (at : Span) → Fits context.now → Walks context.now meter.old (W.seen watch.old) (let_form (means below) (scope context.now names.now) (ListAt (forest (bound_items bindings.now (map expression_of codes.now))) at ∷ drop (length bindings.now) (map expression_of codes.now)) world.old.stack.top) result meter.new (W.seen watch.new) world.new.stack.top }
     ensures below { world.new.stack.below ≡ world.old.stack.below }
     ensures grew { amount (W.seen watch.old) ≤ amount (W.seen watch.new) }
@@ -173,7 +179,8 @@ fn evaluate_bindings<W: Watch>(
     meter: &mut Meter,
     watch: &mut W,
 ) -> Result<Vec<(Name, Val)>, Stop>
-    requires { length bindings.now ≤ length codes.now }
+    requires fit { length bindings.now ≤ length codes.now }
+    requires goes { AllGoIn context.now codes.now }
     ensures meant { (body : List Tree) → Fits context.now → BindsAll (costs_of context.now) (means below) body (λ own. scope_of context.now (names.now.values ++ own)) (watched (costs_of context.now) meter.old (W.seen watch.old) (let_in (means below) body (scope context.now names.now) (bound_items bindings.now (map expression_of codes.now)) world.old.stack.top)) result meter.new (W.seen watch.new) world.new.stack.top }
     ensures below { world.new.stack.below ≡ world.old.stack.below }
     ensures grew { amount (W.seen watch.old) ≤ amount (W.seen watch.new) }

@@ -10,6 +10,7 @@ ghost use Rattle.cl_meaning.specs.Answers.{with_known};
 ghost use Rattle.cl_code.specs.Typed.{expression_of};
 ghost use Rattle.cl_meaning.specs.Meaning.{means};
 ghost use Rattle.cl_frames.specs.Seen.{scope, Fits};
+ghost use Rattle.cl_frames.specs.Going.{AllGoIn};
 ghost use Rattle.cl_frames.specs.Watching.{Walks, amount};
 
 use crate::walk::{evaluate, evaluate_parts};
@@ -33,7 +34,8 @@ pub(crate) fn evaluate_as_max_len<W: Watch>(
     meter: &mut Meter,
     watch: &mut W,
 ) -> Result<Val, Stop>
-    requires { length codes.now ≡ 1 }
+    requires fit { length codes.now ≡ 1 }
+    requires goes { AllGoIn context.now codes.now }
     ensures meant { (at : Span) → Fits context.now → Walks context.now meter.old (W.seen watch.old) (as_max_len_form (means below) (scope context.now names.now) (behind_first (λ e more. e ∷ LeafAt (Unsigned most) at ∷ more) (map expression_of codes.now)) world.old.stack.top) result meter.new (W.seen watch.new) world.new.stack.top }
     ensures below { world.new.stack.below ≡ world.old.stack.below }
     ensures grew { amount (W.seen watch.old) ≤ amount (W.seen watch.new) }
@@ -58,6 +60,7 @@ pub(crate) fn evaluate_tuple<W: Watch>(
     requires few { length codes.now < 1048576 }
     requires fit { length codes.now ≡ length keys.now }
     requires apart { are_once keys.now ≡ true }
+    requires goes { AllGoIn context.now codes.now }
     ensures meant { Fits context.now → Walks context.now meter.old (W.seen watch.old) (tuple_form (means below) (scope context.now names.now) (zip keys.now (map expression_of codes.now)) world.old.stack.top) result meter.new (W.seen watch.new) world.new.stack.top }
     ensures below { world.new.stack.below ≡ world.old.stack.below }
     ensures grew { amount (W.seen watch.old) ≤ amount (W.seen watch.new) }
@@ -84,6 +87,7 @@ pub(crate) fn evaluate_tuple_of<W: Watch>(
     requires few { length codes.now < 1048576 }
     requires fit { length codes.now ≡ length pairs.now }
     requires apart { are_once (bound_names pairs.now) ≡ true }
+    requires goes { AllGoIn context.now codes.now }
     ensures meant { Fits context.now → Walks context.now meter.old (W.seen watch.old) (with_known (bindings_of (bound_items pairs.now (map expression_of codes.now))) (tuple_form (means below) (scope context.now names.now)) world.old.stack.top) result meter.new (W.seen watch.new) world.new.stack.top }
     ensures below { world.new.stack.below ≡ world.old.stack.below }
     ensures grew { amount (W.seen watch.old) ≤ amount (W.seen watch.new) }

@@ -8,6 +8,7 @@ ghost use Rattle.cl_meaning.specs.Control.{throwing};
 ghost use Rattle.cl_code.specs.Typed.{expression_of};
 ghost use Rattle.cl_meaning.specs.Meaning.{node, means, applied};
 ghost use Rattle.cl_frames.specs.Seen.{costs_of, scope, Fits};
+ghost use Rattle.cl_frames.specs.Going.{GoesIn, AllGoIn};
 ghost use Rattle.cl_frames.specs.Runs.{items_in};
 ghost use Rattle.cl_frames.specs.Watching.{Ends, Walks, amount, truthful, watched};
 
@@ -40,6 +41,7 @@ pub fn evaluate<W: Watch>(
     meter: &mut Meter,
     watch: &mut W,
 ) -> Result<Val, Stop>
+    requires goes { GoesIn context.now code.now }
     ensures meant { Fits context.now → Walks context.now meter.old (W.seen watch.old) (means depth (scope context.now names.now) (expression_of code.now) world.old.stack.top) result meter.new (W.seen watch.new) world.new.stack.top }
     ensures below { world.new.stack.below ≡ world.old.stack.below }
     ensures grew { amount (W.seen watch.old) ≤ amount (W.seen watch.new) }
@@ -63,6 +65,7 @@ fn evaluate_node<W: Watch>(
     meter: &mut Meter,
     watch: &mut W,
 ) -> Result<Val, Stop>
+    requires goes { GoesIn context.now code.now }
     ensures meant { Fits context.now → Walks context.now meter.old (W.seen watch.old) (node (means below) (applied below) (scope context.now names.now) (expression_of code.now) world.old.stack.top) result meter.new (W.seen watch.new) world.new.stack.top }
     ensures below { world.new.stack.below ≡ world.old.stack.below }
     ensures grew { amount (W.seen watch.old) ≤ amount (W.seen watch.new) }
@@ -150,6 +153,7 @@ pub(crate) fn evaluate_parts<W: Watch>(
     meter: &mut Meter,
     watch: &mut W,
 ) -> Result<Vec<Val>, Stop>
+    requires goes { AllGoIn context.now codes.now }
     ensures meant { Fits context.now → Walks context.now meter.old (W.seen watch.old) (parts (means below) (scope context.now names.now) (map expression_of codes.now) world.old.stack.top) (items_in result) meter.new (W.seen watch.new) world.new.stack.top }
     ensures below { world.new.stack.below ≡ world.old.stack.below }
     ensures grew { amount (W.seen watch.old) ≤ amount (W.seen watch.new) }
@@ -175,7 +179,8 @@ fn evaluate_native<W: Watch>(
     meter: &mut Meter,
     watch: &mut W,
 ) -> Result<Val, Stop>
-    requires { length codes.now < 1048576 }
+    requires few { length codes.now < 1048576 }
+    requires goes { AllGoIn context.now codes.now }
     ensures meant { Fits context.now → Walks context.now meter.old (W.seen watch.old) (strict_form native (row_of (OnValues native)).cost (means below) (scope context.now names.now) (map expression_of codes.now) world.old.stack.top) result meter.new (W.seen watch.new) world.new.stack.top }
     ensures below { world.new.stack.below ≡ world.old.stack.below }
     ensures grew { amount (W.seen watch.old) ≤ amount (W.seen watch.new) }
@@ -195,6 +200,7 @@ pub(crate) fn evaluate_truth<W: Watch>(
     meter: &mut Meter,
     watch: &mut W,
 ) -> Result<bool, Stop>
+    requires goes { GoesIn context.now code.now }
     ensures meant { Fits context.now → Ends (truthful (watched (costs_of context.now) meter.old (W.seen watch.old) (means below (scope context.now names.now) (expression_of code.now) world.old.stack.top))) result meter.new (W.seen watch.new) world.new.stack.top }
     ensures below { world.new.stack.below ≡ world.old.stack.below }
     ensures grew { amount (W.seen watch.old) ≤ amount (W.seen watch.new) }
@@ -214,6 +220,7 @@ pub(crate) fn evaluate_thrown<W: Watch>(
     meter: &mut Meter,
     watch: &mut W,
 ) -> Result<Val, Stop>
+    requires goes { GoesIn context.now code.now }
     ensures meant { Fits context.now → Walks context.now meter.old (W.seen watch.old) (throwing (means below) (scope context.now names.now) (expression_of code.now) world.old.stack.top) result meter.new (W.seen watch.new) world.new.stack.top }
     ensures below { world.new.stack.below ≡ world.old.stack.below }
     ensures grew { amount (W.seen watch.old) ≤ amount (W.seen watch.new) }

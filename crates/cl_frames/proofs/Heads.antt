@@ -1,6 +1,6 @@
 -- Natives by their names, and what each that isn't on values alone is.
 use Rattle.std.proofs.Common.{◌≡◌, ◌<◌, ◌∷◌, [], ℕ, suc, List, length, get_or, map, true, Option, Some, None, refl, sym, ap, ◌∙◌, arith}
-use Rattle.std.specs.Prelude.{◌==◌, nat_le}
+use Rattle.std.specs.Prelude.{◌==◌, nat_le, nat_lt}
 use Rattle.std.proofs.lemmas.Bool.Decides.{nat_tests}
 use Rattle.cl_shapes.specs.declared.name.CostName.{CostName}
 use Rattle.cl_sexpr.specs.declared.sexpr.Span.{Span}
@@ -8,9 +8,10 @@ use Rattle.cl_sexpr.specs.Tree.{Tree, forest}
 use Rattle.cl_values.specs.Tree.{Tree as Val}
 use Rattle.cl_forms.specs.declared.head.Head.{Head}
 use Rattle.cl_forms.specs.declared.head.TokenNative.TheVariants as tokens
-use Rattle.cl_forms.specs.Heads.{Row, row_of, native, takes}
-use Rattle.cl_forms.specs.HeadNames.{name_of, head_of_row}
-use Rattle.cl_forms.proofs.Found.{found_by_name, is_row}
+use Rattle.cl_forms.specs.declared.version.Version.{Version}
+use Rattle.cl_forms.specs.Heads.{row_of, takes}
+use Rattle.cl_forms.specs.HeadNames.{name_of, has_head}
+use Rattle.cl_code.proofs.Versions.{row_by_name, row_head}
 use Rattle.cl_forms.proofs.Bindings.{trees_forest}
 use Rattle.cl_events.specs.State.{State}
 use Rattle.cl_code.specs.declared.op.PartsNative.{PartsNative}
@@ -22,7 +23,8 @@ use Rattle.cl_code.specs.OpNames.{parts_head, name_head}
 use Rattle.cl_code.specs.Expression.{word, headed}
 use Rattle.cl_code.specs.Typed.{Typed, expression_of}
 use Rattle.cl_meaning.specs.Answers.{Answer, and_then}
-use Rattle.cl_meaning.specs.Scope.{Scope, Take, Enter, parts}
+use Rattle.cl_meaning.specs.Deployed.{native_of}
+use Rattle.cl_meaning.specs.Scope.{Scope, Take, Enter, parts, home}
 use Rattle.cl_meaning.specs.Control.{if_form, begin_form, and_form, or_form, asserts_form, unwrap_form, unwrap_err_form, try_form, as_contract_form}
 use Rattle.cl_meaning.specs.Values.{get_form}
 use Rattle.cl_meaning.specs.Data.{var_get_form, var_set_form, map_get_form, map_set_form, map_insert_form, map_delete_form}
@@ -31,28 +33,19 @@ use Rattle.cl_meaning.specs.Meaning.{head_form, node}
 use Rattle.cl_meaning.proofs.Equations.{node_of_row}
 use Rattle.cl_frames.specs.Tails.{taking_of, with_nothing, with_one, with_all}
 use Rattle.cl_frames.specs.declared.taking.Taking.TheVariants.{Nothing, One, All}
+use Rattle.cl_frames.specs.Seen.{IsOfVersion}
 use Rattle.cl_frames.proofs.Forms.{one_of}
 
 -- ---- natives by their names
 
-row_found : (o : Option Row) (h : Head) → head_of_row o ≡ Some h → ((row : Row) → o ≡ Some row → row ≡ row_of row.head) → o ≡ Some (row_of h)
-row_found None h e k = absurd cc
-row_found (Some row) h e k =
-    let same : row.head ≡ h = cc in
-    ap (λ (r : Row). Some r) (k row refl ∙ ap row_of same)
-
-pub row_by_name : (h : Head) → native (name_of h) ≡ Some (row_of h)
-row_by_name h = row_found (native (name_of h)) h (found_by_name h) (is_row (name_of h))
-
-pub row_head : (h : Head) → (row_of h).head ≡ h
-row_head h =
-    let same : Some (row_of h).head ≡ Some h = ap head_of_row (sym (row_by_name h)) ∙ found_by_name h in
-    cc
+-- the row of a native in a scope of a version that has it
+pub row_in_scope : (v : Version) (S : Scope) (h : Head) → IsOfVersion v S → has_head v h ≡ true → native_of (name_of h) (home S) ≡ Some (row_of h)
+row_in_scope v S h is had = is (name_of h) ∙ row_by_name v h had
 
 -- a list that begins with a native's name
-pub by_head : (take : Take) (enter : Enter) (S : Scope) (h : Head) (es : List Tree) (at head : Span) (s : State) → node take enter S (headed (name_of h) head es at) s ≡ head_form h (row_of h).cost take enter S es s
-by_head take enter S h es at head s =
-    node_of_row take enter S (name_of h) (row_of h) (forest es) at head s (row_by_name h)
+pub by_head : (v : Version) (take : Take) (enter : Enter) (S : Scope) → IsOfVersion v S → (h : Head) → has_head v h ≡ true → (es : List Tree) (at head : Span) (s : State) → node take enter S (headed (name_of h) head es at) s ≡ head_form h (row_of h).cost take enter S es s
+by_head v take enter S is h had es at head s =
+    node_of_row take enter S (name_of h) (row_of h) (forest es) at head s (row_in_scope v S h is had)
     ∙ ap (λ l. head_form (row_of h).head (row_of h).cost take enter S l s) (trees_forest es)
     ∙ ap (λ k. head_form k (row_of h).cost take enter S es s) (row_head h)
 
@@ -98,6 +91,9 @@ counts n m count h k = ap (λ l. takes (row_of (parts_head l)).arity count) (sym
 
 pub exactly : (m n : ℕ) → (m == n) ≡ true → m ≡ n
 exactly m n h = grind (arith, nat_tests)
+
+pub fewer : (m n : ℕ) → nat_lt m n ≡ true → m < n
+fewer m n h = grind (arith, nat_tests)
 
 pub some_parts : (n : ℕ) → nat_le 1 n ≡ true → 0 < n
 some_parts n h = grind (arith, nat_tests)

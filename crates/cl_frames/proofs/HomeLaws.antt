@@ -1,12 +1,12 @@
 -- The contracts of principals, as the code finds them.
-use Rattle.std.proofs.Common.{◌≡◌, Bool, true, false, [], ◌∷◌, Option, Some, None, refl, sym, ap, ◌∙◌, subst, rules}
+use Rattle.std.proofs.Common.{◌≡◌, ℕ, Bool, true, false, List, [], ◌∷◌, Option, Some, None, refl, sym, ap, ◌∙◌, subst, rules}
 use Rattle.std.specs.Prelude.{if◌then◌else◌, option_and_then, IfSome}
 use Rattle.cl_c32.specs.declared.principal.Principal.{Principal}
 use Rattle.cl_maps.proofs.MapLaws.{same_keys}
 use Rattle.cl_rules.specs.Context.{same_principal}
 use Rattle.cl_events.specs.State.{holder, is_principal}
 use Rattle.cl_tokens.specs.Table.{is_key}
-use Rattle.cl_meaning.specs.Deployed.{Contract, Deployed, contract_at}
+use Rattle.cl_meaning.specs.Deployed.{Contract, Deployed, contract_at, native_of}
 use Rattle.cl_contracts.proofs.Principals.{OwnSpelling, same_so}
 use Rattle.cl_c32.specs.contracts.principal.PrincipalPartialEq.TheImpl.{eq-value}
 use Rattle.cl_contracts.specs.declared.deployed.Deployed.{Deployed as DeployedOfCode}
@@ -22,6 +22,8 @@ use Rattle.cl_frames.specs.declared.frame.Frame.{Frame as FrameOfCode}
 use Rattle.cl_frames.specs.declared.home.Home.{Home}
 use Rattle.cl_frames.specs.declared.context.Context.{Context}
 use Rattle.cl_frames.specs.Homes.{home_seen, with_opening, IsHome}
+use Rattle.cl_values.specs.Tree.{Tree as Val}
+use Rattle.cl_frames.specs.Seen.{IsOfVersion, scope_of, version_of}
 use Rattle.cl_frames.specs.Across.{principal_in, there, IsAt}
 
 key_step : (p : Principal) (d c : Contract) (rest : Option Contract) (b : Bool) → is_principal d.principal p ≡ b → (if b then Some d else rest) ≡ Some c → (rest ≡ Some c → holder c.principal ≡ holder p) → holder c.principal ≡ holder p
@@ -46,8 +48,8 @@ found_at_home p W c h = same_found c.principal p W (found_key p W c h) ∙ h
 -- ---- the contract that is being deployed
 
 -- a deployed contract, as the code has it
-pub home_of_entry : (h : Home) (p : Principal) → h.checked.now.principal ≡ p → home_seen h ≡ record { principal = p; forms = forms_of h.checked.now; source_length = h.checked.now.source_length; constants = h.constants.now.entries }
-home_of_entry h p e = ap (λ (q : Principal). record { principal = q; forms = forms_of h.checked.now; source_length = h.checked.now.source_length; constants = h.constants.now.entries }) e
+pub home_of_entry : (h : Home) (p : Principal) → h.checked.now.principal ≡ p → home_seen h ≡ record { principal = p; version = h.checked.now.version; forms = forms_of h.checked.now; source_length = h.checked.now.source_length; constants = h.constants.now.entries }
+home_of_entry h p e = ap (λ (q : Principal). record { principal = q; version = h.checked.now.version; forms = forms_of h.checked.now; source_length = h.checked.now.source_length; constants = h.constants.now.entries }) e
 
 -- ---- targets
 
@@ -77,8 +79,12 @@ equal_so p q = search rules
 pub is_same : OwnSpelling → (p q : Principal) → IsPrincipal p → IsPrincipal q → eq-value.it p q ≡ is_principal p q
 is_same own p q i j = equal_so p q ∙ same_so own p q i j
 
-pub fits_called : (d : DeployedOfCode) (h : Home) (F : FrameOfCode) → contract_at F.contract (deployed_seen d) ≡ Some (record { principal = F.contract; forms = forms_of h.checked.now; source_length = h.checked.now.source_length; constants = h.constants.now.entries }) → h.checked.now.principal ≡ F.contract → IsIndexed h.checked.now → AreIndexed d → IsHome d None h F
+pub fits_called : (d : DeployedOfCode) (h : Home) (F : FrameOfCode) → contract_at F.contract (deployed_seen d) ≡ Some (record { principal = F.contract; version = h.checked.now.version; forms = forms_of h.checked.now; source_length = h.checked.now.source_length; constants = h.constants.now.entries }) → h.checked.now.principal ≡ F.contract → IsIndexed h.checked.now → AreIndexed d → IsHome d None h F
 fits_called d h F found at indexed all = record { found = found ∙ ap (λ (k : Contract). Some k) (sym (home_of_entry h F.contract at)); indexed = indexed; opened = tt; all = all }
 
 pub one_indexed : (o : Option Home) (h : Home) → o ≡ Some h → IfSome o (λ k. IsIndexed k.checked.now) → IsIndexed h.checked.now
 one_indexed o h e i = subst (λ (p : Option Home). IfSome p (λ k. IsIndexed k.checked.now)) e i
+
+-- names are looked up in a context's scopes as in a text of its home contract's version
+pub of_version : (c : Context) (bound : List (List ℕ × Val)) → IsHome c.deployed.now c.opening c.home c.frame.now → IsOfVersion (version_of c) (scope_of c bound)
+of_version c bound fits x = ap (native_of x) fits.found

@@ -9,6 +9,7 @@ use Rattle.cl_values.specs.declared.native.Native.{Native}
 use Rattle.cl_values.specs.Tree.{Tree as Val, BoolV}
 use Rattle.cl_values.specs.Wire.{size_of}
 use Rattle.cl_forms.specs.declared.head.Head.TheVariants as heads
+use Rattle.cl_forms.specs.declared.version.Version.{Version}
 use Rattle.cl_forms.specs.Heads.{Row, row_of, native, takes}
 use Rattle.cl_forms.specs.HeadNames.{name_of}
 use Rattle.cl_events.specs.State.{State}
@@ -17,7 +18,7 @@ use Rattle.cl_code.specs.declared.op.Applied.TheVariants as given
 use Rattle.cl_code.specs.declared.op.Iteration.{Iteration}
 use Rattle.cl_code.specs.declared.op.Iteration.TheVariants as iteration
 use Rattle.cl_code.specs.declared.op.Word.{Word}
-use Rattle.cl_code.specs.Nodes.{has_own_applied, has_own_name}
+use Rattle.cl_code.specs.Nodes.{goes_applied, goes_op, has_own_applied, has_own_name}
 use Rattle.cl_code.specs.OpNames.{iteration_head}
 use Rattle.cl_code.specs.Expression.{applied_name}
 use Rattle.cl_code.specs.Typed.{Typed, expression_of}
@@ -38,7 +39,9 @@ use Rattle.cl_frames.specs.declared.applied.ByName.{ByName as ByNameOfCode}
 use Rattle.cl_frames.specs.declared.applied.ByName.TheVariants as code
 use Rattle.cl_frames.specs.Applying.{name_of_applied, place_of_applied, by_name, join, joined}
 use Rattle.cl_frames.proofs.Forms.{one_of, two_of, applied_native}
-use Rattle.cl_frames.proofs.Heads.{row_by_name, row_head, exactly}
+use Rattle.cl_code.proofs.Versions.{row_head}
+use Rattle.cl_frames.proofs.Heads.{row_in_scope, exactly}
+use Rattle.cl_frames.specs.Seen.{IsOfVersion}
 use Rattle.cl_frames.proofs.Nodes.{no_row}
 
 -- ---- what is given by name
@@ -49,45 +52,50 @@ named (given.OnValues native at) = refl
 named (given.And at) = refl
 named (given.Or at) = refl
 
-own_called : (S : Scope) (w : Word) (f : Option Function) → has_own_applied (given.Function w) ≡ true → f ≡ function_of w.name (home S) → callee_of S w.name w.span ≡ own f
-unfolding has_own_applied
-own_called S w f h k = ap (λ r. by_row w.span r (function_of w.name (home S))) (no_row (native w.name) h) ∙ ap own (sym k)
+own_called : (v : Version) (S : Scope) → IsOfVersion v S → (w : Word) (f : Option Function) → goes_applied v (given.Function w) ≡ true → f ≡ function_of w.name (home S) → callee_of S w.name w.span ≡ own f
+unfolding goes_applied
+own_called v S is w f h k = ap (λ r. by_row w.span r (function_of w.name (home S))) (is w.name ∙ no_row (native v w.name) h) ∙ ap own (sym k)
 
 by_this : (at : Span) (row : Row) (f : Option Function) → row.by_name ≡ true → by_row at (Some row) f ≡ Some (ByName row at)
 by_this at row f h = ap (λ (b : Bool). if b then Some (ByName row at) else None) h
 
-native_called : (S : Scope) (n : Native) (at : Span) → has_own_applied (given.OnValues n at) ≡ true → callee_of S (name_of (heads.OnValues n)) at ≡ Some (ByName (row_of (heads.OnValues n)) at)
-unfolding has_own_applied
-native_called S n at h =
-    ap (λ r. by_row at r (function_of (name_of (heads.OnValues n)) (home S))) (row_by_name (heads.OnValues n))
+native_called : (v : Version) (S : Scope) → IsOfVersion v S → (n : Native) (at : Span) → goes_applied v (given.OnValues n at) ≡ true → has_own_applied (given.OnValues n at) ≡ true → callee_of S (name_of (heads.OnValues n)) at ≡ Some (ByName (row_of (heads.OnValues n)) at)
+unfolding has_own_applied goes_applied
+native_called v S is n at g h =
+    ap (λ r. by_row at r (function_of (name_of (heads.OnValues n)) (home S))) (row_in_scope v S (heads.OnValues n) is g)
     ∙ by_this at (row_of (heads.OnValues n)) (function_of (name_of (heads.OnValues n)) (home S)) h
 
-and_called : (S : Scope) (at : Span) → callee_of S (name_of heads.And) at ≡ Some (ByName (row_of heads.And) at)
-and_called S at = ap (λ r. by_row at r (function_of (name_of heads.And) (home S))) (row_by_name heads.And) ∙ by_this at (row_of heads.And) (function_of (name_of heads.And) (home S)) refl
+and_called : (v : Version) (S : Scope) → IsOfVersion v S → (at : Span) → callee_of S (name_of heads.And) at ≡ Some (ByName (row_of heads.And) at)
+and_called v S is at = ap (λ r. by_row at r (function_of (name_of heads.And) (home S))) (row_in_scope v S heads.And is refl) ∙ by_this at (row_of heads.And) (function_of (name_of heads.And) (home S)) refl
 
-or_called : (S : Scope) (at : Span) → callee_of S (name_of heads.Or) at ≡ Some (ByName (row_of heads.Or) at)
-or_called S at = ap (λ r. by_row at r (function_of (name_of heads.Or) (home S))) (row_by_name heads.Or) ∙ by_this at (row_of heads.Or) (function_of (name_of heads.Or) (home S)) refl
+or_called : (v : Version) (S : Scope) → IsOfVersion v S → (at : Span) → callee_of S (name_of heads.Or) at ≡ Some (ByName (row_of heads.Or) at)
+or_called v S is at = ap (λ r. by_row at r (function_of (name_of heads.Or) (home S))) (row_in_scope v S heads.Or is refl) ∙ by_this at (row_of heads.Or) (function_of (name_of heads.Or) (home S)) refl
 
 -- what is applied in a scope
 abbrev pub callee_in : Scope → Applied → Option Callee
 callee_in S a = callee_of S (name_of_applied a) (place_of_applied a)
 
-pub called_own : (S : Scope) (a : Applied) (w : Word) (f : Option Function) → a ≡ given.Function w → has_own_applied a ≡ true → f ≡ function_of w.name (home S) → own f ≡ callee_in S a
-called_own S a w f h k m = sym (ap (callee_in S) h ∙ own_called S w f (sym (ap has_own_applied h) ∙ k) m)
+pub called_own : (v : Version) (S : Scope) → IsOfVersion v S → (a : Applied) (w : Word) (f : Option Function) → a ≡ given.Function w → goes_applied v a ≡ true → f ≡ function_of w.name (home S) → own f ≡ callee_in S a
+called_own v S is a w f h k m = sym (ap (callee_in S) h ∙ own_called v S is w f (sym (ap (goes_applied v) h) ∙ k) m)
 
-pub called_native : (S : Scope) (a : Applied) (n : Native) (at : Span) → a ≡ given.OnValues n at → has_own_applied a ≡ true → Some (ByName (row_of (heads.OnValues n)) at) ≡ callee_in S a
-called_native S a n at h k = sym (ap (callee_in S) h ∙ native_called S n at (sym (ap has_own_applied h) ∙ k))
+pub called_native : (v : Version) (S : Scope) → IsOfVersion v S → (a : Applied) (n : Native) (at : Span) → a ≡ given.OnValues n at → goes_applied v a ≡ true → has_own_applied a ≡ true → Some (ByName (row_of (heads.OnValues n)) at) ≡ callee_in S a
+called_native v S is a n at h g k = sym (ap (callee_in S) h ∙ native_called v S is n at (sym (ap (goes_applied v) h) ∙ g) (sym (ap has_own_applied h) ∙ k))
 
-pub called_and : (S : Scope) (a : Applied) (at : Span) → a ≡ given.And at → Some (ByName (row_of heads.And) at) ≡ callee_in S a
-called_and S a at h = sym (ap (callee_in S) h ∙ and_called S at)
+pub called_and : (v : Version) (S : Scope) → IsOfVersion v S → (a : Applied) (at : Span) → a ≡ given.And at → Some (ByName (row_of heads.And) at) ≡ callee_in S a
+called_and v S is a at h = sym (ap (callee_in S) h ∙ and_called v S is at)
 
-pub called_or : (S : Scope) (a : Applied) (at : Span) → a ≡ given.Or at → Some (ByName (row_of heads.Or) at) ≡ callee_in S a
-called_or S a at h = sym (ap (callee_in S) h ∙ or_called S at)
+pub called_or : (v : Version) (S : Scope) → IsOfVersion v S → (a : Applied) (at : Span) → a ≡ given.Or at → Some (ByName (row_of heads.Or) at) ≡ callee_in S a
+called_or v S is a at h = sym (ap (callee_in S) h ∙ or_called v S is at)
 
 -- a node's own
 pub own_applied : (op : Op) (i : Iteration) (head : Span) (a : Applied) → has_own_name op ≡ true → op ≡ IterateOp i head a → has_own_applied a ≡ true
 unfolding has_own_name
 own_applied op i head a h k = sym (ap has_own_name k) ∙ h
+
+-- what is applied can stand where the node can
+pub applied_goes : (v : Version) (op : Op) (i : Iteration) (head : Span) (a : Applied) → goes_op v op ≡ true → op ≡ IterateOp i head a → goes_applied v a ≡ true
+unfolding goes_op
+applied_goes v op i head a h k = sym (ap (goes_op v) k) ∙ h
 
 -- as many parts as it takes
 counts : (i j : Iteration) (count : ℕ) → i ≡ j → takes (row_of (iteration_head i)).arity (suc count) ≡ true → takes (row_of (iteration_head j)).arity (suc count) ≡ true

@@ -12,6 +12,7 @@ pub mod Heads
 pub mod Nodes
 pub mod Lets
 pub mod HomeLaws
+pub mod Going
 pub mod AbortLaws
 pub mod ActLaws
 pub mod TokenLaws

@@ -117,15 +117,15 @@ module _ (sound : TextsAreSound) (limits : LimitsLeaveDeployments) (W : Deployed
   left_deployed = limited table p (deployment W F (contract_with c []) s)
 
   abbrev Node : Contract → State → Type 0
-  Node d t = IsNode a.costs (d ∷ W) (a.known ++ known_of c.principal (length a.text) a.accepted.defined ∷ []) t
+  Node d t = IsNode a.costs (d ∷ W) (a.known ++ known_of c.principal (length a.text.bytes) a.accepted.defined ∷ []) t
 
   same_contract : contract_with c [] ≡ of_text c.principal a.text a.accepted.forms
-  same_contract = λ i. record { principal = c.principal; forms = a.forms i; source_length = a.size i; constants = [] }
+  same_contract = λ i. record { principal = c.principal; version = a.version i; forms = a.forms i; source_length = a.size i; constants = [] }
 
   pub deployment_fine : IsFineEndUnder Node left_deployed
   deployment_fine =
       subst (λ (d : Contract). IsFineEndUnder Node (limited table p (deployment W F d s))) (sym same_contract)
-      (limits a.costs table W (a.known ++ known_of c.principal (length a.text) a.accepted.defined ∷ []) (cost_under table a.accepted.defined.deploy) (deployment W F (of_text c.principal a.text a.accepted.forms) s)
+      (limits a.costs table W (a.known ++ known_of c.principal (length a.text.bytes) a.accepted.defined ∷ []) (cost_under table a.accepted.defined.deploy) (deployment W F (of_text c.principal a.text a.accepted.forms) s)
       (sound a.costs W a.known s a.node c.principal (subst IsPrincipal (sym home) valid.contract) a.new a.text a.accepted table F (sym home) valid.sender valid.caller valid.height)
       table p)
 
@@ -135,7 +135,7 @@ module _ (sound : TextsAreSound) (limits : LimitsLeaveDeployments) (W : Deployed
       let most : Cost5 = plus p.spent (cost_under table a.accepted.defined.deploy) in
       low most
       (subst (λ (d : Contract). IsAtMost (spent_in (limited table p (deployment W F d s))) most) (sym same_contract)
-      (spend a.costs table W (a.known ++ known_of c.principal (length a.text) a.accepted.defined ∷ []) (cost_under table a.accepted.defined.deploy) (deployment W F (of_text c.principal a.text a.accepted.forms) s)
+      (spend a.costs table W (a.known ++ known_of c.principal (length a.text.bytes) a.accepted.defined ∷ []) (cost_under table a.accepted.defined.deploy) (deployment W F (of_text c.principal a.text a.accepted.forms) s)
       (sound a.costs W a.known s a.node c.principal (subst IsPrincipal (sym home) valid.contract) a.new a.text a.accepted table F (sym home) valid.sender valid.caller valid.height)
       p))
       (and_more p.spent p.spent (cost_under table a.accepted.defined.deploy) (same_cost p.spent))
@@ -144,7 +144,7 @@ module _ (sound : TextsAreSound) (limits : LimitsLeaveDeployments) (W : Deployed
   pub deployment_keeps : (d : Contract) (after : State) (q : Purse) → left_deployed ≡ Gave d after q → IsKeptWorld (d ∷ W) after
   deployment_keeps d after q e = record {
     costs = a.costs;
-    known = a.known ++ known_of c.principal (length a.text) a.accepted.defined ∷ [];
+    known = a.known ++ known_of c.principal (length a.text.bytes) a.accepted.defined ∷ [];
     node = subst (IsFineEndUnder Node) e deployment_fine;
   }
 

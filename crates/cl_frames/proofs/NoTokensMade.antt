@@ -16,13 +16,13 @@ use Rattle.cl_forms.specs.declared.head.Head.{Head}
 use Rattle.cl_forms.specs.declared.head.Head.TheVariants as head
 use Rattle.cl_forms.specs.declared.head.TokenNative.{TokenNative}
 use Rattle.cl_forms.specs.declared.head.TokenNative.TheVariants.{SendStx, BurnStx}
-use Rattle.cl_forms.specs.Heads.{Row, native}
+use Rattle.cl_forms.specs.Heads.{Row}
 use Rattle.cl_forms.specs.Shapes.{trees_of, binding_of, bindings_of, pairs_of, MatchParts, OptionalMatch, ResponseMatch, match_of}
 use Rattle.cl_maps.specs.Maps.{get, put, without}
 use Rattle.cl_events.specs.declared.event.EventKind.TheVariants.{Print}
 use Rattle.cl_events.specs.State.{State, spot, with_variables, with_entries, with_event}
 use Rattle.cl_meaning.specs.Answers.{Given, Wrong, Deeper, Answer, stop, give, charged, and_then, returning, with_known, outcome_of}
-use Rattle.cl_meaning.specs.Deployed.{Contract, Deployed, Function, function_in, function_of, has_map}
+use Rattle.cl_meaning.specs.Deployed.{Contract, Deployed, Function, function_in, function_of, has_map, native_of}
 use Rattle.cl_meaning.specs.Scope.{Frame, Scope, home, BoundValues, Take, Enter, Callee, OwnFunction, ByName, parts, binding, with_bound, in_frame, as_contract, called, taken_with}
 use Rattle.cl_meaning.specs.Values.{on_values, strict_form, tuple_form, get_form, as_max_len_form}
 use Rattle.cl_meaning.specs.Control.{throw, if_form, last_of, begin_form, let_in, let_form, and_on, or_on, and_form, or_form, throwing, asserts_form, wanted_part, err_part, unwrap_form, unwrap_err_form, tried, try_form, match_optional, match_response, match_taken, match_form, as_contract_form}
@@ -396,7 +396,7 @@ module _ (take : Take) (T : KeepsTake take) (enter : Enter) (E : KeepsEnter ente
   unfolding node
   keeps_node S (LeafAt leaf at) s = keeps_leaf S leaf s
   keeps_node S (TupleAt ps at) s = keeps_tuple take T S (pairs_of ps) s
-  keeps_node S (ListAt (Then (LeafAt (Named x) at') es) at) s = keeps_operator (native x) x S (trees_of es) s
+  keeps_node S (ListAt (Then (LeafAt (Named x) at') es) at) s = keeps_operator (native_of x (home S)) x S (trees_of es) s
   keeps_node S e s = keeps_stop Wrong s
 
 mutual

@@ -1,6 +1,7 @@
 -- What each node means, as equations: the form of its operation over the expressions of its parts.
-use Rattle.std.proofs.Common.{Vec, Global, ◌≡◌, ℕ, List, ◌∷◌, length, drop, map, true, false, Bool, Option, Some, None, refl, sym, ap, ◌∙◌}
+use Rattle.std.proofs.Common.{Vec, Global, ◌≡◌, ◌<◌, ℕ, zero, suc, List, [], ◌∷◌, length, get_or, arith, drop, map, true, false, Bool, Option, Some, None, refl, sym, ap, ◌∙◌}
 use Rattle.std.specs.Prelude.{not, is_some}
+use Rattle.std.proofs.lemmas.Bool.{and_parts}
 use Rattle.cl_types.specs.Types.{PlainType}
 use Rattle.cl_shapes.specs.declared.name.CostName.TheVariants.{Literal}
 use Rattle.cl_sexpr.specs.declared.sexpr.Span.{Span}
@@ -10,6 +11,7 @@ use Rattle.cl_values.specs.Valid.{made}
 use Rattle.cl_forms.specs.declared.head.Head.TheVariants as heads
 use Rattle.cl_forms.specs.Names.{is_one_of}
 use Rattle.cl_forms.specs.Keywords.{keyword_name, keywords}
+use Rattle.cl_forms.specs.declared.version.Version.{Version}
 use Rattle.cl_forms.specs.Heads.{Row, row_of, native}
 use Rattle.cl_forms.specs.Shapes.{pairs_of, bindings_of, beside}
 use Rattle.cl_forms.proofs.Bindings.{trees_forest}
@@ -18,8 +20,9 @@ use Rattle.cl_code.specs.declared.op.Op.{Op}
 use Rattle.cl_code.specs.declared.op.Op.TheVariants.{Int, Uint, Buff, Ascii as AsciiOp, Utf8, Standing as StandingOp, Local as LocalOp, Keyword, Bound, Constant, OnValues, OnParts, OnName, Iterate, AsMaxLen, Tuple, TupleOf, Let, MatchOptional, MatchResponse, Call, ContractCall}
 use Rattle.cl_code.specs.OpNames.{parts_head, name_head, iteration_head}
 use Rattle.cl_code.specs.declared.op.Binding.{Binding}
-use Rattle.cl_code.specs.Nodes.{has_own_name, has_parts, are_once, bound_names}
-use Rattle.cl_code.specs.Typed.{Typed, TypedAs, typeds, expression_of}
+use Rattle.cl_code.proofs.Versions.{parts_had, name_had, iteration_had, has_goes}
+use Rattle.cl_code.specs.Nodes.{has_own_name, has_parts, goes_op, versions_of, are_once, bound_names}
+use Rattle.cl_code.specs.Typed.{Typed, TypedAs, typeds, expression_of, has_version, goes_by, all_go_by}
 use Rattle.cl_code.specs.Expression.{word, target, applied_name, bound_items, keyed, behind_first, optional_branches, response_branches, expression}
 use Rattle.cl_meaning.specs.Answers.{Answer, with_known}
 use Rattle.cl_meaning.specs.Scope.{Scope, Take, Enter}
@@ -29,7 +32,8 @@ use Rattle.cl_meaning.specs.Values.{strict_form, tuple_form, as_max_len_form}
 use Rattle.cl_meaning.specs.Calls.{call_form, contract_call_form}
 use Rattle.cl_meaning.specs.Meaning.{head_form, node}
 use Rattle.cl_meaning.proofs.Equations.{node_of_call, node_of_leaf, node_of_tuple}
-use Rattle.cl_frames.proofs.Heads.{by_head, exactly}
+use Rattle.cl_frames.specs.Seen.{IsOfVersion}
+use Rattle.cl_frames.proofs.Heads.{by_head, exactly, fewer}
 
 not_true : (b : Bool) → not b ≡ true → b ≡ false
 not_true true h = cc
@@ -64,9 +68,22 @@ op_form (MatchResponse head x y) take enter S es s = match_form take S (response
 op_form (Call f) take enter S es s = call_form f.name take enter S es s
 op_form (ContractCall head t f callee) take enter S es s = contract_call_form take enter S (target t ∷ word f ∷ es) s
 
-module _ (take : Take) (enter : Enter) (S : Scope) where
-  node_op : (op : Op) (es : List Tree) (at : Span) (s : State) → has_own_name op ≡ true → node take enter S (expression op es at) s ≡ op_form op take enter S es s
-  unfolding leaf_form head_form has_own_name
+-- a node of a tree that can stand in a text of a version can
+pub node_goes : (v : Version) (code : Typed) (op : Op) (es : List Tree) (ps : List Typed) (ty : PlainType) (at : Span) → TypedAs (expression op es at) ty (versions_of op) (typeds ps) ≡ code → goes_by v code ≡ true → goes_op v op ≡ true
+node_goes v code op es ps ty at h k = sym (has_goes v op) ∙ (and_parts (has_version (versions_of op) v) (all_go_by v (typeds ps)) (ap (goes_by v) h ∙ k)).0
+
+-- and so can its parts
+pub parts_go : (v : Version) (code : Typed) (op : Op) (es : List Tree) (ps : List Typed) (ty : PlainType) (at : Span) → TypedAs (expression op es at) ty (versions_of op) (typeds ps) ≡ code → goes_by v code ≡ true → all_go_by v (typeds ps) ≡ true
+parts_go v code op es ps ty at h k = (and_parts (has_version (versions_of op) v) (all_go_by v (typeds ps)) (ap (goes_by v) h ∙ k)).1
+
+pub part_goes : (v : Version) (ps : List Typed) (i : ℕ) (p : Typed) → all_go_by v (typeds ps) ≡ true → i < length ps → p ≡ get_or ps i p → goes_by v p ≡ true
+part_goes v [] i p h less e = absurd (omega (arith, less))
+part_goes v (q ∷ ps) zero p h less e = ap (goes_by v) e ∙ (and_parts (goes_by v q) (all_go_by v (typeds ps)) h).0
+part_goes v (q ∷ ps) (suc i) p h less e = part_goes v ps i p (and_parts (goes_by v q) (all_go_by v (typeds ps)) h).1 (omega (arith, less)) e
+
+module _ (v : Version) (take : Take) (enter : Enter) (S : Scope) (is : IsOfVersion v S) where
+  pub node_op : (op : Op) (es : List Tree) (at : Span) (s : State) → goes_op v op ≡ true → node take enter S (expression op es at) s ≡ op_form op take enter S es s
+  unfolding leaf_form head_form goes_op
   node_op (Int z) es at s h = node_of_leaf take enter S (Signed z) at s
   node_op (Uint n) es at s h = node_of_leaf take enter S (Unsigned n) at s
   node_op (Buff bytes) es at s h = node_of_leaf take enter S (Bytes bytes.items) at s
@@ -77,26 +94,19 @@ module _ (take : Take) (enter : Enter) (S : Scope) where
   node_op (Keyword k) es at s h = node_of_leaf take enter S (Named (keyword_name k)) at s
   node_op (Bound x) es at s h = node_of_leaf take enter S (Named x) at s
   node_op (Constant x) es at s h = node_of_leaf take enter S (Named x) at s
-  node_op (OnValues n head) es at s h = by_head take enter S (heads.OnValues n) es at head s
-  node_op (OnParts n head) es at s h = by_head take enter S (parts_head n) es at head s
-  node_op (OnName n head w) es at s h = by_head take enter S (name_head n) (word w ∷ es) at head s
-  node_op (Iterate i head a) es at s h = by_head take enter S (iteration_head i) (applied_name a ∷ es) at head s
-  node_op (AsMaxLen head most literal) es at s h = by_head take enter S heads.AsMaxLen (behind_first (λ e more. e ∷ LeafAt (Unsigned most) literal ∷ more) es) at head s
+  node_op (OnValues n head) es at s h = by_head v take enter S is (heads.OnValues n) h es at head s
+  node_op (OnParts n head) es at s h = by_head v take enter S is (parts_head n) (parts_had v n) es at head s
+  node_op (OnName n head w) es at s h = by_head v take enter S is (name_head n) (name_had v n) (word w ∷ es) at head s
+  node_op (Iterate i head a) es at s h = by_head v take enter S is (iteration_head i) (iteration_had v i) (applied_name a ∷ es) at head s
+  node_op (AsMaxLen head most literal) es at s h = by_head v take enter S is heads.AsMaxLen refl (behind_first (λ e more. e ∷ LeafAt (Unsigned most) literal ∷ more) es) at head s
   node_op (Tuple keys) es at s h = node_of_tuple take enter S (keyed keys.items es) at s
-  node_op (TupleOf head pairs) es at s h = by_head take enter S heads.TupleOf (bound_items pairs.items es) at head s
-  node_op (Let head brackets bindings) es at s h = by_head take enter S heads.Let (ListAt (forest (bound_items bindings.items es)) brackets ∷ drop (length bindings.items) es) at head s
-  node_op (MatchOptional head x) es at s h = by_head take enter S heads.Match (optional_branches x es) at head s
-  node_op (MatchResponse head x y) es at s h = by_head take enter S heads.Match (response_branches x y es) at head s
+  node_op (TupleOf head pairs) es at s h = by_head v take enter S is heads.TupleOf refl (bound_items pairs.items es) at head s
+  node_op (Let head brackets bindings) es at s h = by_head v take enter S is heads.Let refl (ListAt (forest (bound_items bindings.items es)) brackets ∷ drop (length bindings.items) es) at head s
+  node_op (MatchOptional head x) es at s h = by_head v take enter S is heads.Match refl (optional_branches x es) at head s
+  node_op (MatchResponse head x y) es at s h = by_head v take enter S is heads.Match refl (response_branches x y es) at head s
   node_op (Call f) es at s h =
-      node_of_call take enter S f.name (forest es) at f.span s (no_row (native f.name) h) ∙ ap (λ l. call_form f.name take enter S l s) (trees_forest es)
-  node_op (ContractCall head t f callee) es at s h = by_head take enter S heads.ContractCall (target t ∷ word f ∷ es) at head s
-
--- a tree with this operation and these parts
-pub node_is : (take : Take) (enter : Enter) (S : Scope) (code : Typed) (op mine : Op) (ps qs : List Typed) (ty : PlainType) (at : Span) (s : State) → TypedAs (expression op (map expression_of ps) at) ty (typeds ps) ≡ code → has_own_name op ≡ true → op ≡ mine → qs ≡ ps → node take enter S (expression_of code) s ≡ op_form mine take enter S (map expression_of qs) s
-node_is take enter S code op mine ps qs ty at s h k m n =
-    ap (λ (c : Typed). node take enter S (expression_of c) s) (sym h) ∙ node_op take enter S op (map expression_of ps) at s k
-    ∙ ap (λ (o : Op). op_form o take enter S (map expression_of ps) s) m
-    ∙ ap (λ (l : List Typed). op_form mine take enter S (map expression_of l) s) (sym n)
+      node_of_call take enter S f.name (forest es) at f.span s (is f.name ∙ no_row (native v f.name) h) ∙ ap (λ l. call_form f.name take enter S l s) (trees_forest es)
+  node_op (ContractCall head t f callee) es at s h = by_head v take enter S is heads.ContractCall refl (target t ∷ word f ∷ es) at head s
 
 -- no keyword is the name of a node
 pub no_keyword : (op : Op) (x : List ℕ) → has_own_name op ≡ true → op ≡ Bound x → is_one_of keywords x ≡ false
@@ -133,6 +143,12 @@ pair_counts op head pairs seen ps qs h k e m =
     ∙ exactly (length ps) (length pairs.items) (sym (ap (λ (o : Op). has_parts o (length ps)) k) ∙ h)
     ∙ ap (λ (l : List Binding). length l) (sym e)
 
+-- a let has more parts than bindings
+pub let_counts : (op : Op) (head at : Span) (bindings : Vec Binding Global) (seen : List Binding) (ps qs : List Typed) → has_parts op (length ps) ≡ true → op ≡ Let head at bindings → seen ≡ bindings.items → qs ≡ ps → length seen < length qs
+let_counts op head at bindings seen ps qs h k e m =
+    let less : length bindings.items < length ps = fewer (length bindings.items) (length ps) (sym (ap (λ (o : Op). has_parts o (length ps)) k) ∙ h) in
+    omega (arith, less, ap (λ (l : List Binding). length l) e, ap (λ (l : List Typed). length l) m)
+
 -- an expression stands where its node says
 stands_at : (op : Op) (es : List Tree) (at : Span) → at ≡ span_of (expression op es at)
 stands_at (Int z) es at = refl
@@ -158,5 +174,5 @@ stands_at (MatchResponse head x y) es at = refl
 stands_at (Call f) es at = refl
 stands_at (ContractCall head t f callee) es at = refl
 
-pub place_of : (code : Typed) (op : Op) (ps : List Typed) (ty : PlainType) (at : Span) → TypedAs (expression op (map expression_of ps) at) ty (typeds ps) ≡ code → at ≡ span_of (expression_of code)
+pub place_of : (code : Typed) (op : Op) (ps : List Typed) (ty : PlainType) (at : Span) → TypedAs (expression op (map expression_of ps) at) ty (versions_of op) (typeds ps) ≡ code → at ≡ span_of (expression_of code)
 place_of code op ps ty at h = stands_at op (map expression_of ps) at ∙ ap (λ (c : Typed). span_of (expression_of c)) h

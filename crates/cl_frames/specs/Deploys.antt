@@ -31,7 +31,7 @@ use Rattle.cl_frames.specs.Watching as walks
 
 -- a contract with the values that its constants have so far
 abbrev pub contract_with : Checked → List (List ℕ × Val) → Contract
-contract_with c constants = record { principal = c.principal; forms = forms_of c; source_length = c.source_length; constants = constants }
+contract_with c constants = record { principal = c.principal; version = c.version; forms = forms_of c; source_length = c.source_length; constants = constants }
 
 -- ---- tokens
 

@@ -11,7 +11,7 @@ abbrev pub frame_seen : FrameOfCode → Frame
 frame_seen f = record { contract = f.contract; sender = f.sender; caller = f.caller; height = f.height }
 
 abbrev pub home_seen : Home → Contract
-home_seen h = record { principal = h.checked.now.principal; forms = forms_of h.checked.now; source_length = h.checked.now.source_length; constants = h.constants.now.entries }
+home_seen h = record { principal = h.checked.now.principal; version = h.checked.now.version; forms = forms_of h.checked.now; source_length = h.checked.now.source_length; constants = h.constants.now.entries }
 
 -- the contract that is being deployed stands before the deployed ones
 abbrev pub with_opening : Option Home → Deployed → Deployed

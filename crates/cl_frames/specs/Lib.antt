@@ -8,6 +8,7 @@ pub mod Aborts
 pub mod ActParts
 pub mod Deploys
 pub mod Applying
+pub mod Going
 pub mod Rows
 pub mod Kept
 pub mod Sound

@@ -6,6 +6,7 @@ use Rattle.cl_shapes.specs.Costs.{plus, IsAtMost}
 use Rattle.cl_shapes.specs.Limits.{Purse}
 use Rattle.cl_values.specs.Tree.{Tree as Val}
 use Rattle.cl_values.specs.Typed.{IsOf, AreOf}
+use Rattle.cl_forms.specs.Texts.{Text}
 use Rattle.cl_events.specs.State.{State}
 use Rattle.cl_rules.specs.Acceptance.{Accepted}
 use Rattle.cl_rules.specs.Bills.{cost_under}
@@ -51,11 +52,12 @@ pub record IsAcceptedAfter (W : Deployed) (s : State) (c : Checked) : Type 0 whe
   pub known : List Known
   pub node : IsNode costs W known s
   pub new : known_at c.principal known ≡ None
-  pub text : List ℕ
+  pub text : Text
   pub accepted : Accepted known c.principal costs text
   pub forms : forms_of c ≡ accepted.forms
   pub order : c.order.items ≡ accepted.order
-  pub size : c.source_length ≡ length text
+  pub version : c.version ≡ text.version
+  pub size : c.source_length ≡ length text.bytes
 
 -- what is spent of a purse is at most what was spent before and the bound of the deployment
 abbrev pub DeploySpendsWithin : CostTable → Deployed → State → Checked → Purse → Purse → Type 0

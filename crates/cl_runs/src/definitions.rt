@@ -1,12 +1,13 @@
 //! The definitions of a contract that is being deployed.
-ghost use Rattle.std.specs.Prelude.{◌≡◌, ◌≤◌, List, ℕ, Option, Some, None};
+ghost use Rattle.std.specs.Prelude.{◌≡◌, ◌≤◌, true, List, ℕ, Option, Some, None};
 ghost use Rattle.cl_types.specs.Types.{PlainType};
 ghost use Rattle.cl_sexpr.specs.declared.sexpr.Span.{Span};
 ghost use Rattle.cl_maps.specs.Maps.{get};
 ghost use Rattle.cl_events.specs.State.{place};
-ghost use Rattle.cl_code.specs.Typed.{expression_of};
+ghost use Rattle.cl_code.specs.Typed.{expression_of, goes_by};
 ghost use Rattle.cl_code.specs.declared.definition.Definition.TheVariants.{Fungible as FungibleOfCode};
 ghost use Rattle.cl_code.specs.Definitions.{form_defined};
+ghost use Rattle.cl_contracts.specs.Seen.{goes};
 ghost use Rattle.cl_forms.specs.Forms.{ConstantForm, VariableForm, FungibleForm, ExpressionForm};
 ghost use Rattle.cl_meaning.specs.Deployed.{value_of};
 ghost use Rattle.cl_frames.specs.Watching.{Ends, amount, watched};
@@ -32,7 +33,8 @@ fn evaluate_top<W: Watch>(
     meter: &mut Meter,
     watch: &mut W,
 ) -> Result<Val, Stop>
-    requires { IsDeploying deploying.now }
+    requires fits { IsDeploying deploying.now }
+    requires goes { goes_by deploying.now.checked.now.version code.now ≡ true }
     ensures meant { Ends (watched (costs_of deploying.now) meter.old (W.seen watch.old) (top_of deploying.now constants.now.entries (expression_of code.now) world.old.stack.top)) result meter.new (W.seen watch.new) world.new.stack.top }
     ensures below { world.new.stack.below ≡ world.old.stack.below }
     ensures grew { amount (W.seen watch.old) ≤ amount (W.seen watch.new) }
@@ -71,6 +73,7 @@ fn define_constant<W: Watch>(
 ) -> Result<(), Stop>
     requires fits { IsDeploying deploying.now }
     requires new { value_of name.now constants.old.entries ≡ None }
+    requires goes { goes_by deploying.now.checked.now.version value.now ≡ true }
     ensures meant { (at : Span) → Builds deploying.now meter.old (W.seen watch.old) (defined_by deploying.now (record { name = Some name.now; kind = ConstantForm (expression_of value.now); span = at }) constants.old.entries world.old.stack.top) constants.new.entries result meter.new (W.seen watch.new) world.new.stack.top }
     ensures below { world.new.stack.below ≡ world.old.stack.below }
     ensures grew { amount (W.seen watch.old) ≤ amount (W.seen watch.new) }
@@ -91,6 +94,7 @@ fn define_variable<W: Watch>(
     watch: &mut W,
 ) -> Result<(), Stop>
     requires fits { IsDeploying deploying.now }
+    requires goes { goes_by deploying.now.checked.now.version value.now ≡ true }
     ensures meant { (type : PlainType) (at : Span) → Builds deploying.now meter.old (W.seen watch.old) (defined_by deploying.now (record { name = Some name.now; kind = VariableForm type (expression_of value.now); span = at }) constants.now.entries world.old.stack.top) constants.now.entries result meter.new (W.seen watch.new) world.new.stack.top }
     ensures below { world.new.stack.below ≡ world.old.stack.below }
     ensures grew { amount (W.seen watch.old) ≤ amount (W.seen watch.new) }
@@ -112,6 +116,7 @@ fn define_capped<W: Watch>(
 ) -> Result<(), Stop>
     requires fits { IsDeploying deploying.now }
     requires new { get (place deploying.now.checked.now.principal name.now) world.old.stack.top.fungibles ≡ None }
+    requires goes { goes_by deploying.now.checked.now.version cap.now ≡ true }
     ensures meant { (at : Span) → Builds deploying.now meter.old (W.seen watch.old) (defined_by deploying.now (record { name = Some name.now; kind = FungibleForm (Some (expression_of cap.now)); span = at }) constants.now.entries world.old.stack.top) constants.now.entries result meter.new (W.seen watch.new) world.new.stack.top }
     ensures below { world.new.stack.below ≡ world.old.stack.below }
     ensures grew { amount (W.seen watch.old) ≤ amount (W.seen watch.new) }
@@ -130,6 +135,7 @@ fn define_fungible<W: Watch>(
 ) -> Result<(), Stop>
     requires fits { IsDeploying deploying.now }
     requires new { get (place deploying.now.checked.now.principal token.now.name) world.old.stack.top.fungibles ≡ None }
+    requires goes { goes deploying.now.checked.now.version (FungibleOfCode token.now) ≡ true }
     ensures meant { Builds deploying.now meter.old (W.seen watch.old) (defined_by deploying.now (form_defined (FungibleOfCode token.now)) constants.now.entries world.old.stack.top) constants.now.entries result meter.new (W.seen watch.new) world.new.stack.top }
     ensures below { world.new.stack.below ≡ world.old.stack.below }
     ensures grew { amount (W.seen watch.old) ≤ amount (W.seen watch.new) }
@@ -150,6 +156,7 @@ fn evaluate_alone<W: Watch>(
     watch: &mut W,
 ) -> Result<(), Stop>
     requires fits { IsDeploying deploying.now }
+    requires goes { goes_by deploying.now.checked.now.version code.now ≡ true }
     ensures meant { (name : Option (List ℕ)) (at : Span) → Builds deploying.now meter.old (W.seen watch.old) (defined_by deploying.now (record { name = name; kind = ExpressionForm (expression_of code.now); span = at }) constants.now.entries world.old.stack.top) constants.now.entries result meter.new (W.seen watch.new) world.new.stack.top }
     ensures below { world.new.stack.below ≡ world.old.stack.below }
     ensures grew { amount (W.seen watch.old) ≤ amount (W.seen watch.new) }
@@ -169,6 +176,7 @@ pub(crate) fn define<W: Watch>(
 ) -> Result<(), Stop>
     requires fits { IsDeploying deploying.now }
     requires new { (x : List ℕ) → (form_defined definition.now).name ≡ Some x → IsNew deploying.now.checked.now.principal x constants.old.entries world.old.stack.top }
+    requires goes { goes deploying.now.checked.now.version definition.now ≡ true }
     ensures meant { Builds deploying.now meter.old (W.seen watch.old) (defined_by deploying.now (form_defined definition.now) constants.old.entries world.old.stack.top) constants.new.entries result meter.new (W.seen watch.new) world.new.stack.top }
     ensures below { world.new.stack.below ≡ world.old.stack.below }
     ensures grew { amount (W.seen watch.old) ≤ amount (W.seen watch.new) }

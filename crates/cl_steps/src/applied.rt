@@ -1,5 +1,5 @@
 //! What is given by name to be applied.
-ghost use Rattle.std.specs.Prelude.{◌≡◌, ◌<◌, ◌≤◌, List, ℕ, true, length, option_map};
+ghost use Rattle.std.specs.Prelude.{◌≡◌, ◌<◌, ◌≤◌, List, ℕ, true, length, option_map, IfSome};
 ghost use Rattle.cl_values.specs.Tree.{Tree};
 ghost use Rattle.cl_events.specs.State.{State};
 ghost use Rattle.cl_code.specs.Nodes.{has_own_applied};
@@ -9,7 +9,8 @@ ghost use Rattle.cl_meaning.specs.Meaning.{applied};
 ghost use Rattle.cl_frames.specs.Applying.{callee_seen, by_name, name_of_applied, place_of_applied, truth_of, join, joined as joined_form};
 ghost use Rattle.cl_frames.specs.Runs.{Runs};
 ghost use Rattle.cl_frames.specs.Watching.{Walks, amount};
-ghost use Rattle.cl_frames.specs.Seen.{scope_of, Fits};
+ghost use Rattle.cl_frames.specs.Seen.{scope_of, version_of, Fits};
+ghost use Rattle.cl_frames.specs.Going.{AppliedGoesIn, goes_called};
 
 use crate::finding::own_function;
 use crate::natives::native_on;
@@ -21,8 +22,11 @@ use cl_values::{Kind, Native, Val};
 
 /// What is given by name.
 pub fn callee_named<'a>(context: &'a Context, applied: &Applied) -> Option<Called<'a>>
-    requires { has_own_applied applied.now ≡ true }
-    ensures { (bound : List (List ℕ × Tree)) → Fits context.now → option_map (λ f. callee_seen f) result ≡ callee_of (scope_of context.now bound) (name_of_applied applied.now) (place_of_applied applied.now) }
+    requires own { has_own_applied applied.now ≡ true }
+    requires applies { AppliedGoesIn context.now applied.now }
+    ensures seen { (bound : List (List ℕ × Tree)) → Fits context.now → option_map (λ f. callee_seen f) result ≡ callee_of (scope_of context.now bound) (name_of_applied applied.now) (place_of_applied applied.now) }
+    ensures goes { Fits context.now →
+        IfSome result (λ f. goes_called (version_of context.now) f ≡ true) }
 {
     match applied {
         Applied::Function(word) => match own_function(context, &word.name) {

@@ -2,10 +2,8 @@ use Rattle.std.proofs.Common.{Option, sym, ap, ◌∙◌}
 use Rattle.std.specs.Prelude.{option_map}
 use Rattle.cl_frames.proofs.WatchLaws.{watched-stop}
 use Rattle.cl_frames.proofs.WatchSteps.{ends_so, known_same}
-use Rattle.cl_frames.proofs.Laws
 use Rattle.cl_contracts.specs.Seen.{contract_seen}
 use Rattle.cl_meaning.specs.Deployed.{Contract, function_of}
-use Rattle.cl_frames.proofs.HomeLaws
 use Rattle.cl_runs.proofs.call.call_named.Goals as goal
 
 pub returns-in-Some-clause-meant : goal.returns-in-Some-clause-meant

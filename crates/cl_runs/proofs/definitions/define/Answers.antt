@@ -1,6 +1,9 @@
-use Rattle.std.proofs.Common.{ap, None}
+use Rattle.std.proofs.Common.{ap, sym, ◌∙◌, true, None}
+use Rattle.std.proofs.lemmas.Bool.{and_parts}
 use Rattle.cl_code.specs.declared.definition.Definition.{Definition}
 use Rattle.cl_code.specs.Definitions.{form_defined}
+use Rattle.cl_code.specs.Typed.{goes_by}
+use Rattle.cl_contracts.specs.Seen.{goes}
 use Rattle.cl_frames.proofs.Defining.{by_form, builds, map_ends, function_ends, map_unseen, nonfungible_unseen, function_unseen}
 use Rattle.cl_runs.proofs.definitions.define.Goals as goal
 
@@ -33,3 +36,21 @@ define_fungible-requires-clause-new g c = (c.requires.new _ (ap (λ (d : Definit
 
 pub define_nonfungible-requires : goal.define_nonfungible-requires
 define_nonfungible-requires g c = record { new = (c.requires.new _ (ap (λ (d : Definition). (form_defined d).name) c.in-NonFungible.is)).nonfungible }
+
+pub define_constant-requires-clause-goes : goal.define_constant-requires-clause-goes
+define_constant-requires-clause-goes g c =
+    let v = c.args.deploying.now.checked.now.version in
+    (and_parts (goes_by v c.in-Constant.constant.value) true (sym (ap (goes v) c.in-Constant.is) ∙ c.requires.goes)).0
+
+pub define_variable-requires-clause-goes : goal.define_variable-requires-clause-goes
+define_variable-requires-clause-goes g c =
+    let v = c.args.deploying.now.checked.now.version in
+    (and_parts (goes_by v c.in-Variable.variable.value) true (sym (ap (goes v) c.in-Variable.is) ∙ c.requires.goes)).0
+
+pub evaluate_alone-requires-clause-goes : goal.evaluate_alone-requires-clause-goes
+evaluate_alone-requires-clause-goes g c =
+    let v = c.args.deploying.now.checked.now.version in
+    (and_parts (goes_by v c.in-TopLevel.expression.value) true (sym (ap (goes v) c.in-TopLevel.is) ∙ c.requires.goes)).0
+
+pub define_fungible-requires-clause-goes : goal.define_fungible-requires-clause-goes
+define_fungible-requires-clause-goes g c = sym (ap (goes c.args.deploying.now.checked.now.version) c.in-Fungible.is) ∙ c.requires.goes

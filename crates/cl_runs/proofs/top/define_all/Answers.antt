@@ -3,6 +3,7 @@ use Rattle.std.specs.Prelude.{slice_get}
 use Rattle.std.proofs.lemmas.Result.{err_from_is_err_and}
 use Rattle.std.proofs.lemmas.List.{drop_all}
 use Rattle.std.proofs.lemmas.Option.{slice_get-get_or}
+use Rattle.cl_contracts.proofs.Going.{goes_at}
 use Rattle.cl_frames.specs.Watching.{watched}
 use Rattle.cl_frames.specs.Deploys.{costs_of, all_by}
 use Rattle.std.specs.Prelude.{Ok}
@@ -21,6 +22,11 @@ pub define-requires-clause-new : goal.define-requires-clause-new
 define-requires-clause-new g c =
     let low : c.loop-place.place-index < length c.args.places.now = omega arith in
     new_here c.args.deploying.now.checked.now c.loop-place.place-index _ _ _ _ (ap (λ (ns : List ℕ). slice_get ns c.loop-place.place-index) (sym c.requires.order) ∙ slice_get-get_or _ _ 0 low) (form_here c.args.deploying.now.checked.now (get_or c.args.places.now c.loop-place.place-index 0) _ c.definition_at-definition.ensures) c.loop-place.invariant.new
+
+pub define-requires-clause-goes : goal.define-requires-clause-goes
+define-requires-clause-goes g c =
+    let checked = c.args.deploying.now.checked.now in
+    goes_at checked.version checked.definitions.items _ _ c.requires.fits.names.goes c.definition_at-definition.ensures
 
 pub returns-in_err-define-clause-meant : goal.returns-in_err-define-clause-meant
 returns-in_err-define-clause-meant g c =
