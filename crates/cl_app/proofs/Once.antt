@@ -11,6 +11,8 @@ use Rattle.cl_costs.specs.declared.refusal.CostRefusal.{CostRefusal}
 use Rattle.cl_costs.specs.CostFile.{table_of}
 use Rattle.cl_costs.specs.Tables.{function_of}
 use Rattle.cl_meaning.specs.Limits.{Costs}
+use Rattle.cl_forms.specs.declared.version.Version.{Version}
+use Rattle.cl_forms.specs.Texts.{Text, text_of}
 use Rattle.cl_rules.specs.Context.{CostTable, Known}
 use Rattle.cl_rules.specs.FormRules.{Defined}
 use Rattle.cl_rules.specs.Acceptance.{known_of}
@@ -29,6 +31,7 @@ use Rattle.cl_report.specs.Lines.{report_from}
 use Rattle.cl_lines.specs.StateLines.{IsStateText}
 use Rattle.cl_entries.specs.declared.pieces.Reply.{Reply}
 use Rattle.cl_words.specs.declared.sources.Source.{Source}
+use Rattle.cl_words.specs.Seen.{text_in}
 use Rattle.cl_words.specs.Words.{Command, Call, Run, Check, Value, Wire, Gen}
 use Rattle.cl_words.specs.Argument.{Arguments, before, from_word, Spell}
 use Rattle.cl_entries.specs.Reply.{Answer, bytes_of, Completes}
@@ -74,9 +77,9 @@ file_same : (file : List ℕ) (Is : List ℕ → Answer → Type 0) → ((bytes 
 file_same file Is once None x y p q = absurd p
 file_same file Is once (Some bytes) x y p q = by_length_same (is_long bytes) file (Is bytes) (once bytes) x y p q
 
-called_same : OneRun → (function : List ℕ) (args : List Tree) (source : List ℕ) → OneAnswer (IsCalled source function args)
-called_same once function args source x y p q =
-    let first = deployment source in
+called_same : OneRun → (function : List ℕ) (args : List Tree) (text : Text) → OneAnswer (IsCalled text function args)
+called_same once function args text x y p q =
+    let first = deployment text in
     let second = call function args in
     let same : p.deployed ∷ p.called ∷ [] ≡ q.deployed ∷ q.called ∷ [] = (once unit_function (record { genesis = []; entries = first ∷ second ∷ [] }) (p.deployed ∷ p.called ∷ []) (q.deployed ∷ q.called ∷ []) p.after q.after p.runs q.runs).0 in
     let deployed : p.deployed ≡ q.deployed = cc in
@@ -116,17 +119,17 @@ run_answer_same laws files costs file state =
 report_same : OneOfSources → (table : CostTable) (known : List Known) (sources : List Source) → OneAnswer (IsReport table known sources)
 report_same laws table known [] x y p q = p ∙ sym q
 report_same laws table known (s ∷ sources) x y (inl p) (inl q) =
-    let defined : p.0.defined ≡ q.0.defined = laws.defined known s.principal table s.text p.0 q.0 in
-    let forms : p.0.forms ≡ q.0.forms = (laws.order s.text p.0.forms q.0.forms p.0.order q.0.order p.0.typed.is_ordered q.0.typed.is_ordered).0 in
+    let defined : p.0.defined ≡ q.0.defined = laws.defined known s.principal table (text_in s) p.0 q.0 in
+    let forms : p.0.forms ≡ q.0.forms = (laws.order (text_in s) p.0.forms q.0.forms p.0.order q.0.order p.0.typed.is_ordered q.0.typed.is_ordered).0 in
     let rest : p.1 ≡ q.1 =
     report_same laws table (known ++ known_of s.principal (length s.text) q.0.defined ∷ []) sources p.1 q.1
     (subst (λ (D : Defined). IsReport table (known ++ known_of s.principal (length s.text) D ∷ []) sources p.1) defined p.2) q.2
     in
     p.3 ∙ (λ i. accepted_answer s (told_of table (defined i) (forms i)) (rest i)) ∙ sym q.3
-report_same laws table known (s ∷ sources) x y (inl p) (inr q) = absurd (laws.clean known s.principal table s.text q.0.rule q.0.span q.0.names p.0 q.1)
-report_same laws table known (s ∷ sources) x y (inr p) (inl q) = absurd (laws.clean known s.principal table s.text p.0.rule p.0.span p.0.names q.0 p.1)
+report_same laws table known (s ∷ sources) x y (inl p) (inr q) = absurd (laws.clean known s.principal table (text_in s) q.0.rule q.0.span q.0.names p.0 q.1)
+report_same laws table known (s ∷ sources) x y (inr p) (inl q) = absurd (laws.clean known s.principal table (text_in s) p.0.rule p.0.span p.0.names q.0 p.1)
 report_same laws table known (s ∷ sources) x y (inr p) (inr q) =
-    let same = laws.first known s.principal table s.text p.0.rule q.0.rule p.0.span q.0.span p.0.names q.0.names p.1 q.1 in
+    let same = laws.first known s.principal table (text_in s) p.0.rule q.0.rule p.0.span q.0.span p.0.names q.0.names p.1 q.1 in
     p.2 ∙ (λ i. refused_answer s (record { rule = same.0 i; span = same.1 i; names = same.2 i })) ∙ sym q.2
 
 sources_same : OneOfSources → (table : CostTable) (sources : Option Sources) → OneAnswer (IsSourcesAnswer table sources)
@@ -134,13 +137,13 @@ sources_same laws table None x y p q = absurd p
 sources_same laws table (Some (Err long)) x y p q = p ∙ sym q
 sources_same laws table (Some (Ok sources)) x y p q = report_same laws table [] sources x y p q
 
-under_same : OneOfSources → (files : Held) (costs : List ℕ) (address : AddressParts) (paths : List (List ℕ)) (read : Result (List CostFn) CostRefusal) → OneAnswer (IsAnswerUnder files costs address paths read)
-under_same laws files costs address paths (Err fault) x y p q = p ∙ sym q
-under_same laws files costs address paths (Ok table) x y p q = sources_same laws (function_of table) (sources_under files address paths) x y p q
+under_same : OneOfSources → (files : Held) (costs : List ℕ) (address : AddressParts) (paths : List (List ℕ)) (version : Version) (read : Result (List CostFn) CostRefusal) → OneAnswer (IsAnswerUnder files costs address paths version read)
+under_same laws files costs address paths version (Err fault) x y p q = p ∙ sym q
+under_same laws files costs address paths version (Ok table) x y p q = sources_same laws (function_of table) (sources_under files address version paths) x y p q
 
-check_same : OneOfSources → (files : Held) (costs : List ℕ) (address : AddressParts) (paths : List (List ℕ)) → OneAnswer (IsCheckAnswer files costs address paths)
-check_same laws files costs address paths =
-    file_same costs (λ bytes. IsAnswerUnder files costs address paths (table_of bytes)) (λ bytes. under_same laws files costs address paths (table_of bytes)) (content_of files costs)
+check_same : OneOfSources → (files : Held) (costs : List ℕ) (address : AddressParts) (paths : List (List ℕ)) (version : Version) → OneAnswer (IsCheckAnswer files costs address paths version)
+check_same laws files costs address paths version =
+    file_same costs (λ bytes. IsAnswerUnder files costs address paths version (table_of bytes)) (λ bytes. under_same laws files costs address paths version (table_of bytes)) (content_of files costs)
 
 from_same : (o : Reading) (Behind : Arguments → Type 0) → ((a b : Arguments) → Behind a → Behind b → a ≡ b) → (a b : Arguments) → from_word o Behind a → from_word o Behind b → a ≡ b
 from_same (Stands v) Behind once a b p q = p.2 ∙ ap (before v) (once p.0 q.0 p.1 q.1) ∙ sym q.2
@@ -156,21 +159,21 @@ spell_same once (word ∷ words) a b p q =
     let outcome : p.0 ≡ q.0 = once word p.0 q.0 p.1 q.1 in
     from_same q.0 (Spell words) (spell_same once words) a b (subst (λ (o : Reading). from_word o (Spell words) a) outcome p.2) q.2
 
-arguments_same : OneRun → (file function : List ℕ) (args : Arguments) (files : Held) → OneAnswer (IsArgumentsAnswer file function args files)
-arguments_same once file function (Err outcome) files x y p q = p ∙ sym q
-arguments_same once file function (Ok args) files x y p q =
-    file_same file (λ source. IsCalled source function args) (called_same once function args) (content_of files file) x y p q
+arguments_same : OneRun → (file function : List ℕ) (args : Arguments) (version : Version) (files : Held) → OneAnswer (IsArgumentsAnswer file function args version files)
+arguments_same once file function (Err outcome) version files x y p q = p ∙ sym q
+arguments_same once file function (Ok args) version files x y p q =
+    file_same file (λ source. IsCalled (text_of source version) function args) (λ source. called_same once function args (text_of source version)) (content_of files file) x y p q
 
-call_same : OneOfEach → (file function : List ℕ) (words : List (List ℕ)) (files : Held) → OneAnswer (IsCallAnswer file function words files)
-call_same laws file function words files x y p q =
-    arguments_same laws.run file function q.0 files x y
-    (subst (λ (args : Arguments). IsArgumentsAnswer file function args files x) (spell_same laws.outcome words p.0 q.0 p.1 q.1) p.2) q.2
+call_same : OneOfEach → (file function : List ℕ) (words : List (List ℕ)) (version : Version) (files : Held) → OneAnswer (IsCallAnswer file function words version files)
+call_same laws file function words version files x y p q =
+    arguments_same laws.run file function q.0 version files x y
+    (subst (λ (args : Arguments). IsArgumentsAnswer file function args version files x) (spell_same laws.outcome words p.0 q.0 p.1 q.1) p.2) q.2
 
 answer_same : OneOfEach → (command : Option Command) (files : Held) → OneAnswer (IsAnswerTo command files)
 answer_same laws None files x y p q = p ∙ sym q
-answer_same laws (Some (Call file function words)) files x y p q = call_same laws file function words files x y p q
+answer_same laws (Some (Call file function words version)) files x y p q = call_same laws file function words version files x y p q
 answer_same laws (Some (Run costs file state)) files x y p q = run_answer_same laws files costs file state x y p q
-answer_same laws (Some (Check costs address paths)) files x y p q = check_same laws.sources files costs address paths x y p q
+answer_same laws (Some (Check costs address paths version)) files x y p q = check_same laws.sources files costs address paths version x y p q
 answer_same laws (Some (Value word)) files x y p q = p ∙ sym q
 answer_same laws (Some (Wire word)) files x y p q = p.2 ∙ ap wire_answer (laws.outcome word p.0 q.0 p.1 q.1) ∙ sym q.2
 answer_same laws (Some (Gen seed count)) files x y p q = generated_same laws.run seed count x y p q
@@ -183,6 +186,6 @@ part_of_answer laws command held before between now reply completes part =
     record { told = λ files answer h is_answer. subst (λ (a : Answer). GrowsPart before now a.bytes) (answer_same laws command files whole answer (completes.is_answer.told files h) is_answer) written }
 
 -- the file alone is asked for where the words are values
-pub asks_file : OneOutcome → (file function : List ℕ) (words : List (List ℕ)) (values : List Tree) (held : Option Held) (before now : Option (List (List ℕ))) → Spell words (Ok values) → GrowsPart before now (file ∷ []) → AsksPart (Some (Call file function words)) held before now
-asks_file once file function words values held before now spelled grown =
+pub asks_file : OneOutcome → (file function : List ℕ) (words : List (List ℕ)) (version : Version) (values : List Tree) (held : Option Held) (before now : Option (List (List ℕ))) → Spell words (Ok values) → GrowsPart before now (file ∷ []) → AsksPart (Some (Call file function words version)) held before now
+asks_file once file function words version values held before now spelled grown =
     record { told = λ files names h named. subst (GrowsPart before now) (sym (named.2 ∙ ap (arguments_named file) (spell_same once words named.0 (Ok values) named.1 spelled))) grown }

@@ -7,11 +7,13 @@ ghost use Rattle.cl_replies.specs.Called.{IsCalled};
 ghost use Rattle.cl_replies.specs.Heard.{HearsAll};
 ghost use Rattle.cl_words.specs.Seen.{line_of};
 ghost use Rattle.cl_words.specs.Words.{Call, command_on, taken, texts};
+ghost use Rattle.cl_forms.specs.Texts.{text_of};
 ghost use Rattle.cl_entries.specs.Reply.{answer_of, Completes, CountsReadStop, CountsStop, CountsWriteStop};
 ghost use Rattle.cl_replies.specs.FileAnswers.{IsHeldAnswer};
 ghost use Rattle.cl_replies.specs.Stops.{Stops};
 
 use cl_entries::{Reply, Stop, fixed_line};
+use cl_forms::Version;
 use cl_listeners::{Listener, Listeners, events_told_in_turn};
 use cl_ports::{Files, ReadRefusal, Sink};
 use cl_replies::{
@@ -36,15 +38,16 @@ fn called<F: Files>(
     file: &str,
     function: &str,
     args: Vec<Val>,
+    version: Version,
     files: &mut F,
 ) -> Result<Reply, Stop>
-    ensures answer { IfOk result (λ reply. IsHeldAnswer file.now (λ source. IsCalled source function.now args.items) (F.held files.old) (answer_of reply)) }
+    ensures answer { IfOk result (λ reply. IsHeldAnswer file.now (λ source. IsCalled (text_of source version) function.now args.items) (F.held files.old) (answer_of reply)) }
     ensures status { IfOk result (λ reply. IsOwnStatus reply.status × (reply.status ≢ 2)) }
     ensures cause { CountsReadStop (F.faults files.old) (F.faults files.new) result }
     ensures asked { GrowsPart (F.asked files.old) (F.asked files.new) (file.now ∷ []) }
 {
     match files.read(file) {
-        Ok(source) => Ok(call_reply(alloc, source, function, args)?),
+        Ok(source) => Ok(call_reply(alloc, source, version, function, args)?),
         Err(ReadRefusal::TooLong { .. }) => Ok(long_file(alloc, file)?),
         Err(ReadRefusal::Failed) => Err(Stop::ReadFailed),
         Err(ReadRefusal::NoMemory) => Err(Stop::NoMemory),
@@ -57,17 +60,18 @@ fn call_words<F: Files>(
     file: &str,
     function: &str,
     args: &[String],
+    version: Version,
     files: &mut F,
 ) -> Result<Reply, Stop>
-    ensures answer { IfOk result (λ reply. IsAnswer (Some (Call file.now function.now (texts args.now))) (F.held files.old) (answer_of reply)) }
-    ensures alone { IfOk result (λ reply. IsAnswerAlone (Some (Call file.now function.now (texts args.now))) (answer_of reply)) }
+    ensures answer { IfOk result (λ reply. IsAnswer (Some (Call file.now function.now (texts args.now) version)) (F.held files.old) (answer_of reply)) }
+    ensures alone { IfOk result (λ reply. IsAnswerAlone (Some (Call file.now function.now (texts args.now) version)) (answer_of reply)) }
     ensures status { IfOk result (λ reply. IsOwnStatus reply.status × (reply.status ≢ 2)) }
     ensures cause { CountsReadStop (F.faults files.old) (F.faults files.new) result }
-    ensures asked { AsksPart (Some (Call file.now function.now (texts args.now))) (F.held files.old) (F.asked files.old) (F.asked files.new) }
+    ensures asked { AsksPart (Some (Call file.now function.now (texts args.now) version)) (F.held files.old) (F.asked files.old) (F.asked files.new) }
 {
     one_outcome();
     match values(alloc, args) {
-        Ok(values) => called(alloc, file, function, values, files),
+        Ok(values) => called(alloc, file, function, values, version, files),
         Err(Fault::Refused(refusal)) => Ok(no_value(alloc, &refusal)?),
         Err(Fault::NoMemory) => Err(Stop::NoMemory),
     }
@@ -100,8 +104,9 @@ fn line_reply<F: Files, K: Sink, L: Listener>(
                 file,
                 function,
                 args,
+                version,
             },
-        ) => call_words(alloc, file, function, args, files),
+        ) => call_words(alloc, file, function, args, version, files),
         Some(Command::Run { costs, file, state }) => {
             run_words(alloc, costs, file, state, files, out, listeners)
         },

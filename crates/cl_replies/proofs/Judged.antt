@@ -12,6 +12,8 @@ use Rattle.cl_sexpr.specs.declared.sexpr.Span.{Span}
 use Rattle.cl_sexpr.specs.declared.rule.Rule.{Rule}
 use Rattle.cl_sexpr.specs.declared.rule.Rule.TheVariants.{BoundTooLarge}
 use Rattle.cl_shapes.specs.declared.cost.Dimension.{Dimension}
+use Rattle.cl_forms.specs.declared.version.Version.{Version}
+use Rattle.cl_forms.specs.Texts.{text_of}
 use Rattle.cl_rules.specs.Context.{CostTable, Known, same_principal, same_part}
 use Rattle.cl_rules.specs.FormRules.{Defined, nothing_defined}
 use Rattle.cl_rules.specs.Acceptance.{FirstBreakBeforeBounds, FirstBreakOf, NoneWrites, TypedAs, before_bounds, in_bounds, in_deployment, known_of}
@@ -30,6 +32,7 @@ use Rattle.cl_words.specs.declared.sources.Source.{Source}
 use Rattle.cl_replies.specs.Checked.{IsReport, accepted_answer, all_checked, refused_answer}
 use Rattle.cl_replies.specs.Checking.{Contracts, IsAccepted, IsBounded, IsChecked, IsKept, IsRefused, AcceptedSoFar, AreApart, AreNew, AreOthers}
 use Rattle.cl_entries.specs.Reply.{bytes_of}
+use Rattle.cl_words.specs.Seen.{text_in}
 use Rattle.cl_words.specs.Sources.{are_sources, contract_at, has_name, have_one_name, names_differ, source_name}
 use Rattle.cl_engine.specs.Deploying.{type_returned}
 use Rattle.cl_engine.proofs.Knowing.{standing_push, types_told}
@@ -37,32 +40,34 @@ use Rattle.cl_engine.proofs.Knowing.{standing_push, types_told}
 -- ---- one source
 
 -- what the checker finds
-pub is_checked : (contracts : Contracts) (source : Source) (text : List ℕ) (c : Checked) → text ≡ source.text → c.principal ≡ source.principal → c.source_length ≡ length text → IsIndexed c →
-    ((known : List Known) → AreStanding [] contracts known → (defined : Defined) × TypedAs known source.principal text (forms_of c) c.order.items defined × NoneWrites known source.principal (forms_of c) × AllStand (nothing_defined known source.principal (length text)) (definitions_in_order c) defined) →
+pub is_checked : (contracts : Contracts) (source : Source) (text : List ℕ) (c : Checked) → text ≡ source.text → c.principal ≡ source.principal → c.version ≡ source.version → c.source_length ≡ length text → IsIndexed c →
+    ((known : List Known) → AreStanding [] contracts known → (defined : Defined) × TypedAs known source.principal (text_of text source.version) (forms_of c) c.order.items defined × NoneWrites known source.principal (forms_of c) × AllStand (nothing_defined known source.principal source.version (length text)) (definitions_in_order c) defined) →
     IsChecked contracts source c
-is_checked contracts source text c same principal size indexed found = record {
+is_checked contracts source text c same principal version size indexed found = record {
   principal_is = principal;
+  version_is = version;
   size = size ∙ ap length same;
   indexed = indexed;
   found = λ known stand.
       let f = found known stand in (
         f.0,
-        subst (λ (t : List ℕ). TypedAs known source.principal t (forms_of c) c.order.items f.0) same f.1,
+        subst (λ (t : List ℕ). TypedAs known source.principal (text_of t source.version) (forms_of c) c.order.items f.0) same f.1,
         f.2,
-        subst (λ (n : ℕ). AllStand (nothing_defined known c.principal n) (definitions_in_order c) f.0) (sym size)
-            (subst (λ (p : Principal). AllStand (nothing_defined known p (length text)) (definitions_in_order c) f.0) (sym principal) f.3),
+        subst (λ (n : ℕ). AllStand (nothing_defined known c.principal c.version n) (definitions_in_order c) f.0) (sym size)
+            (subst (λ (v : Version). AllStand (nothing_defined known c.principal v (length text)) (definitions_in_order c) f.0) (sym version)
+            (subst (λ (p : Principal). AllStand (nothing_defined known p source.version (length text)) (definitions_in_order c) f.0) (sym principal) f.3)),
       );
 }
 
 module _ (table : CostTable) (before : Contracts) (source : Source) (c : Checked) (checked : IsChecked before source c) where
   -- a bound above the limit is the first break
   above_breaks : (known : List Known) → AreStanding [] before known → (dimension : Dimension) (rule : Rule) (span : Span) (names : List (List ℕ)) → rule ≡ BoundTooLarge dimension → names ≡ [] →
-      ((known : List Known) (defined : Defined) → AreStanding [] before known → StandsAfter known c defined → IsFirstAboveLimit defined (forms_of c) c.order.items table dimension span) → FirstBreakOf known source.principal table source.text rule span names
+      ((known : List Known) (defined : Defined) → AreStanding [] before known → StandsAfter known c defined → IsFirstAboveLimit defined (forms_of c) c.order.items table dimension span) → FirstBreakOf known source.principal table (text_in source) rule span names
   above_breaks known stand dimension rule span names r n above =
       let f = checked.found known stand in
       by f.0 f.1 f.2 (above known f.0 stand f.3)
     where
-      by : (defined : Defined) → TypedAs known source.principal source.text (forms_of c) c.order.items defined → NoneWrites known source.principal (forms_of c) → IsFirstAboveLimit defined (forms_of c) c.order.items table dimension span → FirstBreakOf known source.principal table source.text rule span names
+      by : (defined : Defined) → TypedAs known source.principal (text_in source) (forms_of c) c.order.items defined → NoneWrites known source.principal (forms_of c) → IsFirstAboveLimit defined (forms_of c) c.order.items table dimension span → FirstBreakOf known source.principal table (text_in source) rule span names
       by defined typed none (inl first) = in_bounds (forms_of c) c.order.items defined dimension typed none first r n
       by defined typed none (inr whole) = in_deployment (forms_of c) c.order.items defined dimension typed none whole.0 r whole.1 n
 
@@ -97,8 +102,8 @@ module _ (table : CostTable) (before : Contracts) (source : Source) (c : Checked
       stands : (known : List Known) → AreStanding [] before known → (defined : Defined) → StandsAfter known c defined → AreStanding [] after (known ++ known_of source.principal (length source.text) defined ∷ [])
       stands known stand defined stand_after =
           let e : Principal × Contract = (c.principal, kept.contract) in
-          let so : AllStand (nothing_defined known c.principal kept.contract.checked.source_length) (definitions_in_order kept.contract.checked) defined =
-          subst (λ (d : Checked). AllStand (nothing_defined known c.principal d.source_length) (definitions_in_order d) defined) (sym kept.is) stand_after
+          let so : AllStand (nothing_defined known c.principal kept.contract.checked.version kept.contract.checked.source_length) (definitions_in_order kept.contract.checked) defined =
+          subst (λ (d : Checked). AllStand (nothing_defined known c.principal d.version d.source_length) (definitions_in_order d) defined) (sym kept.is) stand_after
           in
           let pushed = standing_push [] before known e defined stand so in
           let size : kept.contract.checked.source_length ≡ length source.text = ap (λ (d : Checked). d.source_length) kept.is ∙ checked.size in
@@ -219,10 +224,10 @@ names_apart (path ∷ paths) h = second (list_all has_name (path ∷ paths)) (na
 
 -- what the checker refuses
 pub break_is_refused : (table : CostTable) (before : Contracts) (source : Source) (text : List ℕ) (broken : SourceBreak) (line : List ℕ) → text ≡ source.text →
-    ((known : List Known) → AreStanding [] before known → FirstBreakBeforeBounds known source.principal text broken.rule broken.span broken.names) → line ≡ refused_line source.principal broken → IsRefused table before source line
+    ((known : List Known) → AreStanding [] before known → FirstBreakBeforeBounds known source.principal (text_of text source.version) broken.rule broken.span broken.names) → line ≡ refused_line source.principal broken → IsRefused table before source line
 break_is_refused table before source text broken line same first is = record {
   broken = broken;
-  first = λ known stand. subst (λ (t : List ℕ). FirstBreakOf known source.principal table t broken.rule broken.span broken.names) same (before_bounds (first known stand));
+  first = λ known stand. subst (λ (t : List ℕ). FirstBreakOf known source.principal table (text_of t source.version) broken.rule broken.span broken.names) same (before_bounds (first known stand));
   line = is;
 }
 

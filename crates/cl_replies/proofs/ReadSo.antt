@@ -7,6 +7,7 @@ use Rattle.std.proofs.lemmas.List.{map_push, take_more}
 use Rattle.std.proofs.lemmas.Bool.{le-ltb, lt-ltb}
 use Rattle.cl_c32.specs.Address.{AddressParts}
 use Rattle.cl_c32.specs.declared.principal.Principal.{Principal}
+use Rattle.cl_forms.specs.declared.version.Version.{Version}
 use Rattle.cl_costs.specs.CostFile.{table_of}
 use Rattle.cl_ports.specs.declared.TheConstants.{MAX_FILE_BYTES}
 use Rattle.cl_ports.specs.Files.{Held, IsContent, content_of}
@@ -25,8 +26,8 @@ use Rattle.cl_words.specs.Words.{Check, texts}
 
 -- ---- what is read
 
-pub read_first : (held : Option Held) (address : AddressParts) (paths : List (List ℕ)) → ReadSoFar held address paths paths []
-read_first held address paths = record { told = λ files more h e. e ∙ ap Some (none_before more) }
+pub read_first : (held : Option Held) (address : AddressParts) (version : Version) (paths : List (List ℕ)) → ReadSoFar held address version paths paths []
+read_first held address version paths = record { told = λ files more h e. e ∙ ap Some (none_before more) }
   where
     none_before : (more : Sources) → more ≡ behind_sources [] more
     none_before (Ok ss) = refl
@@ -37,18 +38,18 @@ behind_one ss s (Ok more) = λ i. Ok (sym (append_assoc ss (s ∷ []) more) i)
 behind_one ss s (Err a) = refl
 
 -- a source that is read
-under_next : (files : Held) (address : AddressParts) (path : List ℕ) (paths : List (List ℕ)) (s : Source) (more : Sources) → s.principal ≡ contract_at address path → is_long s.text ≡ false → content_of files path ≡ Some s.text → sources_under files address paths ≡ Some more →
-    sources_under files address (path ∷ paths) ≡ Some (with_source s more)
-under_next files address path paths s more p short content rest =
-    ap (λ (c : Option (List ℕ)). sources_with address path c (sources_under files address paths)) content
-    ∙ ap (λ (b : Bool). sources_by_length b address path s.text (sources_under files address paths)) short
-    ∙ ap (λ (o : Option Sources). sources_by_length false address path s.text o) rest
-    ∙ (λ i. Some (with_source (record { principal = sym p i; text = s.text }) more))
+under_next : (files : Held) (address : AddressParts) (version : Version) (path : List ℕ) (paths : List (List ℕ)) (s : Source) (more : Sources) → s.principal ≡ contract_at address path → s.version ≡ version → is_long s.text ≡ false → content_of files path ≡ Some s.text → sources_under files address version paths ≡ Some more →
+    sources_under files address version (path ∷ paths) ≡ Some (with_source s more)
+under_next files address version path paths s more p v short content rest =
+    ap (λ (c : Option (List ℕ)). sources_with address version path c (sources_under files address version paths)) content
+    ∙ ap (λ (b : Bool). sources_by_length b address version path s.text (sources_under files address version paths)) short
+    ∙ ap (λ (o : Option Sources). sources_by_length false address version path s.text o) rest
+    ∙ (λ i. Some (with_source (record { principal = sym p i; text = s.text; version = sym v i }) more))
 
-pub read_next : (held : Option Held) (address : AddressParts) (paths rest more : List (List ℕ)) (path : List ℕ) (ss : List Source) (s : Source) → ReadSoFar held address paths rest ss → rest ≡ path ∷ more → IsRead held address path (Ok s) → ReadSoFar held address paths more (ss ++ s ∷ [])
-read_next held address paths rest more path ss s so_far e one = record {
+pub read_next : (held : Option Held) (address : AddressParts) (version : Version) (paths rest more : List (List ℕ)) (path : List ℕ) (ss : List Source) (s : Source) → ReadSoFar held address version paths rest ss → rest ≡ path ∷ more → IsRead held address version path (Ok s) → ReadSoFar held address version paths more (ss ++ s ∷ [])
+read_next held address version paths rest more path ss s so_far e one = record {
   told = λ files behind h there.
-      so_far.told files (with_source s behind) h (ap (sources_under files address) e ∙ under_next files address path more s behind one.0 one.1 (one.2.told files h) there)
+      so_far.told files (with_source s behind) h (ap (sources_under files address version) e ∙ under_next files address version path more s behind one.0 one.1 one.2 (one.3.told files h) there)
       ∙ ap Some (behind_one ss s behind);
 }
 
@@ -56,21 +57,21 @@ pub long_is : (bytes : List ℕ) → MAX_FILE_BYTES < length bytes → is_long b
 long_is bytes h = lt-ltb MAX_FILE_BYTES (length bytes) h
 
 -- a file that is too long
-pub read_long : (held : Option Held) (address : AddressParts) (paths rest more : List (List ℕ)) (path : List ℕ) (ss : List Source) (reply : Reply) → ReadSoFar held address paths rest ss → rest ≡ path ∷ more → IsRead held address path (Err reply) → AreRead held address paths (Err (answer_of reply))
-read_long held address paths rest more path ss reply so_far e one = record { told = so }
+pub read_long : (held : Option Held) (address : AddressParts) (version : Version) (paths rest more : List (List ℕ)) (path : List ℕ) (ss : List Source) (reply : Reply) → ReadSoFar held address version paths rest ss → rest ≡ path ∷ more → IsRead held address version path (Err reply) → AreRead held address version paths (Err (answer_of reply))
+read_long held address version paths rest more path ss reply so_far e one = record { told = so }
   where
-    so : (files : Held) → held ≡ Some files → sources_under files address paths ≡ Some (Err (answer_of reply))
+    so : (files : Held) → held ≡ Some files → sources_under files address version paths ≡ Some (Err (answer_of reply))
     so files h =
         let long = one.1.told files h in
         so_far.told files (Err (answer_of reply)) h
-        (ap (sources_under files address) e
-        ∙ ap (λ (c : Option (List ℕ)). sources_with address path c (sources_under files address more)) long.1
-        ∙ ap (λ (b : Bool). sources_by_length b address path long.0 (sources_under files address more)) (long_is long.0 long.2)
+        (ap (sources_under files address version) e
+        ∙ ap (λ (c : Option (List ℕ)). sources_with address version path c (sources_under files address version more)) long.1
+        ∙ ap (λ (b : Bool). sources_by_length b address version path long.0 (sources_under files address version more)) (long_is long.0 long.2)
         ∙ ap (λ (a : Answer). Some (Err a)) (sym one.0))
 
-pub read_all : (held : Option Held) (address : AddressParts) (paths rest : List (List ℕ)) (ss : List Source) → ReadSoFar held address paths rest ss → rest ≡ [] → AreRead held address paths (Ok ss)
-read_all held address paths rest ss so_far e = record {
-  told = λ files h. so_far.told files (Ok []) h (ap (sources_under files address) e) ∙ ap (λ (l : List Source). Some (Ok l)) (append-nil ss);
+pub read_all : (held : Option Held) (address : AddressParts) (version : Version) (paths rest : List (List ℕ)) (ss : List Source) → ReadSoFar held address version paths rest ss → rest ≡ [] → AreRead held address version paths (Ok ss)
+read_all held address version paths rest ss so_far e = record {
+  told = λ files h. so_far.told files (Ok []) h (ap (sources_under files address version) e) ∙ ap (λ (l : List Source). Some (Ok l)) (append-nil ss);
 }
 
 -- ---- what is asked for
@@ -82,15 +83,15 @@ asked_first held paths before = record {
   told = λ files h. refl;
 }
 
-pub asked_next : (held : Option Held) (address : AddressParts) (paths rest more : List (List ℕ)) (path : List ℕ) (s : Source) (before between now : Option (List (List ℕ))) → AskedSoFar held paths rest before between → rest ≡ path ∷ more → IsRead held address path (Ok s) → Grows between now (path ∷ []) → AskedSoFar held paths more before now
-asked_next held address paths rest more path s before between now so_far e one grown = record {
+pub asked_next : (held : Option Held) (address : AddressParts) (version : Version) (paths rest more : List (List ℕ)) (path : List ℕ) (s : Source) (before between now : Option (List (List ℕ))) → AskedSoFar held paths rest before between → rest ≡ path ∷ more → IsRead held address version path (Ok s) → Grows between now (path ∷ []) → AskedSoFar held paths more before now
+asked_next held address version paths rest more path s before between now so_far e one grown = record {
   names = so_far.names ++ path ∷ [];
   grown = grows_twice before between now so_far.names (path ∷ []) so_far.grown grown;
   told = λ files h.
       so_far.told files h
       ∙ ap (λ (ps : List (List ℕ)). so_far.names ++ paths_named files ps) e
-      ∙ ap (λ (c : Option (List ℕ)). so_far.names ++ (path ∷ names_behind c (paths_named files more))) (one.2.told files h)
-      ∙ ap (λ (b : Bool). so_far.names ++ (path ∷ names_by b (paths_named files more))) one.1
+      ∙ ap (λ (c : Option (List ℕ)). so_far.names ++ (path ∷ names_behind c (paths_named files more))) (one.3.told files h)
+      ∙ ap (λ (b : Bool). so_far.names ++ (path ∷ names_by b (paths_named files more))) one.2
       ∙ sym (append_assoc so_far.names (path ∷ []) (paths_named files more));
 }
 
@@ -113,14 +114,14 @@ asked_so_far held paths rest before now so_far = record {
 -- ---- the file of costs
 
 -- the file of costs alone may have been asked for
-pub asks_costs : (held : Option Held) (costs : List ℕ) (address : AddressParts) (paths : List (List ℕ)) (before now : Option (List (List ℕ))) → GrowsPart before now (costs ∷ []) → AsksPart (Some (Check costs address paths)) held before now
-asks_costs held costs address paths before now part = record {
+pub asks_costs : (held : Option Held) (costs : List ℕ) (address : AddressParts) (paths : List (List ℕ)) (version : Version) (before now : Option (List (List ℕ))) → GrowsPart before now (costs ∷ []) → AsksPart (Some (Check costs address paths version)) held before now
+asks_costs held costs address paths version before now part = record {
   told = λ files names h named. subst (GrowsPart before now) (sym named) (part_more before now (costs ∷ []) (named_after files paths (content_of files costs)) part);
 }
 
 -- and then the paths, where it is one
-pub asks_costs_and : (held : Option Held) (costs bytes : List ℕ) (address : AddressParts) (paths : List (List ℕ)) (before between now : Option (List (List ℕ))) → IsContent held costs bytes → is_long bytes ≡ false → Grows before between (costs ∷ []) → AsksUnder held paths (table_of bytes) between now → AsksPart (Some (Check costs address paths)) held before now
-asks_costs_and held costs bytes address paths before between now content short grown asks = record { told = so }
+pub asks_costs_and : (held : Option Held) (costs bytes : List ℕ) (address : AddressParts) (paths : List (List ℕ)) (version : Version) (before between now : Option (List (List ℕ))) → IsContent held costs bytes → is_long bytes ≡ false → Grows before between (costs ∷ []) → AsksUnder held paths (table_of bytes) between now → AsksPart (Some (Check costs address paths version)) held before now
+asks_costs_and held costs bytes address paths version before between now content short grown asks = record { told = so }
   where
     so : (files : Held) (names : List (List ℕ)) → held ≡ Some files → names ≡ check_named files costs paths → GrowsPart before now names
     so files names h named =

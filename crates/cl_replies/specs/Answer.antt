@@ -3,6 +3,8 @@ use Rattle.std.specs.Prelude.{◌≡◌, ◌≢◌, ℕ, List, [], ◌∷◌, Op
 use Rattle.cl_ports.specs.Files.{Held, content_of}
 use Rattle.cl_ports.specs.Growth.{GrowsPart}
 use Rattle.cl_text.specs.Parsed.{Reading, Parses}
+use Rattle.cl_forms.specs.declared.version.Version.{Version}
+use Rattle.cl_forms.specs.Texts.{text_of}
 use Rattle.cl_words.specs.Words.{Command, Call, Run, Check, Value, Wire, Gen}
 use Rattle.cl_words.specs.Argument.{Arguments, Spell}
 use Rattle.cl_entries.specs.Reply.{Answer}
@@ -18,13 +20,13 @@ abbrev pub usage_answer : Answer
 usage_answer = record { bytes = codes "usage: clarity COMMAND WORDS\n"; status = 2 }
 
 -- the answer to `call` for its arguments
-abbrev pub IsArgumentsAnswer : List ℕ → List ℕ → Arguments → Held → Answer → Type 0
-IsArgumentsAnswer file function (Err outcome) files answer = answer ≡ no_value_answer outcome
-IsArgumentsAnswer file function (Ok args) files answer = IsFileAnswer file (λ source. IsCalled source function args) (content_of files file) answer
+abbrev pub IsArgumentsAnswer : List ℕ → List ℕ → Arguments → Version → Held → Answer → Type 0
+IsArgumentsAnswer file function (Err outcome) version files answer = answer ≡ no_value_answer outcome
+IsArgumentsAnswer file function (Ok args) version files answer = IsFileAnswer file (λ source. IsCalled (text_of source version) function args) (content_of files file) answer
 
 -- the answer to `call` for its words
-abbrev pub IsCallAnswer : List ℕ → List ℕ → List (List ℕ) → Held → Answer → Type 0
-IsCallAnswer file function words files answer = (args : Arguments) × Spell words args × IsArgumentsAnswer file function args files answer
+abbrev pub IsCallAnswer : List ℕ → List ℕ → List (List ℕ) → Version → Held → Answer → Type 0
+IsCallAnswer file function words version files answer = (args : Arguments) × Spell words args × IsArgumentsAnswer file function args version files answer
 
 -- the answer to `wire`
 abbrev pub IsWireAnswer : List ℕ → Answer → Type 0
@@ -33,9 +35,9 @@ IsWireAnswer word answer = (outcome : Reading) × Parses word outcome × (answer
 -- the answer to a command; none where a file isn't held that is reached
 abbrev pub IsAnswerTo : Option Command → Held → Answer → Type 0
 IsAnswerTo None files answer = answer ≡ usage_answer
-IsAnswerTo (Some (Call file function words)) files answer = IsCallAnswer file function words files answer
+IsAnswerTo (Some (Call file function words version)) files answer = IsCallAnswer file function words version files answer
 IsAnswerTo (Some (Run costs file state)) files answer = IsRunAnswer files costs file state answer
-IsAnswerTo (Some (Check costs address paths)) files answer = IsCheckAnswer files costs address paths answer
+IsAnswerTo (Some (Check costs address paths version)) files answer = IsCheckAnswer files costs address paths version answer
 IsAnswerTo (Some (Value word)) files answer = answer ≡ value_answer word
 IsAnswerTo (Some (Wire word)) files answer = IsWireAnswer word answer
 IsAnswerTo (Some (Gen seed count)) files answer = IsGenerated seed count answer
@@ -47,9 +49,9 @@ arguments_named file (Ok args) = file ∷ []
 
 abbrev pub IsNamed : Option Command → Held → List (List ℕ) → Type 0
 IsNamed None files names = names ≡ []
-IsNamed (Some (Call file function words)) files names = (args : Arguments) × Spell words args × (names ≡ arguments_named file args)
+IsNamed (Some (Call file function words version)) files names = (args : Arguments) × Spell words args × (names ≡ arguments_named file args)
 IsNamed (Some (Run costs file state)) files names = names ≡ run_named files costs file
-IsNamed (Some (Check costs address paths)) files names = names ≡ check_named files costs paths
+IsNamed (Some (Check costs address paths version)) files names = names ≡ check_named files costs paths
 IsNamed (Some (Value word)) files names = names ≡ []
 IsNamed (Some (Wire word)) files names = names ≡ []
 IsNamed (Some (Gen seed count)) files names = names ≡ []
@@ -58,9 +60,9 @@ IsNamed (Some (Gen seed count)) files names = names ≡ []
 -- `call` where an argument is no value
 abbrev pub IsAnswerAlone : Option Command → Answer → Type 0
 IsAnswerAlone None answer = answer ≡ usage_answer
-IsAnswerAlone (Some (Call file function words)) answer = (outcome : Reading) → Spell words (Err outcome) → answer ≡ no_value_answer outcome
+IsAnswerAlone (Some (Call file function words version)) answer = (outcome : Reading) → Spell words (Err outcome) → answer ≡ no_value_answer outcome
 IsAnswerAlone (Some (Run costs file state)) answer = Unit {0}
-IsAnswerAlone (Some (Check costs address paths)) answer = Unit {0}
+IsAnswerAlone (Some (Check costs address paths version)) answer = Unit {0}
 IsAnswerAlone (Some (Value word)) answer = answer ≡ value_answer word
 IsAnswerAlone (Some (Wire word)) answer = IsWireAnswer word answer
 IsAnswerAlone (Some (Gen seed count)) answer = IsGenerated seed count answer

@@ -3,6 +3,7 @@ use Rattle.std.specs.Prelude.{◌≡◌, ℕ, List, [], ◌∷◌, ◌++◌, rep
 use Rattle.cl_c32.specs.Address.{AddressParts}
 use Rattle.cl_shapes.specs.Names.{unit_function}
 use Rattle.cl_values.specs.Tree.{Tree}
+use Rattle.cl_forms.specs.Texts.{Text}
 use Rattle.cl_post.specs.declared.condition.Mode.TheVariants.{Allow}
 use Rattle.cl_file.specs.Entries.{no_limit}
 use Rattle.cl_file.specs.declared.entry.Common.{Common}
@@ -26,9 +27,9 @@ home = record { version = 22; hash = replicate 20 0 }
 abbrev pub sent_from_home : Common
 sent_from_home = record { sender = home; limit = no_limit; mode = Allow; conditions = [] }
 
--- a source is deployed as `main`
-abbrev pub deployment : List ℕ → Entry
-deployment source = Deploy sent_from_home (codes "main") source
+-- a text is deployed as `main`
+abbrev pub deployment : Text → Entry
+deployment text = Deploy sent_from_home (codes "main") text.bytes text.version
 
 -- a function of that contract is called
 abbrev pub call : List ℕ → List Tree → Entry
@@ -65,6 +66,6 @@ pub record IsReportOf (first second : Entry) (answer : Answer) : Type 0 where
   pub within : AreChargedWithin none_told (first ∷ second ∷ []) (deployed ∷ called ∷ [])
   pub is : answer ≡ called_answer first second deployed called
 
--- the answer for a source, a function and its arguments
-abbrev pub IsCalled : List ℕ → List ℕ → List Tree → Answer → Type 0
-IsCalled source function args = IsReportOf (deployment source) (call function args)
+-- the answer for a text, a function and its arguments
+abbrev pub IsCalled : Text → List ℕ → List Tree → Answer → Type 0
+IsCalled text function args = IsReportOf (deployment text) (call function args)

@@ -6,6 +6,7 @@ use Rattle.cl_ports.specs.Files.{Held, content_of}
 use Rattle.cl_costs.specs.declared.refusal.CostRefusal.{CostRefusal}
 use Rattle.cl_costs.specs.CostFile.{table_of}
 use Rattle.cl_costs.specs.Tables.{function_of}
+use Rattle.cl_forms.specs.declared.version.Version.{Version}
 use Rattle.cl_rules.specs.Context.{CostTable, Known}
 use Rattle.cl_rules.specs.Acceptance.{Accepted, FirstBreakOf, known_of}
 use Rattle.cl_tx.specs.Nodes.{Told}
@@ -13,6 +14,7 @@ use Rattle.cl_tx.specs.Seen.{SourceBreak}
 use Rattle.cl_tx.specs.Step.{told_of}
 use Rattle.cl_lines.specs.Checks.{accepted_lines, refused_line}
 use Rattle.cl_words.specs.declared.sources.Source.{Source}
+use Rattle.cl_words.specs.Seen.{text_in}
 use Rattle.cl_entries.specs.Reply.{Answer}
 use Rattle.cl_words.specs.Sources.{contract_at}
 use Rattle.cl_replies.specs.FileAnswers.{is_long, bad_costs_answer, long_file_answer, IsFileAnswer}
@@ -28,18 +30,18 @@ abbrev pub with_source : Source → Sources → Sources
 with_source source (Ok sources) = Ok (source ∷ sources)
 with_source source (Err answer) = Err answer
 
-abbrev pub sources_by_length : Bool → AddressParts → List ℕ → List ℕ → Option Sources → Option Sources
-sources_by_length true address path text behind = Some (Err (long_file_answer path))
-sources_by_length false address path text behind = option_map (with_source (record { principal = contract_at address path; text = text })) behind
+abbrev pub sources_by_length : Bool → AddressParts → Version → List ℕ → List ℕ → Option Sources → Option Sources
+sources_by_length true address version path text behind = Some (Err (long_file_answer path))
+sources_by_length false address version path text behind = option_map (with_source (record { principal = contract_at address path; text = text; version = version })) behind
 
-abbrev pub sources_with : AddressParts → List ℕ → Option (List ℕ) → Option Sources → Option Sources
-sources_with address path None behind = None
-sources_with address path (Some text) behind = sources_by_length (is_long text) address path text behind
+abbrev pub sources_with : AddressParts → Version → List ℕ → Option (List ℕ) → Option Sources → Option Sources
+sources_with address version path None behind = None
+sources_with address version path (Some text) behind = sources_by_length (is_long text) address version path text behind
 
--- the sources under paths; none where a file isn't held that is reached
-abbrev pub sources_under : Held → AddressParts → List (List ℕ) → Option Sources
-sources_under files address [] = Some (Ok [])
-sources_under files address (path ∷ paths) = sources_with address path (content_of files path) (sources_under files address paths)
+-- the sources under paths, all of one version; none where a file isn't held that is reached
+abbrev pub sources_under : Held → AddressParts → Version → List (List ℕ) → Option Sources
+sources_under files address version [] = Some (Ok [])
+sources_under files address version (path ∷ paths) = sources_with address version path (content_of files path) (sources_under files address version paths)
 
 -- ---- their report
 
@@ -60,10 +62,10 @@ refused_answer source broken = record { bytes = refused_line source.principal br
 abbrev pub IsReport : CostTable → List Known → List Source → Answer → Type 0
 IsReport table known [] answer = answer ≡ all_checked
 IsReport table known (source ∷ sources) answer =
-    ((accepted : Accepted known source.principal table source.text) × (rest : Answer)
+    ((accepted : Accepted known source.principal table (text_in source)) × (rest : Answer)
     × IsReport table (known ++ known_of source.principal (length source.text) accepted.defined ∷ []) sources rest
     × (answer ≡ accepted_answer source (told_of table accepted.defined accepted.forms) rest))
-    ⊎ ((broken : SourceBreak) × FirstBreakOf known source.principal table source.text broken.rule broken.span broken.names
+    ⊎ ((broken : SourceBreak) × FirstBreakOf known source.principal table (text_in source) broken.rule broken.span broken.names
     × (answer ≡ refused_answer source broken))
 
 -- ---- the answer
@@ -73,13 +75,13 @@ IsSourcesAnswer table None answer = ⊥
 IsSourcesAnswer table (Some (Err long)) answer = answer ≡ long
 IsSourcesAnswer table (Some (Ok sources)) answer = IsReport table [] sources answer
 
-abbrev pub IsAnswerUnder : Held → List ℕ → AddressParts → List (List ℕ) → Result (List CostFn) CostRefusal → Answer → Type 0
-IsAnswerUnder files costs address paths (Err fault) answer = answer ≡ bad_costs_answer costs fault
-IsAnswerUnder files costs address paths (Ok table) answer = IsSourcesAnswer (function_of table) (sources_under files address paths) answer
+abbrev pub IsAnswerUnder : Held → List ℕ → AddressParts → List (List ℕ) → Version → Result (List CostFn) CostRefusal → Answer → Type 0
+IsAnswerUnder files costs address paths version (Err fault) answer = answer ≡ bad_costs_answer costs fault
+IsAnswerUnder files costs address paths version (Ok table) answer = IsSourcesAnswer (function_of table) (sources_under files address version paths) answer
 
 -- the answer to `check` for its words
-abbrev pub IsCheckAnswer : Held → List ℕ → AddressParts → List (List ℕ) → Answer → Type 0
-IsCheckAnswer files costs address paths answer = IsFileAnswer costs (λ bytes. IsAnswerUnder files costs address paths (table_of bytes)) (content_of files costs) answer
+abbrev pub IsCheckAnswer : Held → List ℕ → AddressParts → List (List ℕ) → Version → Answer → Type 0
+IsCheckAnswer files costs address paths version answer = IsFileAnswer costs (λ bytes. IsAnswerUnder files costs address paths version (table_of bytes)) (content_of files costs) answer
 
 -- ---- the names of the files
 

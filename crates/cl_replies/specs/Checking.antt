@@ -13,6 +13,7 @@ use Rattle.cl_tx.specs.Seen.{SourceBreak}
 use Rattle.cl_tx.specs.Step.{told_of}
 use Rattle.cl_lines.specs.Checks.{accepted_lines, refused_line}
 use Rattle.cl_words.specs.declared.sources.Source.{Source}
+use Rattle.cl_words.specs.Seen.{text_in}
 use Rattle.cl_replies.specs.declared.judge.Judged.{Judged}
 use Rattle.cl_replies.specs.declared.judge.Judged.TheVariants as judged
 use Rattle.cl_replies.specs.Checked.{IsReport}
@@ -27,9 +28,10 @@ Contracts = List (Principal × Contract)
 -- a contract with typed trees stands for a source that breaks no rule before the bounds
 pub record IsChecked (contracts : Contracts) (source : Source) (c : Checked) : Type 0 where
   pub principal_is : c.principal ≡ source.principal
+  pub version_is : c.version ≡ source.version
   pub size : c.source_length ≡ length source.text
   pub indexed : IsIndexed c
-  pub found : (known : List Known) → AreStanding [] contracts known → (defined : Defined) × TypedAs known source.principal source.text (forms_of c) c.order.items defined × NoneWrites known source.principal (forms_of c) × StandsAfter known c defined
+  pub found : (known : List Known) → AreStanding [] contracts known → (defined : Defined) × TypedAs known source.principal (text_in source) (forms_of c) c.order.items defined × NoneWrites known source.principal (forms_of c) × StandsAfter known c defined
 
 -- its bounds are within the limit, and these
 pub record IsBounded (table : CostTable) (contracts : Contracts) (c : Checked) (bounds : Bounds) : Type 0 where
@@ -46,14 +48,14 @@ pub record IsKept (before : Contracts) (c : Checked) (after : Contracts) : Type 
 pub record IsAccepted (table : CostTable) (before : Contracts) (source : Source) (text : List ℕ) (after : Contracts) : Type 0 where
   pub contract : Contract
   pub behind : after ≡ before ++ (source.principal, contract) ∷ []
-  pub found : (known : List Known) → AreStanding [] before known → (accepted : Accepted known source.principal table source.text)
+  pub found : (known : List Known) → AreStanding [] before known → (accepted : Accepted known source.principal table (text_in source))
       × (text ≡ accepted_lines source.principal (told_of table accepted.defined accepted.forms).bounds (told_of table accepted.defined accepted.forms).types)
       × AreStanding [] after (known ++ known_of source.principal (length source.text) accepted.defined ∷ [])
 
 -- a source is refused, with this line
 pub record IsRefused (table : CostTable) (before : Contracts) (source : Source) (text : List ℕ) : Type 0 where
   pub broken : SourceBreak
-  pub first : (known : List Known) → AreStanding [] before known → FirstBreakOf known source.principal table source.text broken.rule broken.span broken.names
+  pub first : (known : List Known) → AreStanding [] before known → FirstBreakOf known source.principal table (text_in source) broken.rule broken.span broken.names
   pub line : text ≡ refused_line source.principal broken
 
 -- so a source is judged, and these contracts stand then

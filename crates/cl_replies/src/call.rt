@@ -1,6 +1,7 @@
 //! The reply to `call` for a source: it is deployed, and then one of its functions is called.
 ghost use Rattle.std.specs.Prelude.{◌≡◌, ◌≢◌, ◌∷◌, [], codes, IfOk};
 ghost use Rattle.cl_costs.specs.Tables.{unit_table};
+ghost use Rattle.cl_forms.specs.Texts.{text_of};
 ghost use Rattle.cl_replies.specs.Called.{sent_from_home, deployment, call, call_status, status_of, lines_by, IsReportOf, IsCalled};
 ghost use Rattle.cl_file.specs.Entries.{NeverFall};
 ghost use Rattle.cl_entries.specs.Entries.{IsFirst};
@@ -12,6 +13,7 @@ use cl_c32::{Address, ContractName, Principal};
 use cl_costs::CostTable;
 use cl_engine::{Node, nodes_are_known_in_one_way};
 use cl_entries::{End, Ended, Reply, next, two_pieces, whole_piece};
+use cl_forms::Version;
 use cl_node_sound::costs_stay_within_bounds;
 use cl_post::Mode;
 use cl_tx::{Common, Conditions, Entry, Row, heights_are_those_of_the_file};
@@ -39,14 +41,15 @@ fn sent_from_home(alloc: Global) -> Common
     }
 }
 
-/// The deployment of a source.
-fn deployment(alloc: Global, source: Vec<u8>) -> Entry
-    ensures { result ≡ deployment source.items }
+/// The deployment of a source of this version.
+fn deployment(alloc: Global, source: Vec<u8>, version: Version) -> Entry
+    ensures { result ≡ deployment (text_of source.items version) }
 {
     Entry::Deploy {
         common: sent_from_home(alloc),
         name: main_name(),
         source: Row::new(source),
+        version,
     }
 }
 
@@ -167,27 +170,35 @@ fn call_by(alloc: Global, function: &str, args: Vec<Val>) -> Result<Entry, Alloc
 }
 
 /// The reply for the deployment of this source, and this call.
-fn reply_for(alloc: Global, source: Vec<u8>, second: &Entry) -> Result<Reply, NoMemory>
-    requires { NeverFall 0 (deployment source.items ∷ second.now ∷ []) }
+fn reply_for(
+    alloc: Global,
+    source: Vec<u8>,
+    version: Version,
+    second: &Entry,
+) -> Result<Reply, NoMemory>
+    requires { NeverFall 0 (deployment (text_of source.items version) ∷ second.now ∷ []) }
     ensures answer { IfOk result
-        (λ reply. IsReportOf (deployment source.items) second.now (answer_of reply)) }
+        (λ reply. IsReportOf (deployment (text_of source.items version)) second.now
+        (answer_of reply)) }
     ensures status { IfOk result (λ reply. IsOwnStatus reply.status × (reply.status ≢ 2)) }
 {
-    let first = deployment(alloc, source);
+    let first = deployment(alloc, source, version);
     report_from_genesis(alloc, &first, second)
 }
 
-/// The reply to `call` for a source, the name of a function and its arguments.
+/// The reply to `call` for a source of this version, the name of a function and its arguments.
 pub fn call_reply(
     alloc: Global,
     source: Vec<u8>,
+    version: Version,
     function: &str,
     args: Vec<Val>,
 ) -> Result<Reply, NoMemory>
     ensures answer { IfOk result
-        (λ reply. IsCalled source.items function.now args.items (answer_of reply)) }
+        (λ reply. IsCalled (text_of source.items version) function.now args.items
+        (answer_of reply)) }
     ensures status { IfOk result (λ reply. IsOwnStatus reply.status × (reply.status ≢ 2)) }
 {
     let second = call_by(alloc, function, args)?;
-    reply_for(alloc, source, &second)
+    reply_for(alloc, source, version, &second)
 }

@@ -7,12 +7,12 @@ ghost use Rattle.cl_replies.specs.Reading.{AsksPaths};
 ghost use Rattle.cl_entries.specs.Reply.{answer_of, CountsReadStop};
 ghost use Rattle.cl_words.specs.Sources.{are_sources};
 ghost use Rattle.cl_replies.specs.Answer.{AsksPart, IsAnswer, IsOwnStatus};
-ghost use Rattle.cl_words.specs.Words.{Check, texts};
+ghost use Rattle.cl_words.specs.Words.{texts};
+ghost use Rattle.cl_words.specs.Seen.{check_seen};
 
 use crate::bad_file::{bad_costs, long_file};
 use crate::judge::report;
 use crate::reading::read_sources;
-use cl_c32::Address;
 use cl_costs::{CostTable, read};
 use cl_entries::{Reply, Stop};
 use cl_ports::{Files, ReadRefusal};
@@ -24,20 +24,19 @@ use std::alloc::Global;
 fn check_paths<F: Files>(
     alloc: Global,
     costs: &CostTable,
-    address: &Address,
-    paths: &[String],
+    words: &CheckWords<'_>,
     files: &mut F,
 ) -> Result<Reply, Stop>
-    requires sources { are_sources (texts paths.now) ≡ true }
+    requires sources { are_sources (texts words.now.paths.now) ≡ true }
     ensures answer { IfOk result
-        (λ reply. IsPathsAnswer (F.held files.old) (function_of costs.now) address.now
-        (texts paths.now) (answer_of reply)) }
+        (λ reply. IsPathsAnswer (F.held files.old) (function_of costs.now) words.now.address
+        (texts words.now.paths.now) words.now.version (answer_of reply)) }
     ensures status { IfOk result (λ reply. IsOwnStatus reply.status × (reply.status ≢ 2)) }
     ensures cause { CountsReadStop (F.faults files.old) (F.faults files.new) result }
-    ensures asked { AsksPaths (F.held files.old) (texts paths.now) (F.asked files.old)
+    ensures asked { AsksPaths (F.held files.old) (texts words.now.paths.now) (F.asked files.old)
         (F.asked files.new) }
 {
-    match read_sources(alloc, address, paths, files)? {
+    match read_sources(alloc, &words.address, words.version, words.paths, files)? {
         Ok(sources) => Ok(report(alloc, &sources, costs)?),
         Err(reply) => Ok(reply),
     }
@@ -46,54 +45,27 @@ fn check_paths<F: Files>(
 /// The reply for the bytes of the file of costs.
 fn check_under<F: Files>(
     alloc: Global,
-    name: &str,
     bytes: &[u8],
-    address: &Address,
-    paths: &[String],
+    words: &CheckWords<'_>,
     files: &mut F,
 ) -> Result<Reply, Stop>
-    requires sources { are_sources (texts paths.now) ≡ true }
+    requires sources { are_sources (texts words.now.paths.now) ≡ true }
     ensures answer { IfOk result
-        (λ reply. IsCostsAnswer (F.held files.old) name.now address.now (texts paths.now)
-        (table_of bytes.now) (answer_of reply)) }
+        (λ reply. IsCostsAnswer (F.held files.old) words.now.costs.now words.now.address
+        (texts words.now.paths.now) words.now.version (table_of bytes.now) (answer_of reply)) }
     ensures status { IfOk result (λ reply. IsOwnStatus reply.status × (reply.status ≢ 2)) }
     ensures cause { CountsReadStop (F.faults files.old) (F.faults files.new) result }
-    ensures asked { AsksUnder (F.held files.old) (texts paths.now) (table_of bytes.now)
+    ensures asked { AsksUnder (F.held files.old) (texts words.now.paths.now) (table_of bytes.now)
         (F.asked files.old) (F.asked files.new) }
 {
     match read(alloc, bytes) {
-        Ok(costs) => check_paths(alloc, &costs, address, paths, files),
-        Err(Fault::Refused(fault)) => Ok(bad_costs(alloc, name, &fault)?),
+        Ok(costs) => check_paths(alloc, &costs, words, files),
+        Err(Fault::Refused(fault)) => Ok(bad_costs(alloc, words.costs, &fault)?),
         Err(Fault::NoMemory) => Err(Stop::NoMemory),
     }
 }
 
-/// The reply to `check` under an address. The file of costs is read first.
-fn check_reply<F: Files>(
-    alloc: Global,
-    costs: &str,
-    address: &Address,
-    paths: &[String],
-    files: &mut F,
-) -> Result<Reply, Stop>
-    requires sources { are_sources (texts paths.now) ≡ true }
-    ensures answer { IfOk result
-        (λ reply. IsAnswer (Some (Check costs.now address.now (texts paths.now))) (F.held files.old)
-        (answer_of reply)) }
-    ensures status { IfOk result (λ reply. IsOwnStatus reply.status × (reply.status ≢ 2)) }
-    ensures cause { CountsReadStop (F.faults files.old) (F.faults files.new) result }
-    ensures asked { AsksPart (Some (Check costs.now address.now (texts paths.now)))
-        (F.held files.old) (F.asked files.old) (F.asked files.new) }
-{
-    match files.read(costs) {
-        Ok(bytes) => check_under(alloc, costs, &bytes, address, paths, files),
-        Err(ReadRefusal::TooLong { .. }) => Ok(long_file(alloc, costs)?),
-        Err(ReadRefusal::Failed) => Err(Stop::ReadFailed),
-        Err(ReadRefusal::NoMemory) => Err(Stop::NoMemory),
-    }
-}
-
-/// The reply to `check`.
+/// The reply to `check`. The file of costs is read first.
 pub fn check_words<F: Files>(
     alloc: Global,
     words: &CheckWords<'_>,
@@ -101,14 +73,16 @@ pub fn check_words<F: Files>(
 ) -> Result<Reply, Stop>
     requires sources { are_sources (texts words.now.paths.now) ≡ true }
     ensures answer { IfOk result
-        (λ reply. IsAnswer (Some
-        (Check words.now.costs.now words.now.address (texts words.now.paths.now)))
-        (F.held files.old) (answer_of reply)) }
+        (λ reply. IsAnswer (Some (check_seen words.now)) (F.held files.old) (answer_of reply)) }
     ensures status { IfOk result (λ reply. IsOwnStatus reply.status × (reply.status ≢ 2)) }
     ensures cause { CountsReadStop (F.faults files.old) (F.faults files.new) result }
-    ensures asked { AsksPart
-        (Some (Check words.now.costs.now words.now.address (texts words.now.paths.now)))
-        (F.held files.old) (F.asked files.old) (F.asked files.new) }
+    ensures asked { AsksPart (Some (check_seen words.now)) (F.held files.old) (F.asked files.old)
+        (F.asked files.new) }
 {
-    check_reply(alloc, words.costs, &words.address, words.paths, files)
+    match files.read(words.costs) {
+        Ok(bytes) => check_under(alloc, &bytes, words, files),
+        Err(ReadRefusal::TooLong { .. }) => Ok(long_file(alloc, words.costs)?),
+        Err(ReadRefusal::Failed) => Err(Stop::ReadFailed),
+        Err(ReadRefusal::NoMemory) => Err(Stop::NoMemory),
+    }
 }

@@ -4,6 +4,7 @@ ghost use Rattle.cl_costs.specs.Tables.{function_of};
 ghost use Rattle.cl_contracts.specs.Seen.{AreIndexed, IsIndexed, contract_under};
 ghost use Rattle.cl_rules.specs.Context.{CostTable as Table};
 ghost use Rattle.cl_bound.specs.Known.{AreBounds, AreBoundsOf};
+ghost use Rattle.cl_check.specs.Checking.{IsKnown};
 ghost use Rattle.cl_lines.specs.Checks.{accepted_lines, refused_line};
 ghost use Rattle.cl_replies.specs.Checked.{IsReport};
 ghost use Rattle.cl_engine.specs.Deploying.{type_returned};
@@ -149,6 +150,7 @@ fn judge(
     costs: &CostTable,
 ) -> Result<Judged, NoMemory>
     requires indexed { AreIndexed deployed.old }
+    requires knows { IsKnown deployed.old }
     requires known { AreBounds (function_of costs.now) deployed.old.contracts.entries known.old }
     requires new { contract_under source.now.principal deployed.old.contracts.entries ≡ None }
     ensures judged { IfOk result
@@ -158,7 +160,8 @@ fn judge(
     ensures known { IfOk result
         (λ _. AreBounds (function_of costs.now) deployed.new.contracts.entries known.new) }
 {
-    match check(alloc, deployed, &source.principal, source.text.as_slice()) {
+    let text = source.text.as_slice();
+    match check(alloc, deployed, &source.principal, text, source.version) {
         Ok(checked) => judge_bounds(alloc, deployed, known, source, checked, costs),
         Err(Fault::Refused(refusal)) => {
             Ok(Judged::Refused(refused_text(alloc, source, refusal)?))

@@ -10,20 +10,23 @@ ghost use Rattle.cl_words.specs.Words.{texts};
 use crate::bad_file::long_file;
 use cl_c32::Address;
 use cl_entries::{Reply, Stop};
+use cl_forms::Version;
 use cl_ports::{Files, ReadRefusal};
 use cl_tx::Row;
 use cl_types::NoMemory;
 use cl_words::{Source, contract_at};
 use std::alloc::Global;
 
-/// The source under a path, or the reply where it is too long.
+/// The source under a path, of this version, or the reply where it is too long.
 fn read_source<F: Files>(
     alloc: Global,
     address: &Address,
+    version: Version,
     path: &str,
     files: &mut F,
 ) -> Result<Result<Source, Reply>, Stop>
-    ensures read { IfOk result (λ read. IsRead (F.held files.old) address.now path.now read) }
+    ensures read { IfOk result
+        (λ read. IsRead (F.held files.old) address.now version path.now read) }
     ensures status { IfOk result
         (λ read. IfErr read (λ reply. IsOwnStatus reply.status × (reply.status ≢ 2))) }
     ensures kept { F.held files.new ≡ F.held files.old }
@@ -35,6 +38,7 @@ fn read_source<F: Files>(
         Ok(bytes) => Ok(Ok(Source {
             principal: contract_at(address, path),
             text: Row::new(bytes),
+            version,
         })),
         Err(ReadRefusal::TooLong { .. }) => Ok(Err(long_file(alloc, path)?)),
         Err(ReadRefusal::Failed) => Err(Stop::ReadFailed),
@@ -49,15 +53,17 @@ fn push(sources: &mut Vec<Source>, source: Source) -> Result<(), NoMemory>
     Ok(())
 }
 
-/// The sources under paths, or the reply where one is too long. None is asked for after that.
+/// The sources under paths, of this version, or the reply where one is too long. None is asked for after that.
 pub(crate) fn read_sources<F: Files>(
     alloc: Global,
     address: &Address,
+    version: Version,
     paths: &[String],
     files: &mut F,
 ) -> Result<Result<Vec<Source>, Reply>, Stop>
     ensures read { IfOk result
-        (λ read. AreRead (F.held files.old) address.now (texts paths.now) (sources_seen read)) }
+        (λ read. AreRead (F.held files.old) address.now version (texts paths.now)
+        (sources_seen read)) }
     ensures contracts { IfOk result
         (λ read. IfOk read (λ sources. map (λ source. source.principal) sources.items
         ≡ map (contract_at address.now) (texts paths.now))) }
@@ -69,7 +75,7 @@ pub(crate) fn read_sources<F: Files>(
 {
     let mut sources = Vec::new(alloc);
     for path in paths {
-        let read = read_source(alloc, address, path.as_str(), files)?;
+        let read = read_source(alloc, address, version, path.as_str(), files)?;
         match read {
             Ok(source) => push(&mut sources, source)?,
             Err(reply) => return Ok(Err(reply)),

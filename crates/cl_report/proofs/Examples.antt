@@ -15,6 +15,7 @@ use Rattle.cl_shapes.specs.declared.cost.Dimension.TheVariants.{ReadCount, Write
 use Rattle.cl_sexpr.specs.declared.rule.Rule.{Rule}
 use Rattle.cl_sexpr.specs.declared.rule.Rule.TheVariants.{Cycle, BoundTooLarge, BadType}
 use Rattle.cl_values.specs.Tree.{BoolV, UintV, AsciiV, ResponseV}
+use Rattle.cl_forms.specs.declared.version.Version.TheVariants.{One}
 use Rattle.cl_events.specs.declared.event.Event.{Event}
 use Rattle.cl_events.specs.declared.event.EventKind.TheVariants.{Print, FtMint, FtTransfer, FtBurn, NftMint, NftTransfer, NftBurn, StxTransfer, StxBurn}
 use Rattle.cl_tx.specs.Seen.{SourceBreak}
@@ -118,7 +119,7 @@ unfolding digits lines_of entry_line entry_text outcome_text cost_text address_t
 undone = refl
 
 abbrev deployment : Entry
-deployment = Deploy common (codes "c") []
+deployment = Deploy common (codes "c") [] One
 
 with_its_bounds : lines_of 0 deployment (record {
   outcome = Done;

@@ -26,7 +26,7 @@ outcome_text (Refused why) = codes "refused " ++ entry_refusal_text why
 
 -- what an entry was to do: the contract, and for a call the name of the function as it was given; of a block the height
 unfoldable pub entry_text : Entry → List ℕ
-entry_text (Deploy common name source) = codes " deploy " ++ (principal_text (contract_of common.sender name) ++ codes " ")
+entry_text (Deploy common name source version) = codes " deploy " ++ (principal_text (contract_of common.sender name) ++ codes " ")
 entry_text (Call common contract function args) = codes " call " ++ (principal_text contract ++ (codes " " ++ (function ++ codes " ")))
 entry_text (Block height) = codes " block " ++ decimal height
 

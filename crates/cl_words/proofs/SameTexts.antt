@@ -3,8 +3,9 @@ use Rattle.std.proofs.Common.{◌≡◌, ℕ, zero, suc, ◌+◌, ◌<◌, ◌�
 use Rattle.std.proofs.lemmas.Bool.Decides.{nat_tests}
 use Rattle.std.proofs.lemmas.List.{at_drop_all, at_drop_more}
 use Rattle.std.proofs.lemmas.Slice.Eq.{bytes_eq-Decides}
-use Rattle.std.proofs.Math.Bool.{beq}
-use Rattle.cl_words.specs.Words.{texts, same_texts, positional, line_in, keeps_rule, flag_in}
+use Rattle.std.specs.Prelude.{Option}
+use Rattle.cl_words.specs.declared.line.Flag.{Flag}
+use Rattle.cl_words.specs.Words.{texts, same_texts, positional, line_in, keeps_rule, flags_in, only_flag}
 
 none_left : (es : List (String Global)) (at : ℕ) → nat_le (length es) at ≡ same_texts [] (texts (drop at es))
 none_left [] zero = refl
@@ -38,15 +39,8 @@ same (x ∷ xs) (y ∷ ys) h =
     let q : xs ≡ ys = same xs ys b.1 in
     λ i. p i ∷ q i
 
-same_state : (a b : Bool) → beq a b ≡ true → a ≡ b
-same_state true true h = refl
-same_state true false h = absurd (true≢false (sym h))
-same_state false true h = absurd (true≢false (sym h))
-same_state false false h = refl
-
-pub line_is : (words given : List (List ℕ)) (state state' : Bool) → keeps_rule words ≡ true → Some state ≡ flag_in false words → beq state' state ≡ true
-    → same_texts (positional words) given ≡ true → Some (given, state') ≡ line_in words
-line_is words given state state' k f s h =
+pub line_is : (words given : List (List ℕ)) (flag flag' : Option Flag) → keeps_rule words ≡ true → Some flag ≡ only_flag (flags_in words) → flag' ≡ flag
+    → same_texts (positional words) given ≡ true → Some (given, flag') ≡ line_in words
+line_is words given flag flag' k f q h =
     let p : given ≡ positional words = sym (same _ _ h) in
-    let q : state' ≡ state = same_state _ _ s in
     rw (k, ← f) (λ i. Some (p i, q i))

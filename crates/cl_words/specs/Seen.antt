@@ -1,18 +1,30 @@
--- Words and a command as the definitions speak of them.
-use Rattle.std.specs.Prelude.{ℕ, Bool, List}
+-- Words, a command and a source as the definitions speak of them.
+use Rattle.std.specs.Prelude.{ℕ, List, Option}
+use Rattle.cl_forms.specs.Texts.{Text, text_of}
 use Rattle.cl_words.specs.Words.{Command, Call, Run, Check, Value, Wire, Gen, texts}
+use Rattle.cl_words.specs.declared.line.Flag.{Flag}
 use Rattle.cl_words.specs.declared.line.Line.{Line}
+use Rattle.cl_words.specs.declared.sources.Source.{Source}
+use Rattle.cl_words.specs.declared.words.CheckWords.{CheckWords}
 use Rattle.cl_words.specs.declared.words.Command.{Command as CommandOfWords}
 use Rattle.cl_words.specs.declared.words.Command.TheVariants as word
 
--- the positional words, and whether the flag is there
-abbrev pub line_of : Line → List (List ℕ) × Bool
-line_of line = (texts line.words.items, line.state)
+-- the positional words, and the flag where there is one
+abbrev pub line_of : Line → List (List ℕ) × Option Flag
+line_of line = (texts line.words.items, line.flag)
+
+-- the words of `check`
+abbrev pub check_seen : CheckWords → Command
+check_seen words = Check words.costs.now words.address (texts words.paths.now) words.version
 
 abbrev pub command_seen : CommandOfWords → Command
-command_seen (word.Call file function args) = Call file.now function.now (texts args.now)
+command_seen (word.Call file function args version) = Call file.now function.now (texts args.now) version
 command_seen (word.Run costs file state) = Run costs.now file.now state
-command_seen (word.Check words) = Check words.costs.now words.address (texts words.paths.now)
+command_seen (word.Check words) = check_seen words
 command_seen (word.Value text) = Value text.now
 command_seen (word.Wire text) = Wire text.now
 command_seen (word.Gen seed count) = Gen seed count
+
+-- the text of a source, in its version
+abbrev pub text_in : Source → Text
+text_in source = text_of source.text source.version

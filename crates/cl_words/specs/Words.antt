@@ -1,9 +1,13 @@
 -- What the words of a command line ask for.
-use Rattle.std.specs.Prelude.{ℕ, ◌-◌, ◌^◌, Bool, true, false, not, List, [], ◌∷◌, Option, Some, None, option_map, Result, Ok, Err, codes, if◌then◌else◌, ◌==◌, ◌&&◌, string_bytes, map}
+use Rattle.std.specs.Prelude.{ℕ, ◌-◌, ◌^◌, Bool, true, false, not, List, [], ◌∷◌, Option, Some, None, is_some, option_map, option_and_then, Result, Ok, Err, codes, if◌then◌else◌, ◌==◌, ◌&&◌, string_bytes, map}
 use Rattle.std.specs.Str.{bytes_eq}
 use Rattle.cl_c32.specs.Address.{AddressParts}
 use Rattle.cl_c32.specs.Codec.{decoded}
 use Rattle.cl_c32.specs.declared.codec.C32Refusal.{C32Refusal}
+use Rattle.cl_forms.specs.declared.version.Version.{Version}
+use Rattle.cl_forms.specs.declared.version.Version.TheVariants.{One, Two}
+use Rattle.cl_words.specs.declared.line.Flag.{Flag}
+use Rattle.cl_words.specs.declared.line.Flag.TheVariants.{State, Clarity2}
 use Rattle.cl_words.specs.Numbers.{number_within}
 use Rattle.cl_words.specs.Sources.{are_sources}
 use Rattle.std.specs.declared.alloc.Global.{Global}
@@ -13,13 +17,13 @@ use Rattle.std.specs.declared.string.String.{String}
 abbrev pub texts : List (String Global) → List (List ℕ)
 texts words = map string_bytes words
 
--- a command with its words
+-- a command with its words, and with the version of the contracts that it is about
 pub data Command : Type 0 where
-  Call : (file function : List ℕ) (args : List (List ℕ)) → Command
+  Call : (file function : List ℕ) (args : List (List ℕ)) (version : Version) → Command
   -- what the entries of a transaction file come to under a file of costs, and the state after them where it is asked for
   Run : (costs file : List ℕ) (state : Bool) → Command
   -- what becomes of the sources under these paths, as contracts under an address
-  Check : (costs : List ℕ) (address : AddressParts) (paths : List (List ℕ)) → Command
+  Check : (costs : List ℕ) (address : AddressParts) (paths : List (List ℕ)) (version : Version) → Command
   -- the text of the value with this wire form
   Value : (word : List ℕ) → Command
   -- the wire form of the value with this text
@@ -27,13 +31,19 @@ pub data Command : Type 0 where
   -- what a workload comes to, by its seed and its number of calls
   Gen : (seed count : ℕ) → Command
 
--- ---- the flag `--state`, and `--`
+-- ---- flags, and `--`
 
 abbrev pub is_end : List ℕ → Bool
 is_end word = bytes_eq word (codes "--")
 
+-- the flag that a word is
+abbrev pub flag_of : List ℕ → Option Flag
+flag_of word =
+    if bytes_eq word (codes "--state") then Some State
+    else (if bytes_eq word (codes "--clarity2") then Some Clarity2 else None)
+
 abbrev pub is_flag : List ℕ → Bool
-is_flag word = bytes_eq word (codes "--state")
+is_flag word = is_some (flag_of word)
 
 -- it begins with `-`, and isn't `-` alone
 abbrev pub is_dashed : List ℕ → Bool
@@ -41,26 +51,37 @@ is_dashed [] = false
 is_dashed (b ∷ []) = false
 is_dashed (b ∷ c ∷ bytes) = b == 45
 
--- each word before the first `--` that is dashed is the flag
+-- each word before the first `--` that is dashed is a flag
 abbrev pub keeps_rule : List (List ℕ) → Bool
 keeps_rule [] = true
 keeps_rule (word ∷ words) = if is_end word then true else (if is_dashed word && not (is_flag word) then false else keeps_rule words)
 
--- whether the flag stands before the first `--`, or was seen before these words; none where it stands there twice
-abbrev pub flag_in : Bool → List (List ℕ) → Option Bool
-flag_in seen [] = Some seen
-flag_in seen (word ∷ words) = if is_end word then Some seen else (if is_flag word then (if seen then None else flag_in true words) else flag_in seen words)
+-- a flag, where there is one, before others
+abbrev pub flag_before : Option Flag → List Flag → List Flag
+flag_before None flags = flags
+flag_before (Some flag) flags = flag ∷ flags
 
--- the words but the flag and the first `--`, behind which each word is positional
+-- the flags before the first `--`, in their order
+abbrev pub flags_in : List (List ℕ) → List Flag
+flags_in [] = []
+flags_in (word ∷ words) = if is_end word then [] else flag_before (flag_of word) (flags_in words)
+
+-- the only flag, or that there is none; none where there are more, which no command takes
+abbrev pub only_flag : List Flag → Option (Option Flag)
+only_flag [] = Some None
+only_flag (flag ∷ []) = Some (Some flag)
+only_flag (flag ∷ other ∷ flags) = None
+
+-- the words but the flags and the first `--`, behind which each word is positional
 abbrev pub positional : List (List ℕ) → List (List ℕ)
 positional [] = []
 positional (word ∷ words) = if is_end word then words else (if is_flag word then positional words else word ∷ positional words)
 
--- the positional words, and whether the flag is there; none where the rule on dashed words is broken
-abbrev pub line_in : List (List ℕ) → Option (List (List ℕ) × Bool)
-line_in words = if keeps_rule words then option_map (λ state. (positional words, state)) (flag_in false words) else None
+-- the positional words, and the flag where there is one; none where the rule on dashed words is broken
+abbrev pub line_in : List (List ℕ) → Option (List (List ℕ) × Option Flag)
+line_in words = if keeps_rule words then option_map (λ flag. (positional words, flag)) (only_flag (flags_in words)) else None
 
--- ---- the table of commands
+-- ---- the table of commands, as they are without a flag
 
 -- a command with one word
 abbrev pub command_with : List ℕ → List ℕ → Option Command
@@ -69,7 +90,7 @@ command_with name word =
     else (if bytes_eq name (codes "wire") then Some (Wire word) else None)
 
 abbrev pub check_under : List ℕ → List (List ℕ) → Result AddressParts C32Refusal → Option Command
-check_under costs paths (Ok address) = if are_sources paths then Some (Check costs address paths) else None
+check_under costs paths (Ok address) = if are_sources paths then Some (Check costs address paths One) else None
 check_under costs paths (Err refusal) = None
 
 -- `run` with two words, and with more
@@ -90,7 +111,7 @@ gen_of seed count (word ∷ words) = None
 -- a command with more words
 abbrev pub command_with_words : List ℕ → List ℕ → List ℕ → List (List ℕ) → Option Command
 command_with_words name first second words =
-    if bytes_eq name (codes "call") then Some (Call first second words)
+    if bytes_eq name (codes "call") then Some (Call first second words One)
     else (if bytes_eq name (codes "check") then check_under first words (decoded second)
     else (if bytes_eq name (codes "run") then run_of first second words
     else (if bytes_eq name (codes "gen") then gen_of first second words else None)))
@@ -102,17 +123,21 @@ command_of (name ∷ []) = None
 command_of (name ∷ word ∷ []) = command_with name word
 command_of (name ∷ first ∷ second ∷ words) = command_with_words name first second words
 
--- the command of these words with the flag, which `run` alone takes
-abbrev pub command_with_state : List (List ℕ) → Option Command
-command_with_state (name ∷ costs ∷ file ∷ []) = if bytes_eq name (codes "run") then Some (Run costs file true) else None
-command_with_state words = None
+-- ---- flags of commands
 
--- the command of positional words, with the flag or without it
-abbrev pub command_in : Bool → List (List ℕ) → Option Command
-command_in true words = command_with_state words
-command_in false words = command_of words
+-- a command with a flag: `run` alone takes `--state`, and `call` and `check` alone take `--clarity2`
+abbrev pub with_flag : Flag → Command → Option Command
+with_flag State (Run costs file state) = Some (Run costs file true)
+with_flag Clarity2 (Call file function args version) = Some (Call file function args Two)
+with_flag Clarity2 (Check costs address paths version) = Some (Check costs address paths Two)
+with_flag flag command = None
 
-abbrev pub command_on : Option (List (List ℕ) × Bool) → Option Command
+-- the command of positional words, with a flag or without
+abbrev pub command_in : Option Flag → List (List ℕ) → Option Command
+command_in None words = command_of words
+command_in (Some flag) words = option_and_then (with_flag flag) (command_of words)
+
+abbrev pub command_on : Option (List (List ℕ) × Option Flag) → Option Command
 command_on None = None
 command_on (Some line) = command_in line.1 line.0
 

@@ -8,6 +8,6 @@ mod sources;
 mod words;
 
 pub use argument::values;
-pub use line::{Line, read};
+pub use line::{Flag, Line, read};
 pub use sources::{Source, contract_at};
 pub use words::{CheckWords, Command, command_on};

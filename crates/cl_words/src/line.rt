@@ -1,17 +1,44 @@
-//! How the words of a command line are read: which are positional, and whether the flag is there.
+//! How the words of a command line are read: which are positional, and which flag is there.
 ghost use Rattle.std.specs.Prelude.{◌≡◌, drop, false, option_map, IfOk};
 ghost use Rattle.cl_words.specs.Seen.{line_of};
-ghost use Rattle.cl_words.specs.Words.{texts, is_dashed, keeps_rule, flag_in, positional, line_in, same_texts};
+ghost use Rattle.cl_words.specs.Words.{texts, flag_of, is_dashed, keeps_rule, flags_in, only_flag, positional, line_in, same_texts};
 
 use cl_types::NoMemory;
 use clap::{Arg, ArgAction, ArgMatches, Command};
 use std::alloc::{AllocError, Global};
 
-/// The positional words of a command line that keeps the rule, and whether `--state` is there.
+/// A flag of a command line.
+#[derive(Clone, Copy, PartialEq)]
+pub enum Flag {
+    /// `--state`: `run` writes the state too.
+    State,
+    /// `--clarity2`: all contracts of `call` or `check` are of version 2.
+    Clarity2,
+}
+
+/// The names of the flags for `clap`, without the `--` before them.
+const STATE: &str = "state";
+
+const CLARITY2: &str = "clarity2";
+
+/// The positional words of a command line that keeps the rule, and its flag, if there is one.
 #[derive(Drop)]
 pub struct Line {
     pub words: Vec<String>,
-    pub state: bool,
+    pub flag: Option<Flag>,
+}
+
+/// The flag that a word is.
+fn flag_of(word: &str) -> Option<Flag>
+    ensures { result ≡ flag_of word.now }
+{
+    if word == "--state" {
+        return Some(Flag::State);
+    }
+    if word == "--clarity2" {
+        return Some(Flag::Clarity2);
+    }
+    None
 }
 
 /// Whether a word begins with `-` and isn't `-` alone.
@@ -24,7 +51,7 @@ fn is_dashed(word: &str) -> bool
     }
 }
 
-/// Whether each word before the first `--` that is dashed is the flag.
+/// Whether each word before the first `--` that is dashed is a flag.
 fn keeps_rule(words: &[String]) -> bool
     ensures { result ≡ keeps_rule (texts words.now) }
 {
@@ -32,27 +59,28 @@ fn keeps_rule(words: &[String]) -> bool
         if word.as_str() == "--" {
             return true;
         }
-        if is_dashed(word.as_str()) && word.as_str() != "--state" {
+        if is_dashed(word.as_str()) && flag_of(word.as_str()).is_none() {
             return false;
         }
     }
     true
 }
 
-/// Whether the flag stands before the first `--`; none where it stands there twice.
-fn flag(words: &[String]) -> Option<bool>
-    ensures { result ≡ flag_in false (texts words.now) }
+/// The flag before the first `--`, or that there is none; none where there are more.
+fn only_flag(words: &[String]) -> Option<Option<Flag>>
+    ensures { result ≡ only_flag (flags_in (texts words.now)) }
 {
-    let mut seen = false;
+    let mut seen = None;
     for word in words {
         if word.as_str() == "--" {
             return Some(seen);
         }
-        if word.as_str() == "--state" {
-            if seen {
+        let flag = flag_of(word.as_str());
+        if flag.is_some() {
+            if seen.is_some() {
                 return None;
             }
-            seen = true;
+            seen = flag;
         }
     }
     Some(seen)
@@ -87,7 +115,7 @@ fn are_positional(words: &[String], expected: &[String]) -> bool
         if word == "--" {
             return same_texts(words, i + 1, expected, at);
         }
-        if word != "--state" {
+        if flag_of(word).is_none() {
             if at >= expected.len() || word != expected[at].as_str() {
                 return false;
             }
@@ -103,6 +131,17 @@ fn push_copy(alloc: Global, words: &mut Vec<String>, word: &str) -> Result<(), N
     Ok(())
 }
 
+/// The flag that `clap` found.
+fn flag_found(matches: &ArgMatches) -> Option<Flag> {
+    if matches.get_flag(STATE) {
+        return Some(Flag::State);
+    }
+    if matches.get_flag(CLARITY2) {
+        return Some(Flag::Clarity2);
+    }
+    None
+}
+
 /// The words and the flag that `clap` found.
 fn found(alloc: Global, matches: &ArgMatches) -> Result<Line, NoMemory> {
     let mut positional = Vec::new(alloc);
@@ -116,19 +155,21 @@ fn found(alloc: Global, matches: &ArgMatches) -> Result<Line, NoMemory> {
     }
     Ok(Line {
         words: positional,
-        state: matches.get_flag("state"),
+        flag: flag_found(matches),
     })
 }
 
-/// The command line as `clap` is told of it: positional words, and the flag.
+/// The command line as `clap` is given it: positional words, and the flags.
 fn command<'a>(alloc: Global) -> Result<Command<'a>, AllocError> {
     let bare = Command::new(alloc, "clarity")
         .no_binary_name(true)
         .disable_help_flag(true);
     let led = bare.arg(Arg::new(alloc, "COMMAND"))?;
     let positional = led.arg(Arg::new(alloc, "WORDS").action(ArgAction::Append))?;
-    let state = Arg::new(alloc, "state").long("state");
-    positional.arg(state.action(ArgAction::SetTrue))
+    let state = Arg::new(alloc, STATE).long(STATE);
+    let stated = positional.arg(state.action(ArgAction::SetTrue))?;
+    let clarity2 = Arg::new(alloc, CLARITY2).long(CLARITY2);
+    stated.arg(clarity2.action(ArgAction::SetTrue))
 }
 
 /// What `clap` makes of words that keep the rule. It refuses none of them: where it fails, memory
@@ -150,11 +191,11 @@ pub fn read(alloc: Global, words: &[String]) -> Result<Option<Line>, NoMemory>
     if !keeps_rule(words) {
         return Ok(None);
     }
-    let Some(state) = flag(words) else {
+    let Some(flag) = only_flag(words) else {
         return Ok(None);
     };
     let line = by_clap(alloc, words)?;
-    if line.state == state && are_positional(words, line.words.as_slice()) {
+    if line.flag == flag && are_positional(words, line.words.as_slice()) {
         return Ok(Some(line));
     }
     Err(NoMemory)

@@ -6,6 +6,7 @@ ghost use Rattle.cl_words.specs.Sources.{last_component, name_of_file, source_na
 ghost use Rattle.cl_words.specs.Words.{texts};
 
 use cl_c32::{Address, ContractName, Principal};
+use cl_forms::Version;
 use cl_tx::Row;
 
 /// The most bytes of the name of a contract.
@@ -16,6 +17,8 @@ const MOST_NAME_BYTES: usize = 40;
 pub struct Source {
     pub principal: Principal,
     pub text: Row<u8>,
+    /// The version of the language that its text is written in.
+    pub version: Version,
 }
 
 /// What stands behind the last `/` of a path.

@@ -1,13 +1,14 @@
 //! The table of commands.
 ghost use Rattle.std.specs.Prelude.{◌≡◌, ◌≤◌, option_map, IfSome};
-ghost use Rattle.cl_words.specs.Words.{texts, check_under, run_of, gen_by, gen_of, command_with, command_with_words, command_of, command_with_state, command_in, command_on};
+ghost use Rattle.cl_words.specs.Words.{texts, check_under, run_of, gen_by, gen_of, command_with, command_with_words, command_of, with_flag, command_in, command_on};
 ghost use Rattle.cl_words.specs.Seen.{command_seen, line_of};
 ghost use Rattle.cl_c32.specs.Codec.{decoded};
 
-use crate::line::Line;
+use crate::line::{Flag, Line};
 use crate::numbers::number_within;
 use crate::sources::are_sources;
 use cl_c32::{Address, decode};
+use cl_forms::Version;
 
 /// The words of `check`.
 #[derive(Clone, Copy)]
@@ -15,16 +16,20 @@ pub struct CheckWords<'a> {
     pub costs: &'a str,
     pub address: Address,
     pub paths: &'a [String],
+    /// The version of all its contracts.
+    pub version: Version,
 }
 
 /// A command with its words.
 #[derive(Clone, Copy)]
 pub enum Command<'a> {
-    /// Deploys the file, and calls the function with the values that these words spell.
+    /// Deploys the file as a contract of this version, and calls the function with the values that
+    /// these words spell.
     Call {
         file: &'a str,
         function: &'a str,
         args: &'a [String],
+        version: Version,
     },
     /// What the entries of a transaction file come to under a file of costs, and with `state` the
     /// state after them.
@@ -75,6 +80,7 @@ fn check_under<'a>(costs: &'a str, address: &str, paths: &'a [String]) -> Option
         costs,
         address,
         paths,
+        version: Version::One,
     }))
 }
 
@@ -127,6 +133,7 @@ fn command_with_words<'a>(
             file: first,
             function: second,
             args: words,
+            version: Version::One,
         });
     }
     if name == "check" {
@@ -141,7 +148,7 @@ fn command_with_words<'a>(
     None
 }
 
-/// The command of words without the flag.
+/// The command of words without a flag.
 fn command_of(words: &[String]) -> Option<Command<'_>>
     ensures { option_map command_seen result ≡ command_of (texts words.now) }
 {
@@ -154,33 +161,50 @@ fn command_of(words: &[String]) -> Option<Command<'_>>
     }
 }
 
-/// The command of words with the flag, which `run` alone takes.
-fn command_with_state(words: &[String]) -> Option<Command<'_>>
-    ensures { option_map command_seen result ≡ command_with_state (texts words.now) }
+/// The command with a flag: `run` alone takes `--state`, and `call` and `check` alone take
+/// `--clarity2`.
+fn with_flag<'a>(flag: Flag, command: &Command<'a>) -> Option<Command<'a>>
+    ensures { option_map command_seen result ≡ with_flag flag (command_seen command.now) }
 {
-    match words {
-        [name, costs, file] => {
-            if name.as_str() == "run" {
-                return Some(Command::Run {
-                    costs: costs.as_str(),
-                    file: file.as_str(),
-                    state: true,
-                });
-            }
-            None
-        }
+    match (flag, command) {
+        (Flag::State, Command::Run { costs, file, .. }) => Some(Command::Run {
+            costs: *costs,
+            file: *file,
+            state: true,
+        }),
+        (
+            Flag::Clarity2,
+            Command::Call {
+                file,
+                function,
+                args,
+                ..
+            },
+        ) => Some(Command::Call {
+            file: *file,
+            function: *function,
+            args: *args,
+            version: Version::Two,
+        }),
+        (Flag::Clarity2, Command::Check(words)) => Some(Command::Check(CheckWords {
+            version: Version::Two,
+            ..*words
+        })),
         _ => None,
     }
 }
 
-/// The command of positional words, with the flag or without it.
+/// The command of positional words, with a flag or without.
 fn command_in(line: &Line) -> Option<Command<'_>>
-    ensures { option_map command_seen result ≡ command_in line.now.state (texts line.now.words.items) }
+    ensures { option_map command_seen result ≡ command_in line.now.flag (texts line.now.words.items) }
 {
-    if line.state {
-        command_with_state(line.words.as_slice())
-    } else {
-        command_of(line.words.as_slice())
+    let command = command_of(line.words.as_slice());
+    let Some(flag) = line.flag else {
+        return command;
+    };
+    match &command {
+        Some(command) => with_flag(flag, command),
+        None => None,
     }
 }
 

@@ -10,6 +10,7 @@ use Rattle.cl_shapes.specs.Costs.{zero_cost, IsAtMost}
 use Rattle.cl_shapes.specs.Limits.{Purse}
 use Rattle.cl_shapes.specs.Names.{unit_function}
 use Rattle.cl_values.specs.Tree.{Tree, ResponseV}
+use Rattle.cl_forms.specs.Texts.{Text, text_of}
 use Rattle.cl_events.specs.State.{State}
 use Rattle.cl_meaning.specs.Answers.{Answer, Outcome as Ending, Given, Thrown, Aborted, Wrong, Deeper, Note, Charged}
 use Rattle.cl_meaning.specs.Deployed.{Contract, Function, contract_at, function_in}
@@ -179,7 +180,7 @@ module _ (common : Common) (node : NodeSeen) where
       unfolding call_step
       called_cheap function = deployed_cheap function (contract_at contract node.contracts)
 
-    deploy_cheap : (principal : Principal) (source : List ℕ) (s : Stepped) → DeploySteps unit_function node common principal source s → IsCheap s.result
+    deploy_cheap : (principal : Principal) (source : Text) (s : Stepped) → DeploySteps unit_function node common principal source s → IsCheap s.result
     unfolding run_deployment
     deploy_cheap principal source s (name_taken known e p) = subst (λ (z : Stepped). IsCheap z.result) (sym p) free
     deploy_cheap principal source s (source_refused rule span names e b p) = subst (λ (z : Stepped). IsCheap z.result) (sym p) free
@@ -187,11 +188,11 @@ module _ (common : Common) (node : NodeSeen) where
 
 -- an entry whose limit of runtime has 64 bits, as all of a file have
 abbrev pub IsLimited : Entry → Type 0
-IsLimited (Deploy common name source) = (purse_of common).limit.runtime ≤ 2 ^ 64 - 1
+IsLimited (Deploy common name source version) = (purse_of common).limit.runtime ≤ 2 ^ 64 - 1
 IsLimited (Call common contract function args) = (purse_of common).limit.runtime ≤ 2 ^ 64 - 1
 IsLimited (Block height) = Unit {0}
 
 pub step_cheap : (node : NodeSeen) (entry : Entry) (s : Stepped) → IsLimited entry → Steps unit_function node entry s → IsCheap s.result
-step_cheap node (Deploy common name source) s h x = deploy_cheap common node (record { unspent = refl; limit = h }) (contract_of common.sender name) source s x
+step_cheap node (Deploy common name source version) s h x = deploy_cheap common node (record { unspent = refl; limit = h }) (contract_of common.sender name) (text_of source version) s x
 step_cheap node (Call common contract function args) s h x = called_cheap common node (record { unspent = refl; limit = h }) contract args function s x
 step_cheap node (Block height) s h x = subst (λ (z : Stepped). IsCheap z.result) (sym x) free

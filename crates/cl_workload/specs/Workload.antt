@@ -2,6 +2,7 @@
 use Rattle.std.specs.Prelude.{ℕ, zero, suc, ◌+◌, ◌*◌, ◌/◌, ◌%◌, ◌^◌, ◌==◌, List, [], ◌∷◌, ◌++◌, codes, if◌then◌else◌}
 use Rattle.cl_c32.specs.declared.principal.Principal.{Principal}
 use Rattle.cl_values.specs.Tree.{Tree, UintV, PrincipalV, NoneV}
+use Rattle.cl_forms.specs.declared.version.Version.TheVariants.{One}
 use Rattle.cl_meaning.specs.Samples.{P0, P1, of_P0}
 use Rattle.cl_file.specs.declared.entry.Entry.{Entry}
 use Rattle.cl_file.specs.declared.entry.Entry.TheVariants.{Deploy, Call}
@@ -11,7 +12,7 @@ use Rattle.cl_workload.specs.declared.source.TheConstants.{TOKEN}
 
 -- the token is deployed
 abbrev pub deployment : Entry
-deployment = Deploy (by P0) (codes "token") TOKEN.now
+deployment = Deploy (by P0) (codes "token") TOKEN.now One
 
 -- a call of the token
 abbrev pub call_of : Principal → List ℕ → List Tree → Entry

@@ -7,6 +7,7 @@ ghost use Rattle.cl_workload.specs.Workload.{deployment, call_of, mint, transfer
 
 use crate::TOKEN;
 use cl_c32::{Address, ContractName, Principal};
+use cl_forms::Version;
 use cl_post::Mode;
 use cl_seq::{none, uint_value};
 use cl_tx::{Common, Conditions, Entry, Row};
@@ -86,6 +87,7 @@ pub fn deployment(alloc: Global) -> Result<Entry, AllocError>
         common: sent_by(alloc, &minter()),
         name: token_name(),
         source: Row::new(source),
+        version: Version::One,
     })
 }
 

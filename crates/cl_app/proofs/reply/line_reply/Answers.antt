@@ -1,7 +1,7 @@
 use Rattle.std.proofs.Common.{◌≡◌, ℕ, List, Option, IfErr, IfOk, OnOk, inl, refl, subst}
 use Rattle.std.specs.Prelude.{None, Some, option_map}
 use Rattle.cl_replies.specs.Answer.{IsAnswerAlone, IsWireAnswer, IsAnswer}
-use Rattle.cl_words.specs.Seen.{line_of}
+use Rattle.cl_words.specs.Seen.{check_seen, line_of}
 use Rattle.cl_replies.specs.Heard.{HearsAll}
 use Rattle.cl_words.specs.Words.{Command, Call, Run, Check, Value, Wire, Gen, texts, command_on}
 use Rattle.cl_entries.specs.Reply.{answer_of, Completes}
@@ -19,22 +19,22 @@ use Rattle.cl_app.proofs.reply.line_reply.Goals as goal
 pub check_words-requires : goal.check_words-requires
 check_words-requires g c = record {
   sources =
-      check_has_sources (option_map line_of c.args.line.now) c.in-Some-Check.words.costs.now c.in-Some-Check.words.address (texts c.in-Some-Check.words.paths.now)
+      check_has_sources (option_map line_of c.args.line.now) c.in-Some-Check.words.costs.now c.in-Some-Check.words.address (texts c.in-Some-Check.words.paths.now) c.in-Some-Check.words.version
       (rw c.in-Some-Check.field-0-is at c.in-Some-Check.ensures);
 }
 
 pub returns-in-Some-Call-clause-hears : goal.returns-in-Some-Call-clause-hears
 returns-in-Some-Call-clause-hears g c =
     ok_so c.call_words.result (HearsAll (command_on (option_map line_of c.args.line.now)) (g.F.Files.held c.args.files.now) c.args.listeners.now c.args.listeners.now)
-    (nobody_told c.events_told_in_turn.ensures.nothing (command_on (option_map line_of c.args.line.now)) (Some (Call c.in-Some-Call.file.now c.in-Some-Call.function.now (texts c.in-Some-Call.args.now))) (g.F.Files.held c.args.files.now) c.args.listeners.now (rw c.in-Some-Call.field-0-is at c.in-Some-Call.ensures) (λ files events is. is))
+    (nobody_told c.events_told_in_turn.ensures.nothing (command_on (option_map line_of c.args.line.now)) (Some (Call c.in-Some-Call.file.now c.in-Some-Call.function.now (texts c.in-Some-Call.args.now) c.in-Some-Call.version)) (g.F.Files.held c.args.files.now) c.args.listeners.now (rw c.in-Some-Call.field-0-is at c.in-Some-Call.ensures) (λ files events is. is))
 
 pub returns-in-Some-Call-clause-answer : goal.returns-in-Some-Call-clause-answer
 returns-in-Some-Call-clause-answer g c =
-    completes_command (command_on (option_map line_of c.args.line.now)) (Some (Call c.in-Some-Call.file.now c.in-Some-Call.function.now (texts c.in-Some-Call.args.now))) (λ command. IsAnswer command (g.F.Files.held c.args.files.now)) c.call_words.result (g.K.Sink.written c.args.out.now) (rw c.in-Some-Call.field-0-is at c.in-Some-Call.ensures) c.call_words.ensures.answer
+    completes_command (command_on (option_map line_of c.args.line.now)) (Some (Call c.in-Some-Call.file.now c.in-Some-Call.function.now (texts c.in-Some-Call.args.now) c.in-Some-Call.version)) (λ command. IsAnswer command (g.F.Files.held c.args.files.now)) c.call_words.result (g.K.Sink.written c.args.out.now) (rw c.in-Some-Call.field-0-is at c.in-Some-Call.ensures) c.call_words.ensures.answer
 
 pub returns-in-Some-Call-clause-alone : goal.returns-in-Some-Call-clause-alone
 returns-in-Some-Call-clause-alone g c =
-    completes_command (command_on (option_map line_of c.args.line.now)) (Some (Call c.in-Some-Call.file.now c.in-Some-Call.function.now (texts c.in-Some-Call.args.now))) IsAnswerAlone c.call_words.result (g.K.Sink.written c.args.out.now) (rw c.in-Some-Call.field-0-is at c.in-Some-Call.ensures) c.call_words.ensures.alone
+    completes_command (command_on (option_map line_of c.args.line.now)) (Some (Call c.in-Some-Call.file.now c.in-Some-Call.function.now (texts c.in-Some-Call.args.now) c.in-Some-Call.version)) IsAnswerAlone c.call_words.result (g.K.Sink.written c.args.out.now) (rw c.in-Some-Call.field-0-is at c.in-Some-Call.ensures) c.call_words.ensures.alone
 
 pub returns-in-Some-Call-clause-stops : goal.returns-in-Some-Call-clause-stops
 returns-in-Some-Call-clause-stops g c =
@@ -51,15 +51,15 @@ returns-in-Some-Call-clause-faults g c =
 pub returns-in-Some-Check-clause-hears : goal.returns-in-Some-Check-clause-hears
 returns-in-Some-Check-clause-hears g c =
     ok_so c.check_words.result (HearsAll (command_on (option_map line_of c.args.line.now)) (g.F.Files.held c.args.files.now) c.args.listeners.now c.args.listeners.now)
-    (nobody_told c.events_told_in_turn.ensures.nothing (command_on (option_map line_of c.args.line.now)) (Some (Check c.in-Some-Check.words.costs.now c.in-Some-Check.words.address (texts c.in-Some-Check.words.paths.now))) (g.F.Files.held c.args.files.now) c.args.listeners.now (rw c.in-Some-Check.field-0-is at c.in-Some-Check.ensures) (λ files events is. is))
+    (nobody_told c.events_told_in_turn.ensures.nothing (command_on (option_map line_of c.args.line.now)) (Some (check_seen c.in-Some-Check.words)) (g.F.Files.held c.args.files.now) c.args.listeners.now (rw c.in-Some-Check.field-0-is at c.in-Some-Check.ensures) (λ files events is. is))
 
 pub returns-in-Some-Check-clause-answer : goal.returns-in-Some-Check-clause-answer
 returns-in-Some-Check-clause-answer g c =
-    completes_command (command_on (option_map line_of c.args.line.now)) (Some (Check c.in-Some-Check.words.costs.now c.in-Some-Check.words.address (texts c.in-Some-Check.words.paths.now))) (λ command. IsAnswer command (g.F.Files.held c.args.files.now)) c.check_words.result (g.K.Sink.written c.args.out.now) (rw c.in-Some-Check.field-0-is at c.in-Some-Check.ensures) c.check_words.ensures.answer
+    completes_command (command_on (option_map line_of c.args.line.now)) (Some (check_seen c.in-Some-Check.words)) (λ command. IsAnswer command (g.F.Files.held c.args.files.now)) c.check_words.result (g.K.Sink.written c.args.out.now) (rw c.in-Some-Check.field-0-is at c.in-Some-Check.ensures) c.check_words.ensures.answer
 
 pub returns-in-Some-Check-clause-alone : goal.returns-in-Some-Check-clause-alone
 returns-in-Some-Check-clause-alone g c =
-    completes_command (command_on (option_map line_of c.args.line.now)) (Some (Check c.in-Some-Check.words.costs.now c.in-Some-Check.words.address (texts c.in-Some-Check.words.paths.now))) IsAnswerAlone c.check_words.result (g.K.Sink.written c.args.out.now) (rw c.in-Some-Check.field-0-is at c.in-Some-Check.ensures) (check_alone c.in-Some-Check.words.costs.now c.in-Some-Check.words.address (texts c.in-Some-Check.words.paths.now) c.check_words.result)
+    completes_command (command_on (option_map line_of c.args.line.now)) (Some (check_seen c.in-Some-Check.words)) IsAnswerAlone c.check_words.result (g.K.Sink.written c.args.out.now) (rw c.in-Some-Check.field-0-is at c.in-Some-Check.ensures) (check_alone c.in-Some-Check.words.costs.now c.in-Some-Check.words.address (texts c.in-Some-Check.words.paths.now) c.in-Some-Check.words.version c.check_words.result)
 
 pub returns-in-Some-Check-clause-stops : goal.returns-in-Some-Check-clause-stops
 returns-in-Some-Check-clause-stops g c =

@@ -7,7 +7,7 @@ use Rattle.cl_replies.proofs.check.check_paths.Goals as goal
 pub report-requires : goal.report-requires
 report-requires g c = record {
   apart =
-      are_apart c.args.address.now c.deref.result.now (texts c.args.paths.now)
+      are_apart c.args.words.now.address c.deref.result.now (texts c.args.words.now.paths.now)
       (ap (map (λ (source : Source). source.principal)) c.deref.ensures.value ∙ (rw c.in-Ok.is at c.in_ok-sources.ensures.contracts))
-      (names_apart (texts c.args.paths.now) c.requires.sources);
+      (names_apart (texts c.args.words.now.paths.now) c.requires.sources);
 }

@@ -20,6 +20,9 @@ judge-requires-clause-new c =
     next_is_new (function_of c.args.costs.now) c.args.sources.now (drop i c.args.sources.now) (drop (i + 1) c.args.sources.now) c.source-item.result (bytes_of c.loop-source.pieces.items) c.loop-source.deployed.contracts.entries
     c.loop-source.invariant.accepted (source_in_front c.args.sources.now i c.source-item.result c.loop-source-test.true c.source-item.is)
 
+pub judge-requires-clause-knows : goal.judge-requires-clause-knows
+judge-requires-clause-knows c = record { known = c.loop-source.invariant.accepted.known; knows = c.loop-source.invariant.accepted.stand }
+
 pub loop-source-preserved : goal.loop-source-preserved
 loop-source-preserved c =
     let i = c.loop-source.source-index in

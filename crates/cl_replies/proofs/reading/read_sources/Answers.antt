@@ -13,7 +13,7 @@ use Rattle.cl_replies.proofs.reading.read_sources.Goals as goal
 
 pub loop-path-init : goal.loop-path-init
 loop-path-init g c = record {
-  read = rw c.new-sources.ensures.items (read_first (g.F.Files.held c.args.files.now) c.args.address.now (texts c.args.paths.now));
+  read = rw c.new-sources.ensures.items (read_first (g.F.Files.held c.args.files.now) c.args.address.now c.args.version (texts c.args.paths.now));
   contracts = ap (map (λ (source : Source). source.principal)) c.new-sources.ensures.items;
   asked = asked_first (g.F.Files.held c.args.files.now) (texts c.args.paths.now) (g.F.Files.asked c.args.files.now);
   kept = refl;
@@ -27,11 +27,11 @@ loop-path-preserved g c =
     let text = c.as_str.result.now in
     let held = g.F.Files.held c.args.files.now in
     let front = word_in_front paths i c.path-item.result text c.loop-path-test.true c.path-item.is c.as_str.ensures.value in
-    let read = subst (λ (h : Option Held). IsRead h c.args.address.now text (Ok c.in-Ok.source)) c.loop-path.invariant.kept (rw c.in-Ok.is at c.in_ok-read.ensures.read) in
+    let read = subst (λ (h : Option Held). IsRead h c.args.address.now c.args.version text (Ok c.in-Ok.source)) c.loop-path.invariant.kept (rw c.in-Ok.is at c.in_ok-read.ensures.read) in
     record {
-      read = rw c.in_ok-push-in-Ok.ensures (read_next held c.args.address.now (texts paths) (texts (drop i paths)) (texts (drop (i + 1) paths)) text c.loop-path.sources.items c.in-Ok.source c.loop-path.invariant.read front read);
+      read = rw c.in_ok-push-in-Ok.ensures (read_next held c.args.address.now c.args.version (texts paths) (texts (drop i paths)) (texts (drop (i + 1) paths)) text c.loop-path.sources.items c.in-Ok.source c.loop-path.invariant.read front read);
       contracts = rw c.in_ok-push-in-Ok.ensures (contracts_next c.args.address.now paths i c.path-item.result text c.loop-path.sources.items c.in-Ok.source c.loop-path-test.true c.path-item.is c.as_str.ensures.value read.0 c.loop-path.invariant.contracts);
-      asked = asked_next held c.args.address.now (texts paths) (texts (drop i paths)) (texts (drop (i + 1) paths)) text c.in-Ok.source (g.F.Files.asked c.args.files.now) (g.F.Files.asked c.loop-path.files) (g.F.Files.asked c.read_source.new.files) c.loop-path.invariant.asked front read c.in_ok-read.ensures.asked;
+      asked = asked_next held c.args.address.now c.args.version (texts paths) (texts (drop i paths)) (texts (drop (i + 1) paths)) text c.in-Ok.source (g.F.Files.asked c.args.files.now) (g.F.Files.asked c.loop-path.files) (g.F.Files.asked c.read_source.new.files) c.loop-path.invariant.asked front read c.in_ok-read.ensures.asked;
       kept = c.read_source.ensures.kept ∙ c.loop-path.invariant.kept;
       faults = c.in_ok-read.ensures.cause ∙ c.loop-path.invariant.faults;
     }
@@ -41,9 +41,9 @@ returns-in-Err-clause-read g c =
     let paths = c.args.paths.now in
     let i = c.loop-path.path-index in
     let text = c.as_str.result.now in
-    read_long (g.F.Files.held c.args.files.now) c.args.address.now (texts paths) (texts (drop i paths)) (texts (drop (i + 1) paths)) text c.loop-path.sources.items c.in-Err.reply c.loop-path.invariant.read
+    read_long (g.F.Files.held c.args.files.now) c.args.address.now c.args.version (texts paths) (texts (drop i paths)) (texts (drop (i + 1) paths)) text c.loop-path.sources.items c.in-Err.reply c.loop-path.invariant.read
     (word_in_front paths i c.path-item.result text c.loop-path-test.true c.path-item.is c.as_str.ensures.value)
-    (subst (λ (h : Option Held). IsRead h c.args.address.now text (Err c.in-Err.reply)) c.loop-path.invariant.kept (rw c.in-Err.is at c.in_ok-read.ensures.read))
+    (subst (λ (h : Option Held). IsRead h c.args.address.now c.args.version text (Err c.in-Err.reply)) c.loop-path.invariant.kept (rw c.in-Err.is at c.in_ok-read.ensures.read))
 
 pub returns-in-Err-clause-asked : goal.returns-in-Err-clause-asked
 returns-in-Err-clause-asked g c =
@@ -73,7 +73,7 @@ pub returns-clause-read : goal.returns-clause-read
 returns-clause-read g c =
     let paths = c.args.paths.now in
     let i = c.loop-path.path-index in
-    read_all (g.F.Files.held c.args.files.now) c.args.address.now (texts paths) (texts (drop i paths)) c.loop-path.sources.items c.loop-path.invariant.read (no_word_left paths i c.loop-path-test.false)
+    read_all (g.F.Files.held c.args.files.now) c.args.address.now c.args.version (texts paths) (texts (drop i paths)) c.loop-path.sources.items c.loop-path.invariant.read (no_word_left paths i c.loop-path-test.false)
 
 pub returns-clause-contracts : goal.returns-clause-contracts
 returns-clause-contracts g c =

@@ -6,7 +6,7 @@ use Rattle.cl_replies.proofs.reading.read_sources.Given as goal
 
 abbrev pub invariant-loop-path : goal.invariant-loop-path
 invariant-loop-path g l = record {
-  read : ReadSoFar (g.F.Files.held l.initial.files) l.address (texts l.paths) (texts (drop l.path-index l.paths)) l.sources.items;
+  read : ReadSoFar (g.F.Files.held l.initial.files) l.address l.version (texts l.paths) (texts (drop l.path-index l.paths)) l.sources.items;
   contracts : map (λ source. source.principal) l.sources.items ≡ map (contract_at l.address) (texts (take l.path-index l.paths));
   asked : AskedSoFar (g.F.Files.held l.initial.files) (texts l.paths) (texts (drop l.path-index l.paths)) (g.F.Files.asked l.initial.files) (g.F.Files.asked l.files);
   kept : g.F.Files.held l.files ≡ g.F.Files.held l.initial.files;
