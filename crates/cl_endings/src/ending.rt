@@ -76,7 +76,7 @@ fn settle(
     ensures base { world.new.stack.below ≡ [] }
     ensures refused { OnErr result (world.new.stack.top ∷ [] ≡ world.old.stack.below) }
 {
-    match layer::failing(world, common) {
+    match layer::failing(alloc, world, common) {
         None => keep(alloc, world, outcome, spent),
         Some(index) => {
             let stopped = Outcome::Aborted(Stop::PostCondition { index });

@@ -21,10 +21,15 @@ fn copied(alloc: Global, events: &[Event]) -> Result<Vec<Event>, NoMemory>
 }
 
 /// The place of the first post-condition of an entry that fails, by what moved on its layer.
-pub fn failing(world: &World, common: &Common) -> Option<u32>
+pub fn failing(alloc: Global, world: &World, common: &Common) -> Option<u32>
     ensures { result ≡ holds world.now.stack.top.moves common.now.mode common.now.conditions }
 {
-    holds(world.moves(), common.mode, common.conditions.as_slice())
+    holds(
+        alloc,
+        world.moves(),
+        common.mode,
+        common.conditions.as_slice(),
+    )
 }
 
 /// Makes the one layer the base, and gives its events.

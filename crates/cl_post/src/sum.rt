@@ -9,7 +9,7 @@ use cl_c32::Principal;
 use cl_events::{Asset, Move};
 
 // A sum and an amount; None where it is above all amounts.
-fn added(sum: Option<u128>, amount: u128) -> Option<u128>
+pub(crate) fn added(sum: Option<u128>, amount: u128) -> Option<u128>
     ensures { (n : ℕ) → sum ≡ fitting n → result ≡ fitting (n + amount) }
 {
     match sum {
