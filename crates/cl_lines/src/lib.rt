@@ -15,4 +15,4 @@ pub use costs::{write_bounds, write_cost};
 pub use events::{event_line, event_line_with, write_event};
 pub use laws::a_state_has_one_text;
 pub use refusals::{stop_text, write_entry_refusal};
-pub use state::state_lines;
+pub use state::{state_line, state_lines};

@@ -1,5 +1,5 @@
 //! The lines of a state.
-ghost use Rattle.std.specs.Prelude.{◌≡◌, ◌++◌, IfOk, map};
+ghost use Rattle.std.specs.Prelude.{◌≡◌, ◌++◌, IfOk, codes, map};
 ghost use Rattle.cl_lines.specs.StateLines.{IsStateText, ended};
 ghost use Rattle.cl_lines.specs.RowLines.{row_word, contract_part, name_part, key_part, row_line};
 ghost use Rattle.cl_lines.specs.LineSets.{IsSetOf};
@@ -111,7 +111,17 @@ fn ended(alloc: Global, lines: &[Vec<u8>]) -> Result<Vec<u8>, NoMemory>
     Ok(text)
 }
 
-/// The lines of the top state of a world: rising bytewise, each with an LF behind it.
+/// The line of a row of a state, with its LF. The text of a state (`state_lines`) is made of just these lines of its rows.
+pub fn state_line(alloc: Global, row: &StateRow) -> Result<Vec<u8>, NoMemory>
+    ensures { IfOk result (λ line. line.items ≡ row_line row.now ++ codes "\n") }
+{
+    let mut addresses = AddressCache::new(alloc)?;
+    let mut line = row_line(alloc, &mut addresses, row)?;
+    line.push(b'\n')?;
+    Ok(line)
+}
+
+/// The lines of the top state of a world: rising bytewise, each followed by an LF.
 pub fn state_lines(alloc: Global, world: &World) -> Result<Vec<u8>, NoMemory>
     ensures { IfOk result (λ text. IsStateText world.now.stack.top text.items) }
 {

@@ -15,4 +15,8 @@ mod orders;
 #[cfg(test)]
 mod principals;
 #[cfg(test)]
+mod roots;
+#[cfg(test)]
+mod sequences;
+#[cfg(test)]
 mod world;

@@ -1,6 +1,6 @@
 //! The order in which definitions are evaluated, worked out by hand from the rule: depth first, what a form names in the order
 //! of the text.
-use cl_forms::{Form, forms};
+use cl_forms::{Form, Version, forms};
 use cl_order::order;
 use cl_sexpr::{Sexpr, read};
 use std::alloc::Global;
@@ -17,7 +17,7 @@ fn items_of(alloc: Global, text: &[u8]) -> Option<Vec<Sexpr>> {
 // The forms of a text, if it breaks no rule.
 fn forms_of(alloc: Global, text: &[u8]) -> Option<Vec<Form>> {
     let items = items_of(alloc, text)?;
-    match forms(alloc, items) {
+    match forms(alloc, items, Version::One) {
         Ok(list) => Some(list),
         Err(_) => None,
     }
