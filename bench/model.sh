@@ -1,0 +1,65 @@
+#!/usr/bin/env bash
+# Runs tools/model on examples of its own, whose answers are written out here by hand. Run by hand: bench/model.sh; python3.
+[ "${1-}" != --help ] || { sed -n '2p' "$0"; exit 0; }
+set -u
+cd "$(dirname "$0")/.." || exit 1
+folder=$(mktemp -d) || exit 1
+trap 'rm -rf "$folder"' EXIT
+wrong=0
+
+# shown STATUS WORDS..: runs tools/model on the words, and compares what it writes with standard input, and its status.
+shown() {
+    local status=$1
+    shift
+    python3 tools/model "$@" >"$folder/came" 2>&1
+    local came=$?
+    if [ "$came" != "$status" ] || ! diff - "$folder/came"; then
+        echo "tools/model $*: status $came"
+        wrong=1
+    fi
+}
+
+printf '(define-read-only (add1 (x int)) (+ x 1))' >"$folder/inc.clar"
+printf '(define-read-only (s (b (buff 4))) (slice? b u1 u3))' >"$folder/s.clar"
+printf '{"version": 1, "genesis": [], "entries": [{"deploy": {"sender": "SP000000000000000000002Q6VF78", "name": "a", "source": "", "clarity": 3}}]}' >"$folder/tx.json"
+printf '{"cases": [{"name": "a"}]}' >"$folder/new.json"
+
+shown 0 answer call "$folder/inc.clar" add1 41 <<'END'
+0 deploy 'SP000000000000000000002Q6VF78.main done
+  cost 2 0 0 2 41
+  deploy-bound 2 0 0 2 41
+  bound add1 5 0 0 0 0 int
+1 call 'SP000000000000000000002Q6VF78.main add1 value 42
+  cost 5 0 0 0 0
+END
+shown 6 answer call "$folder/s.clar" s 0x01020304 <<'END'
+0 deploy 'SP000000000000000000002Q6VF78.main refused E7 ContractRefused C1 UnknownName 35..51
+END
+shown 0 answer call --clarity2 "$folder/s.clar" s 0x01020304 <<'END'
+0 deploy 'SP000000000000000000002Q6VF78.main done
+  cost 2 0 0 2 52
+  deploy-bound 2 0 0 2 52
+  bound s 6 0 0 0 0 (optional (buff 4))
+1 call 'SP000000000000000000002Q6VF78.main s value (some 0x0203)
+  cost 6 0 0 0 0
+END
+shown 5 answer run examples/unit.json "$folder/tx.json" <<END
+bad file $folder/tx.json BadValue /entries/0/deploy/clarity
+END
+shown 8 answer value 0703ff <<'END'
+refused Extra 2
+END
+shown 0 answer gen 2 1 <<'END'
+calls 1 ok 1 err 0 supply u740 p1 u740 runtime 33
+END
+shown 0 compare readme arithmetic <<'END'
+readme: 10 of 10 cases, 0 of what the model doesn't know
+arithmetic: 4 of 4 cases, 0 of what the model doesn't know
+END
+shown 1 add runs "$folder/new.json" <<'END'
+a: it has no list of words
+END
+shown 1 add runs "$folder/inc.clar" <<'END'
+model: Expecting value: line 1 column 1 (char 0)
+END
+exit $wrong

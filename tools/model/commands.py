@@ -1,0 +1,191 @@
+"""The words of the command line, and what each command answers: a status and lines."""
+import pathlib
+import re
+
+from addresses import is_contract_name, read_address, write_principal
+from checking import check
+from costs import BadCosts, read_costs, unit_table
+from evaluation import state_lines
+from node import Node, bound_lines, event_lines, lines
+from texts import Break
+from transactions import BadFile, read_transactions
+from values import Refused, decode, parse, wire, write_value
+
+LONGEST_FILE = 16 << 20
+DEPLOYER = (22, bytes(20), None)
+HOLDER = "SP2J6ZY48GV1EZ5V2V5RB9MP66SW86PYKKNRV9EJ7"
+TOKEN = pathlib.Path(__file__).resolve().parents[2] / "crates" / "cases" / "data" / "token.clar"
+
+
+class Ended(Exception):
+    """A command that ends early, with its status and lines."""
+
+
+class Answer:
+    """A status, the lines that are written, the files that are asked for, and the lines of events, a list for each entry."""
+
+    def __init__(self, status, written, asked=(), heard=()):
+        self.status, self.lines, self.asked, self.heard = status, written, list(asked), list(heard)
+
+
+class Files:
+    """Files by their names. `read` notes each name that is asked for."""
+
+    def __init__(self, held, failing=()):
+        self.held, self.failing, self.asked = held, failing, []
+
+    def read(self, name):
+        self.asked.append(name)
+        if len(self.asked) in self.failing or name not in self.held:
+            raise Ended(3, [])
+        if len(self.held[name]) > LONGEST_FILE:
+            raise Ended(5, [f"bad file {name} TooLong"])
+        return self.held[name]
+
+    def read_as(self, name, reader):
+        try:
+            return reader(self.read(name))
+        except (BadCosts, BadFile) as error:
+            raise Ended(5, [f"bad file {name} {error}"]) from None
+
+
+# ---- words
+
+FLAGS = {"--state": ("run",), "--clarity2": ("call", "check")}
+
+
+def split(words):
+    """The flags and the other words."""
+    end = words.index("--") if "--" in words else len(words)
+    flags = [word for word in words[:end] if word.startswith("-") and word != "-"]
+    return flags, [word for word in words[:end] if word not in flags] + words[end + 1 :]
+
+
+def is_number(word, above):
+    return re.fullmatch("[0-9]+", word, re.ASCII) is not None and int(word) < above
+
+
+def contract_of(path):
+    """The contract's name that a path has, or None."""
+    name = path.rpartition("/")[2]
+    return name[:-5] if name.endswith(".clar") and is_contract_name(name[:-5], 40) else None
+
+
+def are_taken(command, words):
+    names = [contract_of(path) for path in words[2:]]
+    return {
+        "run": lambda: len(words) == 2,
+        "call": lambda: len(words) >= 2,
+        "check": lambda: len(words) >= 3 and read_address(words[1]) and None not in names and len(set(names)) == len(names),
+        "value": lambda: len(words) == 1,
+        "wire": lambda: len(words) == 1,
+        "gen": lambda: len(words) == 2 and is_number(words[0], 1 << 64) and is_number(words[1], 100000),
+    }.get(command, lambda: False)()
+
+
+def answer(words, files):
+    """The answer to these words over these files."""
+    flags, others = split(words)
+    command = others[0] if others else None
+    if (
+        len(set(flags)) != len(flags)
+        or any(command not in FLAGS.get(flag, ()) for flag in flags)
+        or not are_taken(command, others[1:])
+    ):
+        return Answer(2, ["usage: clarity COMMAND WORDS"])
+    heard = []
+    try:
+        status, written = COMMANDS[command](files, flags, heard, *others[1:])
+    except Ended as error:
+        status, written = error.args
+    return Answer(status, written, files.asked, heard)
+
+
+# ---- commands
+
+def version_of(flags):
+    return 2 if "--clarity2" in flags else 1
+
+
+def run(files, flags, heard, costs, file):
+    table = files.read_as(costs, read_costs)
+    holders, entries = files.read_as(file, read_transactions)
+    node, written = Node(table, holders), []
+    for number, entry in enumerate(entries):
+        head, result = node.step(entry)
+        heard.append(event_lines(result.events))
+        written += lines(number, head, result)
+    return 0, written + (state_lines(node.state) if "--state" in flags else [])
+
+
+def call(files, flags, heard, file, function, *arguments):
+    try:
+        values = [parse(argument.encode()) for argument in arguments]
+    except Refused as error:
+        return 8, [f"refused {error}"]
+    node = Node(unit_table())
+    deployed = node.deploy(DEPLOYER, "main", files.read(file), version_of(flags))
+    main = (*DEPLOYER[:2], "main")
+    written = lines(0, f"deploy '{write_principal(main)}", deployed)
+    if deployed.outcome.startswith("refused"):
+        return 6, written
+    called = node.call(DEPLOYER, main, function, values)
+    is_good = called.outcome.split(" ")[0] in ("ok", "value")
+    return 0 if is_good else 7, written + lines(1, f"call '{write_principal(main)} {function}", called)
+
+
+def check_sources(files, flags, heard, costs, address, *paths):
+    table = files.read_as(costs, read_costs)
+    sources = [files.read(path) for path in paths]
+    deployed, written = {}, []
+    for path, source in zip(paths, sources):
+        principal = (*read_address(address), contract_of(path))
+        head = f"contract '{write_principal(principal)}"
+        try:
+            checked = check(deployed, principal, source, version_of(flags))
+            written += [head] + [f"  {line}" for line in bound_lines(checked, table)]
+        except Break as error:
+            return 6, written + [f"{head} refused {error.text()}"]
+        deployed[principal] = checked
+    return 0, written
+
+
+def value(files, flags, heard, word):
+    digits = word[2:] if word.startswith("0x") else word
+    if len(digits) % 2 or not re.fullmatch("[0-9a-fA-F]*", digits):
+        return 8, ["refused NotHex"]
+    try:
+        return 0, [write_value(decode(bytes.fromhex(digits)))]
+    except Refused as error:
+        return 8, [f"refused {error}"]
+
+
+def wire_form(files, flags, heard, word):
+    try:
+        return 0, ["0x" + wire(parse(word.encode())).hex()]
+    except Refused as error:
+        return 8, [f"refused {error}"]
+
+
+def generated(files, flags, heard, seed, count):
+    """The summary of the calls of a token that are drawn by a seed."""
+    node, drawn = Node(unit_table()), int(seed)
+    token, holder = (*DEPLOYER[:2], "token"), (*read_address(HOLDER), None)
+    results = [node.deploy(DEPLOYER, "token", TOKEN.read_bytes())]
+    for _ in range(int(count)):
+        drawn = (drawn * 6364136223846793005 + 1442695040888963407) % (1 << 64)
+        draw = drawn >> 33
+        amount = ("uint", draw % 1000)
+        if draw % 4 == 0:
+            results.append(node.call(DEPLOYER, token, "mint", [amount, ("principal", holder)]))
+        else:
+            values = [amount, ("principal", holder), ("principal", DEPLOYER), ("none", None)]
+            results.append(node.call(holder, token, "transfer", values))
+    goods, bads = [sum(result.outcome.startswith(word) for result in results) for word in ("ok ", "err ")]
+    coin = (token, "coin")
+    supply, held = node.state.supplies[coin], node.state.balances[coin].get(holder, 0)
+    runtime = sum(result.cost[0] for result in results)
+    return 0, [f"calls {int(count)} ok {goods} err {bads} supply u{supply} p1 u{held} runtime {runtime}"]
+
+
+COMMANDS = {"run": run, "call": call, "check": check_sources, "value": value, "wire": wire_form, "gen": generated}
