@@ -16,4 +16,4 @@ returns-in-Ok-clause-alone g c = called_alone c.one_outcome.ensures c.args.file.
 pub returns-in_ok-no_value-in-Err-Refused-clause-alone : goal.returns-in_ok-no_value-in-Err-Refused-clause-alone
 returns-in_ok-no_value-in-Err-Refused-clause-alone g c =
     refused_alone c.one_outcome.ensures c.args.file.now c.args.function.now (texts c.args.args.now) c.args.version (outcome_of c.in-Err-Refused.refusal) (answer_of c.in_ok-no_value-in-Err-Refused.field-0)
-    (rw c.in-Err-Refused.field-0-is at c.in-Err-Refused.ensures.broken) c.in_ok-no_value-in-Err-Refused.ensures.answer
+    (rw c.in-Err-Refused.field-0-is at c.in-Err-Refused.ensures.broken) (rw c.in-Err-Refused.field-0-is at c.in_ok-no_value-in-Err-Refused.ensures.answer)
