@@ -1,4 +1,6 @@
 //! Roots of states, and the proofs of their rows. The digests were computed by another program over another library of SHA-256.
+ghost use Rattle.std.specs.Prelude.{◌≡◌, length};
+
 use cl_c32::{Address, Principal};
 use cl_lines::state_line;
 use cl_root::{Side, prove, root, row_bytes, verify};
@@ -50,7 +52,9 @@ fn is_taken_alone(
     Ok(yes && !other_value && !other_sides)
 }
 
-fn is_proved(alloc: Global, world: &World, root: &[u8; 32], row: &StateRow) -> Result<bool, Fail> {
+fn is_proved(alloc: Global, world: &World, root: &[u8; 32], row: &StateRow) -> Result<bool, Fail>
+    requires { length world.now.stack.below ≡ 0 }
+{
     let (key, value) = row_bytes(alloc, row)?;
     match prove(alloc, world, &key)? {
         Some(path) => is_taken_alone(alloc, root, (&key, &value), &path),
@@ -58,7 +62,9 @@ fn is_proved(alloc: Global, world: &World, root: &[u8; 32], row: &StateRow) -> R
     }
 }
 
-fn each_row_is_proved(alloc: Global, world: &World, root: &[u8; 32]) -> Result<bool, Fail> {
+fn each_row_is_proved(alloc: Global, world: &World, root: &[u8; 32]) -> Result<bool, Fail>
+    requires { length world.now.stack.below ≡ 0 }
+{
     for row in &world.rows()? {
         if !is_proved(alloc, world, root, row)? {
             return Ok(false);
@@ -69,6 +75,9 @@ fn each_row_is_proved(alloc: Global, world: &World, root: &[u8; 32]) -> Result<b
 
 // Whether the world has this root, and a proof for each of its rows.
 fn has_root(alloc: Global, world: &World, wanted: &[u8; 32]) -> Result<bool, Fail> {
+    if world.layers() > 0 {
+        return Ok(false);
+    }
     let digest = root(alloc, world)?;
     Ok(digest == *wanted && each_row_is_proved(alloc, world, &digest)?)
 }
@@ -78,43 +87,50 @@ const ROOTS: &[(u8, [u8; 32])] = &[
     (
         0,
         [
-            227, 176, 196, 66, 152, 252, 28, 20, 154, 251, 244, 200, 153, 111, 185, 36, 39, 174, 65, 228, 100, 155, 147, 76, 164, 149, 153, 27, 120, 82, 184, 85,
+            227, 176, 196, 66, 152, 252, 28, 20, 154, 251, 244, 200, 153, 111, 185, 36, 39, 174,
+            65, 228, 100, 155, 147, 76, 164, 149, 153, 27, 120, 82, 184, 85,
         ],
     ),
     (
         1,
         [
-            143, 165, 10, 179, 248, 206, 102, 172, 225, 95, 2, 12, 182, 116, 17, 47, 229, 90, 119, 173, 215, 124, 212, 69, 48, 66, 6, 242, 166, 90, 210, 151,
+            143, 165, 10, 179, 248, 206, 102, 172, 225, 95, 2, 12, 182, 116, 17, 47, 229, 90, 119,
+            173, 215, 124, 212, 69, 48, 66, 6, 242, 166, 90, 210, 151,
         ],
     ),
     (
         2,
         [
-            160, 228, 33, 217, 122, 123, 250, 223, 7, 189, 220, 11, 253, 218, 50, 102, 65, 12, 134, 158, 42, 79, 193, 214, 19, 26, 197, 12, 187, 35, 199, 219,
+            160, 228, 33, 217, 122, 123, 250, 223, 7, 189, 220, 11, 253, 218, 50, 102, 65, 12, 134,
+            158, 42, 79, 193, 214, 19, 26, 197, 12, 187, 35, 199, 219,
         ],
     ),
     (
         3,
         [
-            113, 172, 192, 44, 130, 227, 113, 70, 232, 5, 109, 16, 207, 180, 64, 148, 112, 139, 175, 190, 22, 166, 188, 212, 169, 6, 196, 115, 42, 243, 102, 146,
+            113, 172, 192, 44, 130, 227, 113, 70, 232, 5, 109, 16, 207, 180, 64, 148, 112, 139,
+            175, 190, 22, 166, 188, 212, 169, 6, 196, 115, 42, 243, 102, 146,
         ],
     ),
     (
         5,
         [
-            82, 18, 15, 103, 218, 232, 145, 10, 202, 152, 98, 188, 225, 153, 226, 212, 69, 98, 130, 211, 238, 110, 59, 78, 124, 212, 255, 61, 205, 162, 196, 243,
+            82, 18, 15, 103, 218, 232, 145, 10, 202, 152, 98, 188, 225, 153, 226, 212, 69, 98, 130,
+            211, 238, 110, 59, 78, 124, 212, 255, 61, 205, 162, 196, 243,
         ],
     ),
     (
         8,
         [
-            36, 124, 99, 238, 210, 183, 239, 238, 237, 48, 88, 202, 168, 125, 169, 217, 56, 146, 163, 155, 56, 13, 153, 197, 167, 41, 118, 57, 80, 204, 48, 43,
+            36, 124, 99, 238, 210, 183, 239, 238, 237, 48, 88, 202, 168, 125, 169, 217, 56, 146,
+            163, 155, 56, 13, 153, 197, 167, 41, 118, 57, 80, 204, 48, 43,
         ],
     ),
     (
         9,
         [
-            220, 215, 251, 84, 199, 252, 32, 64, 252, 103, 170, 211, 211, 228, 174, 39, 16, 199, 62, 252, 176, 162, 85, 47, 7, 97, 182, 12, 195, 89, 134, 145,
+            220, 215, 251, 84, 199, 252, 32, 64, 252, 103, 170, 211, 211, 228, 174, 39, 16, 199,
+            62, 252, 176, 162, 85, 47, 7, 97, 182, 12, 195, 89, 134, 145,
         ],
     ),
 ];
