@@ -3,7 +3,9 @@
 # before, the same in chains as long as heights allow, many constants, nests nearly as deep as brackets may be, and contracts
 # that call the one before. Prints instructions for each unit, from the difference of two sizes, by callgrind; without valgrind,
 # nanoseconds for each. Where the numbers of a row are flat the work is linear. Run by hand; python3 measures.
+# Usage: bench/check.sh
 set -eu
+[ "${1-}" != --help ] || exec sed -n '2,/^[^#]/s/^# \{0,1\}//p' "$0"
 cd "$(dirname "$0")"
 PYTHONDONTWRITEBYTECODE=1 python3 - <<'PYTHON'
 import tempfile

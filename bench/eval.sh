@@ -4,7 +4,9 @@
 # runtime, so the report says how many there are. Each row is the difference between runs with different numbers of rounds of 1,000
 # applications, over a list that the contract keeps: one to six, and six to eleven. Last, nanoseconds of a transfer among 16,000
 # and 64,000. Run by hand, some minutes; python3 measures.
+# Usage: bench/eval.sh
 set -eu
+[ "${1-}" != --help ] || exec sed -n '2,/^[^#]/s/^# \{0,1\}//p' "$0"
 cd "$(dirname "$0")"
 PYTHONDONTWRITEBYTECODE=1 python3 - <<'PYTHON'
 import re

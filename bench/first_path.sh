@@ -1,7 +1,9 @@
 #!/usr/bin/env bash
 # Reads, checks, evaluates and reports texts of 64 KiB to 1 MiB, each one function whose body is a long sum. Flat nanoseconds
 # a byte say that the work is linear. Run by hand; python3 measures.
+# Usage: bench/first_path.sh
 set -eu
+[ "${1-}" != --help ] || exec sed -n '2,/^[^#]/s/^# \{0,1\}//p' "$0"
 cd "$(dirname "$0")"
 PYTHONDONTWRITEBYTECODE=1 python3 - <<'PYTHON'
 from measure import table

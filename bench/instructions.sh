@@ -1,7 +1,9 @@
 #!/usr/bin/env bash
 # Counts the instructions of whole commands by callgrind, for each unit of their work, from the difference of two sizes. The
 # counts are the same at every run. Without valgrind it says so and ends. Run by hand; python3 measures.
+# Usage: bench/instructions.sh [ROW..]
 set -eu
+[ "${1-}" != --help ] || exec sed -n '2,/^[^#]/s/^# \{0,1\}//p' "$0"
 cd "$(dirname "$0")"
 command -v valgrind >/dev/null || { echo "valgrind isn't there: nothing is counted"; exit 0; }
 PYTHONDONTWRITEBYTECODE=1 python3 - "$@" <<'PYTHON'

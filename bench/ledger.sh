@@ -2,7 +2,9 @@
 # Mints to 1,000 to 300,000 holders, sends from each to the next and burns what each has, three acts a holder, and prints
 # nanoseconds an act for each number of holders: flat, since an act takes the same time however many hold. The numbers are of
 # the checked build of `rt try`, far slower than the program's own. Run by hand, some minutes.
+# Usage: bench/ledger.sh
 set -eu
+[ "${1-}" != --help ] || exec sed -n '2,/^[^#]/s/^# \{0,1\}//p' "$0"
 top=$(cd "$(dirname "$0")/.." && pwd)
 work=$(mktemp -d)
 trap 'rm -rf "$work"' EXIT

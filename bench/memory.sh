@@ -4,7 +4,9 @@
 # token, and the vault with its calls between contracts. The program's calls of `malloc` and `realloc` go through a library of a few
 # lines, which `cc` builds here. Every allocation of `add1` is refused, and of the others one in so many that some 4,000 are (a
 # word is another number for it; 1 refuses each). Run by hand, a few minutes; python3 and cc.
+# Usage: bench/memory.sh [EACH]
 set -eu
+[ "${1-}" != --help ] || exec sed -n '2,/^[^#]/s/^# \{0,1\}//p' "$0"
 cd "$(dirname "$0")"
 command -v cc >/dev/null || { echo "cc isn't there: nothing is refused"; exit 1; }
 work=$(mktemp -d)

@@ -6,7 +6,9 @@
 # arguments, without reading and checking it. An application has the look-ups of its arguments in it, which the rows `looked up`
 # show alone.
 # Run by hand, some minutes; python3 measures.
+# Usage: bench/natives.sh
 set -eu
+[ "${1-}" != --help ] || exec sed -n '2,/^[^#]/s/^# \{0,1\}//p' "$0"
 cd "$(dirname "$0")"
 PYTHONDONTWRITEBYTECODE=1 python3 - <<'PYTHON'
 import tempfile
@@ -77,7 +79,8 @@ def uints(size):
 
 
 KIB = 1 << 10
-TEXTS, LISTS, BUFFERS = (KIB, 32 * KIB, 512 * KIB), (KIB, 32 * KIB, 512 * KIB), (KIB, 32 * KIB, 1000 * KIB)
+# The text of a buffer of 512 KiB is longer than a text may be, by its 0x.
+TEXTS, LISTS, BUFFERS = (KIB, 32 * KIB, 500 * KIB), (KIB, 32 * KIB, 512 * KIB), (KIB, 32 * KIB, 1000 * KIB)
 print(f"{'an entry':24} {'of 500':>12} {'of 1,000':>12} {'of 2,000':>12}")
 numbers("fold +", "(fold + xs u9)")
 numbers("fold xor", "(fold xor xs u9)")

@@ -2,7 +2,9 @@
 # Checks and deploys 1,000 to 16,000 definitions: chains that name the next or the one before, fans of one that names all and
 # of all that name one; and finds rings of them. Flat nanoseconds a byte say that it is linear in atoms and definitions. Run by
 # hand; python3 measures.
+# Usage: bench/order.sh
 set -eu
+[ "${1-}" != --help ] || exec sed -n '2,/^[^#]/s/^# \{0,1\}//p' "$0"
 cd "$(dirname "$0")"
 PYTHONDONTWRITEBYTECODE=1 python3 - <<'PYTHON'
 from measure import table

@@ -1,7 +1,9 @@
 #!/usr/bin/env bash
 # Reads texts of 64 KiB to 1 MiB that hold every kind of token. Each breaks a rule, so nothing comes after that, or is deployed and
 # has no function to call. Flat nanoseconds a byte say that it is linear. Run by hand; python3 measures.
+# Usage: bench/reader.sh
 set -eu
+[ "${1-}" != --help ] || exec sed -n '2,/^[^#]/s/^# \{0,1\}//p' "$0"
 cd "$(dirname "$0")"
 PYTHONDONTWRITEBYTECODE=1 python3 - <<'PYTHON'
 from measure import table

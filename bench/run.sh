@@ -4,7 +4,9 @@
 # instructions of one call more, from the difference of two numbers of calls, by callgrind (without valgrind, nanoseconds), and
 # the peak of memory at 4,000 and at 64,000 calls beside the size of the file. Where a row is flat, a call costs the same however
 # many contracts a node has. Run by hand; python3 measures.
+# Usage: bench/run.sh
 set -eu
+[ "${1-}" != --help ] || exec sed -n '2,/^[^#]/s/^# \{0,1\}//p' "$0"
 cd "$(dirname "$0")"
 PYTHONDONTWRITEBYTECODE=1 python3 - <<'PYTHON'
 import os

@@ -3,7 +3,9 @@
 # of deep nests. Prints nanoseconds a byte of the wire form for each; flat numbers say that the work is linear. A printed text
 # above 1 MiB is no text, so it isn't parsed. The numbers are of the checked build of `rt try`, far slower than the program's
 # own. Run by hand, some minutes.
+# Usage: bench/values.sh
 set -eu
+[ "${1-}" != --help ] || exec sed -n '2,/^[^#]/s/^# \{0,1\}//p' "$0"
 top=$(cd "$(dirname "$0")/.." && pwd)
 work=$(mktemp -d)
 trap 'rm -rf "$work"' EXIT

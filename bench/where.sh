@@ -1,25 +1,39 @@
 #!/usr/bin/env bash
-# Runs tools/where on four refusals and compares what it shows. Run by hand; the lines of the program are written out here.
+# Runs tools/where on lines that are written out here, and tools/lint over a stub of the program, compares what they print and
+# end with, and sees that the pages have a text for each rule, abort, refusal and fault.
+# Usage: bench/where.sh
 set -eu
-cd "$(dirname "$0")"
+[ "${1-}" != --help ] || exec sed -n '2,/^[^#]/s/^# \{0,1\}//p' "$0"
+tools=$(cd "$(dirname "$0")/../tools" && pwd)
 folder=$(mktemp -d)
 trap 'rm -rf "$folder"' EXIT
-printf '(define-read-only (f) (unwrap-panic none))' >"$folder/f.clar"
-printf '(define-private (a)\n  (b\n 1))\n(define-constant x "1' >"$folder/g.clar"
-printf '{"version": 1, "genesis": [], "entries": [{"block": {"height": 1}}, {"deploy": {"sender": "SP000000000000000000002Q6VF78", "name": "h", "source": "(define-private (a)\\n\\t(b))"}}]}' >"$folder/h.json"
+cd "$folder"
+tried=0
+# Compares what tools/where with these words prints of the lines in `given`, and its status, with what standard input has.
+wanted() {
+    tried=$((tried + 1))
+    ended=0
+    "$tools/where" "$@" <given >shown 2>&1 || ended=$?
+    echo "status $ended" >>shown
+    diff shown - || { echo "differs: case $tried, tools/where $*"; exit 1; }
+}
+
+# Sources by their names, by `main` where there is one alone, and by their entry; the end of a text; a span of two lines; a tab.
+printf '(define-read-only (f) (unwrap-panic none))' >f.clar
+printf '(define-private (a)\n  (b\n 1))\n(define-constant x "1' >g.clar
+printf '{"version": 1, "genesis": [], "entries": [{"block": {"height": 1}}, {"deploy": {"sender": "SP000000000000000000002Q6VF78", "name": "h", "source": "(define-private (a)\\n\\t(b))"}}]}' >h.json
 printf '%s\n' \
     "contract 'SP000000000000000000002Q6VF78.f refused C7 Undetermined 22..41" \
     "0 deploy 'SP000000000000000000002Q6VF78.g refused E7 ContractRefused T4 Unclosed 50..51" \
     "0 deploy 'SP000000000000000000002Q6VF78.g refused E7 ContractRefused C1 UnknownName 21..28" \
-    "1 deploy 'SP000000000000000000002Q6VF78.h refused E7 ContractRefused C1 UnknownName 21..24" |
-    ../tools/where "$folder/f.clar" "$folder/g.clar" "$folder/h.json" >"$folder/shown"
-diff "$folder/shown" - <<'SHOWN'
+    "1 deploy 'SP000000000000000000002Q6VF78.h refused E7 ContractRefused C1 UnknownName 21..24" >given
+wanted f.clar g.clar h.json <<'SHOWN'
 contract 'SP000000000000000000002Q6VF78.f refused C7 Undetermined 22..41
   f.clar:1:23
   1 | (define-read-only (f) (unwrap-panic none))
     |                       ^^^^^^^^^^^^^^^^^^^
   broken: a part of no type is unwrapped, tried or matched; an entry of no type is given to a native by name
-  mended: don't unwrap what has no type: `none` alone, the err part of `(ok 1)`, an entry of `(list)`
+  mended: don't unwrap what has no type: none alone, the err part of (ok 1), an entry of (list)
 0 deploy 'SP000000000000000000002Q6VF78.g refused E7 ContractRefused T4 Unclosed 50..51
   g.clar:4:21
   4 | (define-constant x "1
@@ -31,12 +45,244 @@ contract 'SP000000000000000000002Q6VF78.f refused C7 Undetermined 22..41
   2 |   (b
     |  ^^^
   broken: an atom names nothing; an operator is no native and no function
-  mended: define the name, bind it, or correct its spelling
+  mended: define the name, bind it, or correct its spelling; a native of version 2 needs a contract of version 2
 1 deploy 'SP000000000000000000002Q6VF78.h refused E7 ContractRefused C1 UnknownName 21..24
   h.json, entry 1:2:2
   2 | 	(b))
     | 	^^^
   broken: an atom names nothing; an operator is no native and no function
-  mended: define the name, bind it, or correct its spelling
+  mended: define the name, bind it, or correct its spelling; a native of version 2 needs a contract of version 2
+status 1
 SHOWN
-echo "tools/where: 4 of 4"
+
+# Lines that explain nothing, and bytes that aren't text, are printed all the same; a file that isn't there is no matter then.
+printf "0 block 7\n  cost 1 0 0 0 0\n\377\000\nno line end" >given
+wanted absent.clar < <(cat given && printf '\nstatus 0\n')
+echo "contract 'SP000000000000000000002Q6VF78.k refused T4 Unclosed 0..1" >given
+wanted below/k.clar <<'SHOWN'
+contract 'SP000000000000000000002Q6VF78.k refused T4 Unclosed 0..1
+  (below/k.clar can't be read: No such file or directory)
+  broken: the text ends within a list, a tuple or a string
+  mended: close the bracket or the string that begins at the place
+status 1
+SHOWN
+wanted f.clar <<'SHOWN'
+contract 'SP000000000000000000002Q6VF78.k refused T4 Unclosed 0..1
+  (no source of k is given)
+  broken: the text ends within a list, a tuple or a string
+  mended: close the bracket or the string that begins at the place
+status 1
+SHOWN
+echo "contract 'SP000000000000000000002Q6VF78.f refused T4 Unclosed 100..101" >given
+wanted f.clar <<'SHOWN'
+contract 'SP000000000000000000002Q6VF78.f refused T4 Unclosed 100..101
+  (the place lies behind the end of f.clar: it is another source)
+  broken: the text ends within a list, a tuple or a string
+  mended: close the bracket or the string that begins at the place
+status 1
+SHOWN
+
+# Aborts and refusals of entries, with the condition or the argument that is named; an abort alone is no refusal.
+cat >calls.json <<'FILE'
+{"version": 1, "genesis": [], "entries": [
+  {"call": {"sender": "S", "contract": "S.c", "function": "f", "args": ["5", "u1"]}},
+  {"call": {"sender": "S", "contract": "S.c", "function": "f", "args": ["foo"], "post": [{"stx": {"principal": "S", "code": "le", "amount": "u1"}}]}}
+]}
+FILE
+printf "1 call 'S.c f aborted A9 PostCondition 0\n1 call 'S.c f aborted A3 DivideByZero\n" >given
+wanted calls.json <<'SHOWN'
+1 call 'S.c f aborted A9 PostCondition 0
+  condition 0: {"stx": {"principal": "S", "code": "le", "amount": "u1"}}
+  why: condition I, counted from 0, is the first that fails; in deny mode, where each holds and an asset moved that none names, I is their number
+  do: see what the entry would move, and don't send it, or write the condition that allows it (FILES.md)
+1 call 'S.c f aborted A3 DivideByZero
+  why: a divisor was 0
+  do: test the divisor before the division
+status 0
+SHOWN
+echo "0 call 'S.c f refused E5 Argument 0" >given
+wanted calls.json <<'SHOWN'
+0 call 'S.c f refused E5 Argument 0
+  argument 0: "5"
+  why: argument I, counted from 0, is the first that isn't of its parameter's type
+  do: write the literal of that type (TEXT.md): a uint has a u in front, a principal a "'"
+status 1
+SHOWN
+
+# Files and words that are refused.
+echo "bad file calls.json BadValue /entries/1/call/args" >given
+wanted calls.json <<'SHOWN'
+bad file calls.json BadValue /entries/1/call/args
+  calls.json has there: ["foo"]
+  why: in a holder, or later in an entry, the member at PATH isn't what it has to be
+  do: write what the lists of members say: addresses without "'", uints as texts such as "u5", arguments as literals
+status 1
+SHOWN
+echo '{"a": ' >cut.json
+echo "bad file cut.json NotJson" >given
+wanted cut.json <<'SHOWN'
+bad file cut.json NotJson
+  cut.json isn't JSON: Expecting value: line 2 column 1 (char 7)
+  why: it isn't JSON, or no object
+  do: mend the JSON, as any JSON tool shows it; the whole file is one "{ }" (COSTS.md says what is read)
+status 1
+SHOWN
+echo "bad file unit.json BadShape arith runtime" >given
+wanted unit.json <<'SHOWN'
+bad file unit.json BadShape arith runtime
+  unit.json can't be read: No such file or directory
+  do: write one of the four shapes, with whole numbers in digits alone, or a dimension that there is
+status 1
+SHOWN
+echo "refused KeysOrder 8" >given
+wanted f.clar <<'SHOWN'
+refused KeysOrder 8
+  why: a key isn't above the one before it
+  do: sort the keys by their bytes, and give each once
+status 1
+SHOWN
+
+# The part of an expression that breaks a rule: what is underlined, and its label.
+cat >part.py <<'PYTHON'
+import sys
+
+sys.dont_write_bytecode = True
+sys.path.insert(0, sys.argv[1])
+from places import narrowed
+
+CASES = [
+    ("C3", "(define-read-only (f) [(+ 1 ‹u1›)])"),
+    ("C3", "(define-read-only (f (x uint)) (let ((y 1)) [(+ x ‹y›)]))"),
+    ("C3", "(define-read-only (f) [(+ ‹true› 1)])"),
+    ("C3", "[(define-data-var v uint ‹1›)]"),
+    ("C3", "(define-private (g (a (buff 1))) a)(define-read-only (f) [(g ‹0x0102›)])"),
+    ("C3", "(define-private (g (a uint) (b principal)) a)(define-read-only (f) [(g u1 ‹u2›)])"),
+    ("C3", "(define-read-only (f (x (optional uint))) [(stx-get-balance ‹x›)])"),
+    ("C3", "(define-data-var v uint u1)(define-public (f) (ok [(var-set v ‹1›)]))"),
+    ("C3", "(define-map m uint int)(define-public (f) (ok [(map-set m u1 ‹u2›)]))"),
+    ("C3", "(define-constant c 1)(define-read-only (f) [(to-int ‹c›)])"),
+    ("C3", "(define-read-only (f (r (response uint uint))) (match r x (ok [(+ x 1)]) y (ok y)))"),
+    ("C3", "(define-read-only (f (a (list 2 uint)) (b uint)) [(fold + a b)])"),
+    ("C3", "(define-read-only (f) [(< \"a\" \"b\")])"),
+    ("C10", "(define-public (f) [(begin ‹(ok 1)› (ok 2))])"),
+    ("C10", "(define-fungible-token c)(define-public (f) [(begin (print 1) ‹(ft-mint? c u1 tx-sender)› (ok 2))])"),
+    ("C10", "(define-public (g) (ok 1))(define-public (f) [(let ((a 1)) (asserts! true (err 1)) ‹(g)› (ok 2))])"),
+    ("C10", "(define-public (f) [(let ((a (ok 1))) (is-ok a) ‹a› (ok 2))])"),
+    ("C10", "(define-public (f) [(begin ‹(contract-call? .a g)› true (ok 2))])"),
+    ("F5", "(define-constant a 1)[(define-constant ‹a› 2)]"),
+    ("F5", "(define-constant c 1)[(define-private (f (b int) (‹c› int)) b)]"),
+    ("F5", "[(define-private (f (b int) (‹b› int)) b)]"),
+    ("F5", "[(define-private (f (‹f› int)) 1)]"),
+    ("C11", "(define-read-only (f (z int)) [(let ((x 1) (‹z› 2)) x)])"),
+    ("C11", "(define-read-only (f) [(let ((x 1) (‹x› 2)) x)])"),
+    ("C11", "(define-read-only (f) [(let ((x 1) (‹len› 2)) x)])"),
+    ("C11", "(define-read-only (f) [(let ((x 1) (‹hash160› 2)) x)])"),
+    ("C11", "(define-read-only (f) (let ((a 1)) [(match (some 1) ‹a› a 2)]))"),
+    ("C11", "(define-read-only (f (r (response int int))) [(match r x x ‹x› x)])"),
+    ("C11", "(define-read-only (f) (let ((a 1) (b [(let ((‹a› 2)) a)])) a))"),
+    ("C7", "(define-read-only (f) [(unwrap-panic none)])"),
+]
+for rule, marked in CASES:
+    # The expression is in [ ], and in ‹ › its part that is to be found.
+    text = "".join(c for c in marked if c not in "[]‹›")
+    start, end = (len([c for c in marked[: marked.index(mark)] if c not in "[]‹›"]) for mark in "[]")
+    begin, stop, label = narrowed(rule, text, start, end)
+    came = f"{text[:start]}[{text[start:begin]}‹{text[begin:stop]}›{text[stop:end]}]{text[end:]}" if label else f"{text[:start]}[{text[start:end]}]{text[end:]}"
+    if came != marked:
+        sys.exit(f"differs: {rule} {marked}: {came}")
+print(len(CASES))
+PYTHON
+tried=$((tried + $(python3 part.py "$tools")))
+
+# Names of Clarity that are left out.
+said() {
+    printf '%s' "$1" >f.clar
+    echo "contract 'SP000000000000000000002Q6VF78.f refused $2" >given
+    tried=$((tried + 1))
+    "$tools/where" f.clar <given >shown || true
+    tail -n 2 shown | diff - <(printf '  broken: %s\n  instead: %s\n' "$3" "$4") || { echo "differs: $1"; exit 1; }
+}
+said '(impl-trait .x)' 'F4 NotInProfile 1..11' 'impl-trait: traits are left out; it says that the contract has the functions of a trait' 'leave the line out: it changes nothing that the contract does'
+said "(impl-trait 'SP000000000000000000002Q6VF78.a.b)" 'T9 BadAddress 12..46' \
+    "'SP000000000000000000002Q6VF78.a.b: traits are left out: a type in \"< >\", and a name with two dots (.contract.trait), refused by T2, or by T9 behind an address" \
+    'a function for each contract that may be called, with contract-call? of its literal'
+said '(define-public (f (t <tr>)) (ok 1))' 'T2 BadToken 21..25' \
+    '<tr>: traits are left out: a type in "< >", and a name with two dots (.contract.trait), refused by T2, or by T9 behind an address' \
+    'a function for each contract that may be called, with contract-call? of its literal'
+said '(define-read-only (f) (ok chain-id))' 'C1 UnknownName 26..34' 'chain-id: there is no network' 'a constant of the contract'
+said '(define-read-only (f) (slice? 0x u1 u2))' 'C1 UnknownName 22..39' 'slice?: of version 2 alone' '--clarity2 or "clarity": 2'
+said '(define-map m {k: uint} uint)(define-read-only (f) (map-get? m ((k u1))))' 'C20 EmptyForm 63..71' '((k v)): a tuple without the word: refused by C20, in a type by F2' '{k: v} or (tuple (k v))'
+said '(define-read-only (f) (< "a" "b"))' 'C3 ArgumentKind 22..33' '<: comparing buffers and strings is of version 2 alone' '--clarity2 or "clarity": 2'
+
+# Each rule, abort, refusal and fault has its text, and no text is Markdown.
+tried=$((tried + 1))
+python3 - "$tools" <<'PYTHON'
+import sys
+
+sys.dont_write_bytecode = True
+sys.path.insert(0, sys.argv[1])
+import advice
+
+rules = [f"{letter}{number}" for letter, count in (("T", 10), ("F", 5), ("O", 1), ("C", 25), ("B", 1)) for number in range(1, count + 1)]
+endings = [f"A{number}" for number in range(1, 10)] + [f"E{number}" for number in range(1, 8)]
+faults = ["TooLong", "NotJson", "Version", "Field /x", "BadValue /entries", "Field /entries/0/x", "BadValue /genesis/0/stx", "GenesisTooBig"]
+faults += ["TooMany", "HeightFalls /entries/1/block/height", "Missing arith", "BadShape arith runtime", "TooBig arith", "Unknown x"]
+values = ["NotALiteral 0..1", "TooDeep 0..1", "TooLarge 0..1", "T9 BadAddress 0..1", "TooLong", "NotHex"]
+values += [f"{fault} 1" for fault in ("Ended", "TooDeep", "BadPrefix", "BadName", "KeysOrder", "BadText", "NoKeys", "Extra")]
+texts = [("rule", rule, advice.of_rules().get(rule, [])) for rule in rules] + [("ending", ending, advice.of_endings().get(ending, [])) for ending in endings]
+texts += [("fault", fault, advice.of_fault(fault)) for fault in faults] + [("value", value, advice.of_value(value)) for value in values]
+for kind, name, lines in texts:
+    if len(lines) != 2 and not (kind == "fault" and lines):
+        sys.exit(f"differs: {kind} {name} has {len(lines)} texts")
+    if any("`" in text or "](" in text or "**" in text for _, text in lines):
+        sys.exit(f"differs: {kind} {name} has a text in Markdown")
+if len(advice.missing()) < 50:
+    sys.exit("differs: MISSING.md has fewer names")
+PYTHON
+
+# tools/lint: the words that the program gets, its answer explained, and the statuses.
+cat >program <<'PROGRAM'
+#!/usr/bin/env bash
+printf '%s ' "${@##*/}" >words
+[ "$(cat status)" != 6 ] || echo "contract 'SP000000000000000000002Q6VF78.f refused T4 Unclosed 0..1"
+exit "$(cat status)"
+PROGRAM
+chmod +x program
+export CLARITY=$folder/program
+linted() {
+    tried=$((tried + 1))
+    echo "$1" >status
+    : >words
+    ended=0
+    "$tools/lint" "${@:4}" >shown 2>&1 || ended=$?
+    [ "$ended $(cat words)" = "$2 $3" ] || { echo "differs: tools/lint ${*:4}: $ended $(cat words)"; exit 1; }
+}
+echo '(define-constant c (contract-call? .b f))' >a.clar
+echo "(define-constant c (contract-call? 'SP000000000000000000002Q6VF78.c f))(contract-call? .elsewhere f)" >b.clar
+echo '(+ 1 2)' >c.clar
+echo '(contract-call? .e f)' >d.clar
+echo '(contract-call? .d f)' >e.clar
+linted 0 0 'check unit.json SP000000000000000000002Q6VF78 c.clar b.clar a.clar ' a.clar b.clar c.clar
+linted 0 0 'check unit.json SP000000000000000000002Q6VF78 e.clar d.clar c.clar ' d.clar e.clar c.clar
+linted 0 0 'check --clarity2 unit.json SP000000000000000000002Q6VF78 c.clar ' --clarity2 c.clar
+printf '(define-read-only' >f.clar
+linted 6 1 'check unit.json SP000000000000000000002Q6VF78 f.clar ' f.clar
+diff shown - <<'SHOWN'
+contract 'SP000000000000000000002Q6VF78.f refused T4 Unclosed 0..1
+  f.clar:1:1
+  1 | (define-read-only
+    | ^
+  broken: the text ends within a list, a tuple or a string
+  mended: close the bracket or the string that begins at the place
+SHOWN
+linted 9 3 'check unit.json SP000000000000000000002Q6VF78 f.clar ' f.clar
+linted 0 3 '' absent.clar
+grep -qx 'lint: absent.clar: No such file or directory' shown
+linted 0 2 '' f.txt
+linted 0 2 ''
+CLARITY=$folder/none linted 0 3 '' f.clar
+tried=$((tried + 1))
+ended=0
+"$tools/where" >shown 2>&1 </dev/null || ended=$?
+[ $ended = 2 ] && grep -q '^usage: tools/where' shown || { echo "differs: usage of tools/where"; exit 1; }
+echo "tools/where and tools/lint: $tried of $tried"

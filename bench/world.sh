@@ -4,7 +4,9 @@
 # a layer costs what it changes. Prints too how many bytes a balance, an entry, a variable and a layer take, by the peak of
 # memory. The program is proved and built in a copy, which goes fast where the repository is proved (./prove). Run by hand, some
 # minutes; python3 measures, with valgrind.
+# Usage: bench/world.sh
 set -eu
+[ "${1-}" != --help ] || exec sed -n '2,/^[^#]/s/^# \{0,1\}//p' "$0"
 top=$(cd "$(dirname "$0")/.." && pwd)
 work=$(mktemp -d)
 trap 'rm -rf "$work"' EXIT

@@ -5,7 +5,9 @@
 # (as the input is twice as long, 2 is linear, 4 isn't), and at the last two sizes the peak bytes that a byte of input adds. A run
 # has at most 120 seconds and 6 GiB. Words: only the rows whose names begin with one of them. Run by hand, half an hour;
 # python3 measures.
+# Usage: bench/worst.sh [ROW..]
 set -eu
+[ "${1-}" != --help ] || exec sed -n '2,/^[^#]/s/^# \{0,1\}//p' "$0"
 cd "$(dirname "$0")"
 PYTHONDONTWRITEBYTECODE=1 python3 - "$@" <<'PYTHON'
 import os

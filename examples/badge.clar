@@ -1,0 +1,18 @@
+;; badge.clar: badges with a number, which the one who deployed it gives away.
+(define-constant owner tx-sender)
+(define-constant err-owner (err u100))
+(define-constant err-sender (err u101))
+(define-non-fungible-token badge uint)
+(define-data-var last uint u0)
+(define-read-only (get-last) (ok (var-get last)))
+(define-read-only (get-owner (id uint)) (ok (nft-get-owner? badge id)))
+(define-public (mint (to principal))
+  (let ((id (+ (var-get last) u1)))
+    (asserts! (is-eq tx-sender owner) err-owner)
+    (try! (nft-mint? badge id to))
+    (var-set last id)
+    (ok id)))
+(define-public (transfer (id uint) (sender principal) (to principal))
+  (begin
+    (asserts! (is-eq tx-sender sender) err-sender)
+    (nft-transfer? badge id sender to)))

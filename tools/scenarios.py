@@ -1,0 +1,233 @@
+"""Scenarios: readable descriptions of transaction files, with the outcome that is wanted beside each entry (docs/SCENARIOS.md)."""
+import pathlib
+import re
+
+import values
+from report_reader import EVENTS, PRINCIPALS, STATES
+
+CODES = ("eq", "gt", "ge", "lt", "le")
+OUTCOMES = {"deploy": ("done", "aborted", "refused"), "call": ("ok", "err", "value", "aborted", "refused")}
+# What the words of an entry and of a line below one are called.
+SHAPES = {
+    "name": "name WORD ADDRESS",
+    "stx": "stx PRINCIPAL AMOUNT",
+    "block": "block HEIGHT",
+    "deploy": "deploy SENDER NAME PATH [=> OUTCOME]",
+    "call": "call SENDER CONTRACT FUNCTION LITERAL.. [=> OUTCOME]",
+    "state": "state LINE",
+    "limit": "limit RUNTIME READ_COUNT READ_LENGTH WRITE_COUNT WRITE_LENGTH",
+    "mode": "mode deny",
+    "post": "post stx PRINCIPAL CODE AMOUNT, post ft PRINCIPAL CONTRACT TOKEN CODE AMOUNT or post nft PRINCIPAL CONTRACT TOKEN ID sent",
+    "clarity": "clarity 2",
+    "cost": "cost RUNTIME READ_COUNT READ_LENGTH WRITE_COUNT WRITE_LENGTH",
+    "event": "event LINE",
+}
+BELOW = ("limit", "mode", "post", "clarity", "cost", "event")
+QUOTED = re.compile(r"""u?"(?:[^"\\]|\\.)*"?|'([A-Za-z][A-Za-z0-9_-]*)""")
+
+
+class NoScenario(ValueError):
+    """A line of a scenario isn't of its form."""
+
+
+class Entry:
+    """An entry of a scenario: its kind and its members in the transaction file, its place, and what is wanted of it."""
+
+    def __init__(self, kind, members, place, outcome):
+        self.kind, self.members, self.place, self.outcome = kind, members, place, outcome
+        self.cost, self.events = None, None
+
+    def json(self):
+        return {self.kind: self.members}
+
+
+class Scenario:
+    """A scenario: the holders of STX, the entries, and lines that are wanted of the state, each with its place."""
+
+    def __init__(self):
+        self.names, self.genesis, self.entries, self.state = {}, [], [], []
+
+    def json(self):
+        return {"version": 1, "genesis": self.genesis, "entries": [entry.json() for entry in self.entries]}
+
+
+def words_of(line):
+    """The words of a line, up to a comment. A word is a literal, or a row of characters without blanks."""
+    words, word, depth, at = [], "", 0, 0
+    while at < len(line):
+        if line.startswith(";;", at):
+            break
+        string = re.compile(r'"(?:[^"\\]|\\.)*"?').match(line, at)
+        part = string.group() if string else line[at]
+        at += len(part)
+        depth += (part in "({") - (part in ")}") if len(part) == 1 else 0
+        if part in " \t" and depth <= 0:
+            words, word = words + [word] * bool(word), ""
+        else:
+            word += part
+    return words + [word] * bool(word)
+
+
+class _Reader:
+    def __init__(self, path, text):
+        self.path, self.folder, self.lines = path, pathlib.Path(path).parent, text.split("\n")
+        self.made, self.number = Scenario(), 0
+
+    def place(self):
+        return f"{self.path}:{self.number}"
+
+    def fail(self, why):
+        raise NoScenario(f"{self.place()}: {why}")
+
+    def whole(self):
+        for line in self.lines:
+            self.number += 1
+            line = line.rstrip("\r")
+            words = words_of(line)
+            if not words:
+                continue
+            kind, words = words[0], words[1:]
+            is_below = line[0] in " \t"
+            if kind not in SHAPES or is_below != (kind in BELOW):
+                self.fail(f"`{kind}` begins no line {'below an entry: ' if is_below else 'of a scenario: '}"
+                          + ", ".join(k for k in SHAPES if (k in BELOW) == is_below) + " do")  # fmt: skip
+            if is_below and not (self.made.entries and self.made.entries[-1].kind in OUTCOMES):
+                self.fail(f"`{kind}` belongs below a deployment or a call")
+            getattr(self, "add_" + kind)(words)
+        return self.made
+
+    # Words.
+
+    def need(self, is_right, kind):
+        if not is_right:
+            self.fail(f"a line of this kind is: {SHAPES[kind]}")
+
+    def principal(self, word):
+        """The principal of a word, which is an address or a name of the scenario, and perhaps a contract's name behind a dot."""
+        first, dot, last = word.lstrip("'").partition(".")
+        return self.made.names.get(first, first) + dot + last
+
+    def literal(self, text):
+        """A literal with the names of the scenario behind `'` replaced."""
+
+        def replaced(found):
+            name = found.group(1)
+            return "'" + self.made.names[name] if name in self.made.names else found.group()
+
+        return QUOTED.sub(replaced, text)
+
+    def printed(self, text):
+        """A literal as the program prints it; another word unchanged."""
+        try:
+            return values.printed(values.only(self.literal(text)))
+        except values.NoLiteral:
+            return text
+
+    def outcome(self, kind, words):
+        """The words and the outcome behind `=>`, as it is printed, or none."""
+        if "=>" not in words:
+            return words, None
+        at = words.index("=>")
+        words, wanted = words[:at], words[at + 1 :]
+        if not wanted or wanted[0] not in OUTCOMES[kind]:
+            self.fail(f"after `=>` comes one of {', '.join(OUTCOMES[kind])}")
+        if wanted[0] in ("done", "ok", "err", "value"):
+            self.need(len(wanted) <= (1 if wanted[0] == "done" else 2), kind)
+            for literal in wanted[1:]:
+                try:
+                    values.only(self.literal(literal))
+                except values.NoLiteral as fault:
+                    self.fail(f"the value that is wanted is no literal: {fault.why}")
+        return words, " ".join([wanted[0], *map(self.printed, wanted[1:])])
+
+    def numbers(self, kind, words):
+        self.need(len(words) == 5 and all(re.fullmatch(r"[0-9]{1,39}", word) for word in words), kind)
+        return [int(word) for word in words]
+
+    def parts(self, kind, words, table, first):
+        """The parts of a line of the report by their names."""
+        self.need(bool(words) and words[0] in table, kind)
+        names = (*first, *table[words[0]])
+        self.need(len(words) == 1 + len(names), kind)
+        read = {name: self.principal if name in PRINCIPALS else self.printed for name in names}
+        return {kind: words[0]} | {name: read[name](word) for name, word in zip(names, words[1:])}
+
+    # Lines of a scenario.
+
+    def add_name(self, words):
+        self.need(len(words) == 2 and re.fullmatch(r"[A-Za-z][A-Za-z0-9_-]*", words[0]), "name")
+        if not values.is_principal(words[1].lstrip("'")):
+            self.fail(f"`{words[1]}` is no address: its last characters are a checksum, so copy it whole")
+        self.made.names[words[0]] = words[1].lstrip("'")
+
+    def add_stx(self, words):
+        self.need(len(words) == 2, "stx")
+        self.made.genesis.append({"principal": self.principal(words[0]), "stx": words[1]})
+
+    def add_block(self, words):
+        self.need(len(words) == 1 and re.fullmatch(r"[0-9]{1,20}", words[0]), "block")
+        self.made.entries.append(Entry("block", {"height": int(words[0])}, self.place(), None))
+
+    def add_deploy(self, words):
+        words, outcome = self.outcome("deploy", words)
+        self.need(len(words) == 3, "deploy")
+        try:
+            source = (self.folder / words[2]).read_bytes().decode("utf-8")
+        except UnicodeDecodeError:
+            self.fail(f"{words[2]} isn't UTF-8")
+        except OSError as fault:
+            self.fail(f"{words[2]}: {fault.strerror}")
+        members = {"sender": self.principal(words[0]), "name": words[1], "source": source}
+        self.made.entries.append(Entry("deploy", members, self.place(), outcome))
+
+    def add_call(self, words):
+        words, outcome = self.outcome("call", words)
+        self.need(len(words) >= 3, "call")
+        members = {"sender": self.principal(words[0]), "contract": self.principal(words[1]), "function": words[2]}
+        self.made.entries.append(Entry("call", members | {"args": list(map(self.literal, words[3:]))}, self.place(), outcome))
+
+    def add_state(self, words):
+        self.made.state.append((self.place(), self.parts("state", words, STATES, ())))
+
+    # Lines below an entry.
+
+    def add_limit(self, words):
+        self.made.entries[-1].members["limit"] = self.numbers("limit", words)
+
+    def add_mode(self, words):
+        self.need(words in (["deny"], ["allow"]), "mode")
+        self.made.entries[-1].members["mode"] = words[0]
+
+    def add_clarity(self, words):
+        self.need(words in (["1"], ["2"]) and self.made.entries[-1].kind == "deploy", "clarity")
+        self.made.entries[-1].members["clarity"] = int(words[0])
+
+    def add_post(self, words):
+        count = {"stx": 4, "ft": 6, "nft": 6}.get(words[0] if words else None)
+        self.need(len(words) == count, "post")
+        found = {"principal": self.principal(words[1])}
+        if words[0] != "stx":
+            found |= {"contract": self.principal(words[2]), "token": words[3]}
+        if words[0] == "nft":
+            self.need(words[5] in ("sent", "kept"), "post")
+            found |= {"id": self.literal(words[4]), "sent": words[5] == "sent"}
+        else:
+            self.need(words[-2] in CODES, "post")
+            found |= {"code": words[-2], "amount": words[-1]}
+        self.made.entries[-1].members.setdefault("post", []).append({words[0]: found})
+
+    def add_cost(self, words):
+        self.made.entries[-1].cost = self.numbers("cost", words)
+
+    def add_event(self, words):
+        entry = self.made.entries[-1]
+        entry.events = (entry.events or []) + [self.parts("event", words, EVENTS, ("contract",))]
+
+
+def read(path):
+    """The scenario in the file under this path. Raises NoScenario, and OSError where it can't be read."""
+    try:
+        text = pathlib.Path(path).read_bytes().decode("utf-8")
+    except UnicodeDecodeError:
+        raise NoScenario(f"{path}: it isn't UTF-8") from None
+    return _Reader(path, text).whole()
