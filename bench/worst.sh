@@ -3,9 +3,11 @@
 # made of one thing; wide and deep types; values up to 1 MiB compared, hashed, printed and as keys; up to 100,000 entries; files up
 # to 16 MiB of each kind. Three sizes of each: processor seconds and peak MiB, how many times those of the size before they are
 # (as the input is twice as long, 2 is linear, 4 isn't), and at the last two sizes the peak bytes that a byte of input adds. A run
-# has at most 120 seconds and 6 GiB. Words: only the rows whose names begin with one of them. Run by hand, half an hour;
-# python3 measures.
-# Usage: bench/worst.sh [ROW..]
+# has at most 120 seconds and 6 GiB. Rows that begin with `again` write to the same places again and again. Behind them, with `cc`,
+# floods: keys that are chosen to collide, beside as many ordinary ones, and how many times the seconds of these they take. With
+# --strict it fails where a flood takes more than 3 times as long, or an `again` more than 64 MiB, as they do today.
+# Words: only the rows whose names begin with one of them. Run by hand, half an hour; python3 measures.
+# Usage: bench/worst.sh [--strict] [ROW..]
 set -eu
 [ "${1-}" != --help ] || exec sed -n '2,/^[^#]/s/^# \{0,1\}//p' "$0"
 cd "$(dirname "$0")"
@@ -14,8 +16,12 @@ import os
 import sys
 import tempfile
 
+from floods import AGAINS, FLOODS, colliding, ordinary, program
 from made import DEPLOYER, HOLDER, UNIT, address, call, deploy, filled, numbered, transactions, written
 from measure import ended
+
+IS_STRICT = "--strict" in sys.argv
+WANTED = [word for word in sys.argv[1:] if word != "--strict"]
 
 KIB, MIB = 1 << 10, 1 << 20
 SOURCES, SMALL = (MIB // 4, MIB // 2, MIB), (4 * KIB, 8 * KIB, 16 * KIB)
@@ -23,6 +29,7 @@ SOURCES, SMALL = (MIB // 4, MIB // 2, MIB), (4 * KIB, 8 * KIB, 16 * KIB)
 LISTS = (30 * KIB, 60 * KIB, 120 * KIB)
 FILES, COUNTS = (4 * MIB, 8 * MIB, 16 * MIB), (25000, 50000, 100000)
 SECONDS, GIBIBYTES = 120, 6
+MOST_TIMES, MOST_MIB = 3, 64
 
 
 def source(text, answer="deploy-bound"):
@@ -207,6 +214,7 @@ ROWS = [
     ("holders", (45000, 90000, 180000), holders),
     ("conditions: as many assets, in mode deny", (2000, 4000, 8000), ran(trades, "go ok")),
     ("conditions: many on what doesn't move", COUNTS, ran(unmoved, "start ok")),
+    *[(f"again: {name}", (4096, 8192, 16384), words) for name, words in AGAINS],
     ("file of sources: 1 MiB each", FILES, ran(lambda size: [deploy(f"c{i}", filled(" 1", MIB - 16 * KIB, "(+", ")")) for i in range(size // MIB)], "done")),
     ("file of calls: arguments", FILES, ran(lambda size: [deploy("c", VALUES), call(DEPLOYER, "c", "find", *["1"] * (size // 5 - 1000))], "E4 ArgumentCount")),
     *both("spaces", lambda size: " " * (size - 2) + "{}", ("Missing literal", "Version")),
@@ -246,23 +254,53 @@ def shown(value, before):
     return f"{value:9.3g} {'' if before is None else f'x{value / before:.1f}':>6}"
 
 
+def is_wanted(name):
+    return not WANTED or any(name.startswith(word) for word in WANTED)
+
+
+def measured(of, folder, size):
+    words, answer = of(folder, size)
+    return Cell(words, folder, answer)
+
+
 print(f"{'input':44} {'bytes':>10} {'seconds':>9} {'':>6} {'MiB':>9} {'':>6} {'bytes a byte':>12}")
-wrong = 0
+wrong = dear = 0
 for name, sizes, of in ROWS:
-    if sys.argv[1:] and not any(name.startswith(word) for word in sys.argv[1:]):
-        continue
     before = None
-    for size in sizes:
+    for size in sizes if is_wanted(name) else ():
         with tempfile.TemporaryDirectory() as folder:
-            words, answer = of(folder, size)
-            cell = Cell(words, folder, answer)
+            cell = measured(of, folder, size)
         seconds = shown(cell.seconds, before and before.seconds)
         memory = shown(cell.memory, before and before.memory)
         each = f"{(cell.memory - before.memory) * MIB / (cell.size - before.size):12.0f}" if before else ""
         print(f"{name:44} {cell.size:10} {seconds} {memory} {each:>12} {cell.fails or ''}".rstrip(), flush=True)
+        dear += name.startswith("again: ") and cell.memory > MOST_MIB
         if cell.fails:
             wrong += 1
             break
         before = cell
-sys.exit(f"{wrong} rows have no answer") if wrong else None
+
+floods = [flood for flood in FLOODS if is_wanted(f"flood: {flood[0]}")]
+if floods and program() is None:
+    print("cc isn't there: no flood is made")
+    floods = []
+elif floods:
+    print(f"{'flood':44} {'bytes':>10} {'seconds':>9} {'':>6} {'ordinary':>9} {'times':>6}")
+for name, front, length, letters, counts, of in floods:
+    before = None
+    for count in counts:
+        with tempfile.TemporaryDirectory() as folder:
+            chosen, other = (measured(of, folder, keys(front, length, letters, max(counts))[:count]) for keys in (colliding, ordinary))
+        times = chosen.seconds / max(other.seconds, 0.01)
+        fails = other.fails or chosen.fails or ""
+        print(f"{'flood: ' + name:44} {chosen.size:10} {shown(chosen.seconds, before)} {other.seconds:9.3g} x{times:.1f} {fails}".rstrip(), flush=True)
+        dear += times > MOST_TIMES
+        before = chosen.seconds
+        # What is stopped for its time is dear, and answers nothing wrong.
+        if chosen.seconds > SECONDS - 1:
+            break
+        wrong += bool(fails)
+if dear:
+    print(f"{dear} rows are too dear")
+sys.exit(f"{wrong} rows have no answer" if wrong else 1 if dear and IS_STRICT else 0)
 PYTHON
