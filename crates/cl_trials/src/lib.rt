@@ -7,6 +7,8 @@ mod files;
 #[cfg(test)]
 mod layers;
 #[cfg(test)]
+mod ledgers;
+#[cfg(test)]
 mod listeners;
 #[cfg(test)]
 mod natives;
