@@ -3,6 +3,7 @@ use Rattle.std.proofs.Common.{◌≡◌, ℕ, List, [], ◌∷◌, map, filter_m
 use Rattle.std.specs.Prelude.{option_map}
 use Rattle.std.specs.List.{cons_option}
 use Rattle.std.proofs.lemmas.Option.{slice_get-map}
+use Rattle.cl_c32.specs.declared.principal.Principal.{Principal}
 use Rattle.cl_shapes.specs.declared.cost.Dimension.{Dimension}
 use Rattle.cl_shapes.specs.declared.function.CostFn.{CostFn}
 use Rattle.cl_sexpr.specs.declared.sexpr.Span.{Span}
@@ -18,7 +19,12 @@ use Rattle.cl_rules.specs.PlainProgram.{bound_stop}
 use Rattle.cl_rules.specs.Laws.{IsFirstAboveLimit, BoundStopIsFirst, NoStopIsBounded}
 use Rattle.cl_contracts.specs.declared.checked.Checked.{Checked}
 use Rattle.cl_contracts.specs.Seen.{forms_of}
-use Rattle.cl_contracts.specs.Standings.{StandsAfter, StandingIsTyped, definitions_in_order}
+use Rattle.cl_contracts.specs.declared.contract.Contract.{Contract}
+use Rattle.cl_contracts.specs.Standings.{AreStanding, StandsAfter, StandingIsTyped, definitions_in_order}
+use Rattle.cl_bound.specs.declared.known.ContractBounds.{ContractBounds}
+use Rattle.cl_bound.specs.declared.prices.Prices.{Prices}
+use Rattle.cl_bound.specs.Known.{AreBoundsOf}
+use Rattle.cl_bound.specs.Seen.{ShowFunctions, ShowsPrices}
 
 one_form : (o : Option Definition) (ds : List Definition) → map form_defined (cons_option o ds) ≡ cons_option (option_map form_defined o) (map form_defined ds)
 one_form None ds = refl
@@ -46,3 +52,14 @@ module _ (typing : StandingIsTyped) (known : List Known) (checked : Checked) (D 
       subst (λ (v : Span). IsFirstAboveLimit D (forms_of checked) checked.order.items (function_of costs) d v) (sym at)
       (subst (λ (t : List CostFn). IsFirstAboveLimit D (forms_of checked) checked.order.items (function_of t) d s) same
       (law known checked.principal checked.version checked.source_length (forms_of checked) checked.order.items D (function_of other) d s forms_typed (sym some)))
+
+-- what is kept of a contract's functions under a table, as the prices of its last definition show them
+pub are_kept : (contracts : List (Principal × Contract)) (checked : Checked) (prices : Prices) (costs : List CostFn) (bounds : ContractBounds) → bounds.principal ≡ checked.principal → bounds.length ≡ checked.source_length → bounds.functions ≡ prices.functions → prices.costs ≡ costs →
+    ((known : List Known) (D : Defined) → AreStanding [] contracts known → StandsAfter known checked D → ShowsPrices prices D.context) → AreBoundsOf (function_of costs) contracts checked bounds
+are_kept contracts checked prices costs bounds own length functions same shows = record {
+  principal = own;
+  length = sym length;
+  functions = λ known D stand stands.
+      subst (λ (t : List CostFn). ShowFunctions (function_of t) D.context.functions bounds.functions.entries) same
+      (subst (λ (fs : _). ShowFunctions (function_of prices.costs) D.context.functions fs.entries) (sym functions) (shows known D stand stands).functions);
+}

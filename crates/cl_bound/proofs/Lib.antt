@@ -12,3 +12,5 @@ pub mod Knowing
 pub mod Stopping
 pub mod Lines
 pub mod Bounding
+pub mod Reaching
+pub mod Returning

@@ -49,7 +49,7 @@ applied_none c x G h shows = none_by c x G shows (signature_in x G.functions) (f
 -- ---- functions of a deployed contract
 
 module _ (table : CostTable) (fs : List Signature) (entries : List (List ℕ × Application)) (x : List ℕ) (shows : ShowFunctions table fs entries) where
-  met : (o : Option Application) → o ≡ lookup (pointwise nat_eq x) entries → o ≡ option_map (application_of table) (signature_in x fs)
+  pub met : (o : Option Application) → o ≡ lookup (pointwise nat_eq x) entries → o ≡ option_map (application_of table) (signature_in x fs)
   met o h = h ∙ under_name x entries ∙ shows x
 
   open_by : (a : Application) (f : Option Signature) → Some a ≡ option_map (application_of table) f → (a.access ≡ Private → ⊥) → a.bound ≡ told (cost_under table (applied (if_callable f)))

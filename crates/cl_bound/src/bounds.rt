@@ -12,6 +12,8 @@ ghost use Rattle.cl_rules.specs.Context.{Known, signature_in};
 ghost use Rattle.cl_rules.specs.FormRules.{Defined};
 ghost use Rattle.cl_rules.specs.Laws.{IsFirstAboveLimit};
 ghost use Rattle.cl_contracts.specs.Seen.{forms_of};
+ghost use Rattle.cl_c32.specs.declared.principal.Principal.{Principal as APrincipal};
+ghost use Rattle.cl_contracts.specs.declared.contract.Contract.{Contract};
 ghost use Rattle.cl_contracts.specs.declared.deployed.Deployed.{Deployed};
 ghost use Rattle.cl_contracts.specs.Standings.{Knows, StandsAfter};
 ghost use Rattle.cl_code.specs.Definitions.{form_defined};
@@ -21,7 +23,7 @@ ghost use Rattle.cl_bound.specs.Known.{AreBounds, AreBoundsOf};
 
 use crate::contract::deployment;
 use crate::known::{ContractBounds, KnownBounds};
-use crate::prices::Prices;
+use crate::prices::{Application, Prices};
 use crate::stop::first_stop;
 use cl_code::Definition;
 use cl_contracts::{Checked, what_callers_know};
@@ -31,6 +33,7 @@ use cl_sexpr::{Break, Refusal, Rule};
 use cl_shapes::Cost5;
 use cl_tx::{Bounds, Row};
 use cl_types::{Fault, Name, NoMemory};
+use indexmap::IndexMap;
 use std::alloc::Global;
 
 /// A name with the bound of its function, where that isn't above the limit.
@@ -67,6 +70,35 @@ fn lines(alloc: Global, prices: &Prices, checked: &Checked) -> Result<Vec<(Name,
     Ok(lines)
 }
 
+/// The bounds of a contract's functions as they are kept for those that call it.
+fn kept(checked: &Checked, functions: IndexMap<Name, Application>) -> ContractBounds
+    ensures principal { result.principal ≡ checked.now.principal }
+    ensures length { result.length ≡ checked.now.source_length }
+    ensures functions { result.functions ≡ functions }
+{
+    ContractBounds {
+        principal: checked.principal,
+        length: checked.source_length,
+        functions,
+    }
+}
+
+/// The same under a table, where `known` are the bounds of the contracts before it, under the same table.
+pub(crate) fn contract_bounds(
+    alloc: Global,
+    checked: &Checked,
+    known: &KnownBounds,
+    costs: &CostTable,
+) -> Result<ContractBounds, NoMemory>
+    ensures { IfOk result (λ bounds. (contracts : List (APrincipal × Contract)) →
+        AreBounds (function_of costs.now) contracts known.now →
+        AreBoundsOf (function_of costs.now) contracts checked.now bounds) }
+{
+    let mut prices = Prices::new(alloc, costs, known, &checked.principal);
+    deployment(&mut prices, checked)?;
+    Ok(kept(checked, prices.functions))
+}
+
 /// The bounds of a contract: as they are told, and as they are kept for those that call it.
 #[derive(Drop)]
 pub struct Priced {
@@ -76,7 +108,7 @@ pub struct Priced {
 
 /// The bounds of a deployment and of each function of a contract, the functions in the order of its text; or the first bound
 /// that is above 2^128-1 (`B1`): with the span of the function that it is of, by the order of evaluation, and in the first such
-/// dimension, or at no place if it is the deployment's. Each bound is reckoned once: those of deployed contracts are known, under
+/// dimension, or at no place if it is the deployment's. Each bound is computed once: those of deployed contracts are known, under
 /// the same table. What each function returns is `Function::returns`.
 pub fn bound(
     alloc: Global,
@@ -109,11 +141,7 @@ pub fn bound(
                     deploy: deployment.saturated(),
                     functions: Row::new(functions),
                 },
-                contract: ContractBounds {
-                    principal: checked.principal,
-                    length: checked.source_length,
-                    functions: prices.functions,
-                },
+                contract: kept(checked, prices.functions),
             })
         }
     }

@@ -1,4 +1,4 @@
-//! The bounds of deployed contracts, each reckoned once, when its contract is accepted.
+//! The bounds of deployed contracts under a cost table, kept for those that call them.
 ghost use Rattle.std.specs.Prelude.{◌≡◌, ◌<◌, ◌++◌, ◌∷◌, List, [], None, Some, OnOk, if◌then◌else◌};
 ghost use Rattle.std.specs.Option.{option_or};
 ghost use Rattle.indexmap.specs.IndexMap.{spare};

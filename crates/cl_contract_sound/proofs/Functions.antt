@@ -70,9 +70,9 @@ answers_by Private t h = tt
 answers_of : (K : World) (p : Principal) (g : Signature) (fn : Function) → IsServed K p g fn → Answers g.access g.returns
 answers_of K p g fn served = subst (λ (g : Signature). Answers g.access g.returns) served.signature (answers_by fn.access _ (is_return fn.access served.found served.sound).answers)
 
-pub function_is_sound : (costs : CostTable) (W : Deployed) (ks : List Known) → AreContracts costs W ks → (table : CostTable) → (p : Principal) (k : Known) → known_at p ks ≡ Some k → (x : List ℕ) (g : Signature) → signature_in x k.functions ≡ Some g → IsSoundFunction table W p x g
-function_is_sound costs W ks contracts table p k at x g told =
-    let a = known_there W Whole ks (are_known costs W ks contracts.texts) p k at in
+pub function_is_sound : (W : Deployed) (ks : List Known) → AreContracts W ks → (table : CostTable) → (p : Principal) (k : Known) → known_at p ks ≡ Some k → (x : List ℕ) (g : Signature) → signature_in x k.functions ≡ Some g → IsSoundFunction table W p x g
+function_is_sound W ks contracts table p k at x g told =
+    let a = known_there W Whole ks (are_known W ks contracts.texts) p k at in
     let T = stands_in W Whole a.defined.context (whole_context W Whole p k a) in
     let f = as_served table W Whole a.contract x g (T.functions x g (ap (λ (k : Known). signature_in x k.functions) a.is ∙ told)) in
     record {

@@ -20,7 +20,7 @@ use Rattle.cl_forms.specs.Items.{Draft, ConstantDraft, VariableDraft, MapDraft, 
 use Rattle.cl_forms.proofs.ExpressionsFit.{are_fit}
 use Rattle.cl_forms.proofs.Weighing.{forms_within}
 use Rattle.cl_meaning.specs.Deployed.{Contract, Deployed, Function, contract_at, has_name, form_of, as_function, function_in}
-use Rattle.cl_rules.specs.Context.{CostTable, Known}
+use Rattle.cl_rules.specs.Context.{Known}
 use Rattle.cl_contract_sound.specs.Nodes.{AreContracts}
 use Rattle.cl_contract_sound.proofs.Signed.{IsOfSomeText, contract_text}
 
@@ -187,9 +187,9 @@ some_kind x (Some kind) f h = (kind, refl)
 
 -- ---- contracts
 
-pub each_named : (costs : CostTable) (W : Deployed) (ks : List Known) → AreContracts costs W ks → (p : Principal) → IsPrincipal p → (c : Contract) → contract_at p W ≡ Some c → (x : List ℕ) (f : Function) → function_in x c.forms ≡ Some f → IsName x × (length f.params < 2 ^ 32)
-each_named costs W ks A p valid c at x f is =
-    let t : IsOfSomeText costs c = contract_text costs W ks A p valid c at in
+pub each_named : (W : Deployed) (ks : List Known) → AreContracts W ks → (p : Principal) → IsPrincipal p → (c : Contract) → contract_at p W ≡ Some c → (x : List ℕ) (f : Function) → function_in x c.forms ≡ Some f → IsName x × (length f.params < 2 ^ 32)
+each_named W ks A p valid c at x f is =
+    let t : IsOfSomeText c = contract_text W ks A p valid c at in
     let o = t.of_text.accepted.typed.is_ordered in
     let there = ap (function_in x) (sym t.of_text.forms) ∙ is in
     let kind = some_kind x (form_of x t.of_text.accepted.forms) f there in

@@ -22,9 +22,9 @@ use Rattle.cl_contract_sound.proofs.Naming.{AreAll}
 use Rattle.cl_contract_sound.proofs.OfTexts.{known_last, known_still, not_there}
 
 module _ (W : Deployed) (A : AreDistinct W) (c : Contract) (valid : IsPrincipal c.principal) (new : contract_at c.principal W ≡ None) where
-  texts_behind : (costs : CostTable) (ks : List Known) → AreOfTexts costs W ks → AreOfTexts costs (c ∷ W) ks
-  texts_behind costs ks (none_yet e) = none_yet e
-  texts_behind costs ks (and_one {before = before} b k texts unknown h there is) = and_one b k (texts_behind costs before texts) unknown h (found_behind W A c valid new b h.valid there) is
+  texts_behind : (ks : List Known) → AreOfTexts W ks → AreOfTexts (c ∷ W) ks
+  texts_behind ks (none_yet e) = none_yet e
+  texts_behind ks (and_one {before = before} b k texts unknown h there is) = and_one b k (texts_behind before texts) unknown h (found_behind W A c valid new b h.valid there) is
 
   kept_all : (order : List Form) → AreAll c order → (s : State) → Kept (c ∷ W) (Behind c.principal order) s → Kept (c ∷ W) Whole s
   kept_all order all s n = record {
@@ -46,19 +46,19 @@ module _ (W : Deployed) (A : AreDistinct W) (c : Contract) (valid : IsPrincipal 
           by (inl e) = all x k (ap (λ (c : Contract). form_of x c.forms) e ∙ h.form)
           by (inr g) = absurd (another W A c valid new d (A.found d g) q)
 
-pub next_node : (costs : CostTable) (W : Deployed) (ks : List Known) (s t : State) → IsNode costs W ks s → (principal : Principal) → IsPrincipal principal → known_at principal ks ≡ None → (text : Text) (accepted : Accepted ks principal costs text) →
-    AreAll (of_text principal text accepted.forms) (forms_at accepted.forms accepted.order) → (d : Contract) → IsDone W (of_text principal text accepted.forms) (forms_at accepted.forms accepted.order) accepted.defined d t → IsNode costs (d ∷ W) (ks ++ known_of principal (length text.bytes) accepted.defined ∷ []) t
-next_node costs W ks s t node principal valid unknown text accepted all d done =
+pub next_node : (W : Deployed) (ks : List Known) (s t : State) → IsNode W ks s → (principal : Principal) → IsPrincipal principal → known_at principal ks ≡ None → (costs : CostTable) (text : Text) (accepted : Accepted ks principal costs text) →
+    AreAll (of_text principal text accepted.forms) (forms_at accepted.forms accepted.order) → (d : Contract) → IsDone W (of_text principal text accepted.forms) (forms_at accepted.forms accepted.order) accepted.defined d t → IsNode (d ∷ W) (ks ++ known_of principal (length text.bytes) accepted.defined ∷ []) t
+next_node W ks s t node principal valid unknown costs text accepted all d done =
     let order = forms_at accepted.forms accepted.order in
     let c : Contract = with_values (of_text principal text accepted.forms) done.values in
-    let new = not_there costs W ks node.contracts principal valid unknown in
+    let new = not_there W ks node.contracts principal valid unknown in
     let A = node.contracts.distinct in
     let k = known_of principal (length text.bytes) accepted.defined in
-    subst (λ d. IsNode costs (d ∷ W) (ks ++ k ∷ []) t) (sym done.is) (record {
+    subst (λ d. IsNode (d ∷ W) (ks ++ k ∷ []) t) (sym done.is) (record {
       contracts = record {
         distinct = distinct_front W A c valid new;
-        texts = and_one c k (texts_behind W A c valid new costs ks node.contracts.texts) unknown
-            (record { valid = valid; text = text; accepted = accepted; forms = refl; version = refl; size = refl; constants = done.constants; known = refl })
+        texts = and_one c k (texts_behind W A c valid new ks node.contracts.texts) unknown
+            (record { valid = valid; table = costs; text = text; accepted = accepted; forms = refl; version = refl; size = refl; constants = done.constants; known = refl })
             (found_front W A c valid new) refl;
         known = λ b h. by c b (in_front W c b h) refl;
       };
@@ -74,8 +74,8 @@ next_node costs W ks s t node principal valid unknown text accepted all d done =
 nowhere : (c : Contract) → Contains [] c → ⊥
 nowhere c there = omega (arith, there.1)
 
-pub first_node : (costs : CostTable) (holders : List (Principal × ℕ)) → All (λ (h : Principal × ℕ). IsPrincipal h.0) holders → IsNode costs [] [] (genesis holders)
-first_node costs holders valid = record {
+pub first_node : (holders : List (Principal × ℕ)) → All (λ (h : Principal × ℕ). IsPrincipal h.0) holders → IsNode [] [] (genesis holders)
+first_node holders valid = record {
   contracts = record {
     distinct = record { valid = λ c h. absurd (nowhere c h); found = λ c h. absurd (nowhere c h) };
     texts = none_yet refl;

@@ -41,20 +41,20 @@ text_forms before costs text c accepted same =
     subst (λ fs. AreItsForms c (forms_at fs accepted.order)) same
     (its_forms_at (trees_of o.items) c (subst (AreFormsOf text.version (trees_of o.items)) (sym same) o.are_forms) (subst FormsFit (sym same) fits) accepted.order)
 
-typed_as : (costs : CostTable) (before : List Known) (c : Contract) (k : Known) (h : IsOfText costs before c k) → IsTypedAs Whole before c h.accepted.defined
-typed_as costs before c k h = record {
+typed_as : (before : List Known) (c : Contract) (k : Known) (h : IsOfText before c k) → IsTypedAs Whole before c h.accepted.defined
+typed_as before c k h = record {
   valid = h.valid;
   order = forms_at h.accepted.forms h.accepted.order;
-  forms = whole_forms c (forms_at h.accepted.forms h.accepted.order) (text_forms before costs h.text c h.accepted h.forms);
+  forms = whole_forms c (forms_at h.accepted.forms h.accepted.order) (text_forms before h.table h.text c h.accepted h.forms);
   typed = subst (λ v. FormsTyped (nothing_defined before c.principal v c.source_length) (forms_at h.accepted.forms h.accepted.order) h.accepted.defined) (sym h.version)
       (subst (λ n. FormsTyped (nothing_defined before c.principal h.text.version n) (forms_at h.accepted.forms h.accepted.order) h.accepted.defined) (sym h.size) h.accepted.typed.are_typed);
   constants = λ x t e. bound_there h.accepted.defined.context.constants c.constants x t h.constants e;
 }
 
-pub are_known : (costs : CostTable) (W : Deployed) (ks : List Known) → AreOfTexts costs W ks → AreKnown W Whole ks
-are_known costs W ks (none_yet e) = none_known e
-are_known costs W ks (and_one {before = before} c k texts new h there is) =
-    and_known c h.accepted.defined (are_known costs W before texts) (typed_as costs before c k h) there
+pub are_known : (W : Deployed) (ks : List Known) → AreOfTexts W ks → AreKnown W Whole ks
+are_known W ks (none_yet e) = none_known e
+are_known W ks (and_one {before = before} c k texts new h there is) =
+    and_known c h.accepted.defined (are_known W before texts) (typed_as before c k h) there
     (is ∙ ap (λ k. before ++ k ∷ []) (h.known ∙ ap (λ n. known_of c.principal n h.accepted.defined) (sym h.size)))
 
 -- ---- what callers see
@@ -91,8 +91,8 @@ found_principal p (d ∷ W) c h = by (is_principal d.principal p) refl h (found_
     by false e g more = more g
 
 -- what callers don't see isn't found by evaluations
-pub not_there : (costs : CostTable) (W : Deployed) (ks : List Known) → AreContracts costs W ks → (p : Principal) → IsPrincipal p → known_at p ks ≡ None → contract_at p W ≡ None
-not_there costs W ks A p valid new = by (contract_at p W) refl
+pub not_there : (W : Deployed) (ks : List Known) → AreContracts W ks → (p : Principal) → IsPrincipal p → known_at p ks ≡ None → contract_at p W ≡ None
+not_there W ks A p valid new = by (contract_at p W) refl
   where
     nothing_known : {o : Option Contract} → IsSome {T = Known} None → o ≡ None
     nothing_known h = absurd cc

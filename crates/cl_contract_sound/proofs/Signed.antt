@@ -13,7 +13,7 @@ use Rattle.cl_order.proofs.Good.{order_good}
 use Rattle.cl_meaning.specs.Deployed.{Contract, Deployed, Function, contract_at, form_of, as_function, function_in}
 use Rattle.cl_meaning.specs.Deploying.{forms_at}
 use Rattle.cl_meaning.specs.Kept.{IsAmong}
-use Rattle.cl_rules.specs.Context.{CostTable, Known, Signature, same, known_at, signature_in}
+use Rattle.cl_rules.specs.Context.{Known, Signature, same, known_at, signature_in}
 use Rattle.cl_rules.specs.Verdicts.{Found}
 use Rattle.cl_rules.specs.Typing.{Follows, ends, part}
 use Rattle.cl_rules.specs.FormRules.{Defined, form_plan, signature_of, context_after}
@@ -112,57 +112,57 @@ function_kind x (Some (ExpressionForm e)) f h = absurd cc
 -- ---- contracts that are known
 
 -- what callers see at a principal is of a text
-record IsTextAt (costs : CostTable) (W : Deployed) (p : Principal) (k : Known) : Type 0 where
-  before : List Known
-  contract : Contract
-  of_text : IsOfText costs before contract k
-  there : contract_at contract.principal W ≡ Some contract
+pub record IsTextAt (W : Deployed) (p : Principal) (k : Known) : Type 0 where
+  pub before : List Known
+  pub contract : Contract
+  pub of_text : IsOfText before contract k
+  pub there : contract_at contract.principal W ≡ Some contract
 
-text_there : (costs : CostTable) (W : Deployed) (ks : List Known) → AreOfTexts costs W ks → (p : Principal) (k : Known) → known_at p ks ≡ Some k → (IsTextAt costs W p k) × (k.principal ≡ p)
-text_there costs W ks (none_yet e) p k h = none_at (ap (known_at p) (sym e) ∙ h)
+pub text_there : (W : Deployed) (ks : List Known) → AreOfTexts W ks → (p : Principal) (k : Known) → known_at p ks ≡ Some k → (IsTextAt W p k) × (k.principal ≡ p)
+text_there W ks (none_yet e) p k h = none_at (ap (known_at p) (sym e) ∙ h)
   where
-    none_at : None ≡ Some k → (IsTextAt costs W p k) × (k.principal ≡ p)
+    none_at : None ≡ Some k → (IsTextAt W p k) × (k.principal ≡ p)
     none_at e = absurd cc
-text_there costs W after (and_one {before = before} c n texts new h there is) p k e = by (known_split p before n k (ap (known_at p) (sym is) ∙ e)) (text_there costs W before texts p k)
+text_there W after (and_one {before = before} c n texts new h there is) p k e = by (known_split p before n k (ap (known_at p) (sym is) ∙ e)) (text_there W before texts p k)
   where
-    by : (known_at p before ≡ Some k) ⊎ ((n.principal ≡ p) × (n ≡ k)) → (known_at p before ≡ Some k → (IsTextAt costs W p k) × (k.principal ≡ p)) → (IsTextAt costs W p k) × (k.principal ≡ p)
+    by : (known_at p before ≡ Some k) ⊎ ((n.principal ≡ p) × (n ≡ k)) → (known_at p before ≡ Some k → (IsTextAt W p k) × (k.principal ≡ p)) → (IsTextAt W p k) × (k.principal ≡ p)
     by (inl g) more = more g
-    by (inr g) more = (record { before = before; contract = c; of_text = subst (IsOfText costs before c) g.1 h; there = there }, sym (ap (λ (k : Known). k.principal) g.1) ∙ g.0)
+    by (inr g) more = (record { before = before; contract = c; of_text = subst (IsOfText before c) g.1 h; there = there }, sym (ap (λ (k : Known). k.principal) g.1) ∙ g.0)
 
 some_there : {A : Type 0} (o : Option A) → IsSome o → (a : A) × (o ≡ Some a)
 some_there None h = absurd cc
 some_there (Some a) h = (a, refl)
 
-pub each_signed : (costs : CostTable) (W : Deployed) (ks : List Known) → AreContracts costs W ks → (p : Principal) → IsPrincipal p → (c : Contract) → contract_at p W ≡ Some c → (x : List ℕ) (f : Function) → function_in x c.forms ≡ Some f → IsSigned ks p x
-each_signed costs W ks A p valid c at x f is =
+pub each_signed : (W : Deployed) (ks : List Known) → AreContracts W ks → (p : Principal) → IsPrincipal p → (c : Contract) → contract_at p W ≡ Some c → (x : List ℕ) (f : Function) → function_in x c.forms ≡ Some f → IsSigned ks p x
+each_signed W ks A p valid c at x f is =
     let here = at_contains p W c at in
     let same_principal : c.principal ≡ p = holders_apart c.principal p (A.distinct.valid c here) valid (found_principal p W c at) in
     let known = some_there (known_at p ks) (subst (λ q. IsSome (known_at q ks)) same_principal (A.known c here)) in
-    let t = text_there costs W ks A.texts p known.0 known.1 in
+    let t = text_there W ks A.texts p known.0 known.1 in
     let d = t.0.contract in
     let h = t.0.of_text in
     let principal : d.principal ≡ p = sym (ap (λ (k : Known). k.principal) h.known) ∙ t.1 in
     let one : d ≡ c = some_contract d c (sym t.0.there ∙ ap (λ q. contract_at q W) principal ∙ at) in
     let kind = function_kind x (form_of x d.forms) f (ap (λ (c : Contract). function_in x c.forms) one ∙ is) in
     let o = h.accepted.typed.is_ordered in
-    let its = text_forms t.0.before costs h.text d h.accepted h.forms in
+    let its = text_forms t.0.before h.table h.text d h.accepted h.forms in
     let all = all_at (trees_of o.items) d (subst (AreFormsOf h.text.version (trees_of o.items)) (sym h.forms) o.are_forms) h.accepted.order (subst (λ fs. IsGoodOrder fs h.accepted.order) (sym h.forms) (order_good h.accepted.forms h.accepted.order o.order_is)) in
     let among = subst (λ fs. IsAmong x (forms_at fs h.accepted.order)) h.forms (all x kind.0 kind.1) in
     let g = some_there (signature_in x h.accepted.defined.context.functions) (signed x _ h.accepted.defined (forms_at h.accepted.forms h.accepted.order) h.accepted.typed.are_typed (function_among d (forms_at h.accepted.forms h.accepted.order) its x kind.0 kind.2 kind.1 among)) in
     record { known = known.0; signature = g.0; there = known.1; told = ap (λ (k : Known). signature_in x k.functions) h.known ∙ g.1 }
 
 -- the contract of a principal is of some text
-pub record IsOfSomeText (costs : CostTable) (c : Contract) : Type 0 where
+pub record IsOfSomeText (c : Contract) : Type 0 where
   pub before : List Known
   pub known : Known
-  pub of_text : IsOfText costs before c known
+  pub of_text : IsOfText before c known
 
-pub contract_text : (costs : CostTable) (W : Deployed) (ks : List Known) → AreContracts costs W ks → (p : Principal) → IsPrincipal p → (c : Contract) → contract_at p W ≡ Some c → IsOfSomeText costs c
-contract_text costs W ks A p valid c at =
+pub contract_text : (W : Deployed) (ks : List Known) → AreContracts W ks → (p : Principal) → IsPrincipal p → (c : Contract) → contract_at p W ≡ Some c → IsOfSomeText c
+contract_text W ks A p valid c at =
     let here = at_contains p W c at in
     let same_principal : c.principal ≡ p = holders_apart c.principal p (A.distinct.valid c here) valid (found_principal p W c at) in
     let known = some_there (known_at p ks) (subst (λ q. IsSome (known_at q ks)) same_principal (A.known c here)) in
-    let t = text_there costs W ks A.texts p known.0 known.1 in
+    let t = text_there W ks A.texts p known.0 known.1 in
     let principal : t.0.contract.principal ≡ p = sym (ap (λ (k : Known). k.principal) t.0.of_text.known) ∙ t.1 in
     let one : t.0.contract ≡ c = some_contract t.0.contract c (sym t.0.there ∙ ap (λ q. contract_at q W) principal ∙ at) in
-    record { before = t.0.before; known = known.0; of_text = subst (λ (d : Contract). IsOfText costs t.0.before d known.0) one t.0.of_text }
+    record { before = t.0.before; known = known.0; of_text = subst (λ (d : Contract). IsOfText t.0.before d known.0) one t.0.of_text }

@@ -74,14 +74,14 @@ of_text principal text forms = record { principal = principal; version = text.ve
 -- with the contract, and with what the text defines.
 abbrev pub TextsAreSound : Type 0
 TextsAreSound =
-    (costs : CostTable) (W : Deployed) (ks : List Known) (s : State) → IsNode costs W ks s →
-    (principal : Principal) → IsPrincipal principal → known_at principal ks ≡ None → (text : Text) (accepted : Accepted ks principal costs text) → (table : CostTable) →
+    (W : Deployed) (ks : List Known) (s : State) → IsNode W ks s →
+    (principal : Principal) → IsPrincipal principal → known_at principal ks ≡ None → (costs : CostTable) (text : Text) (accepted : Accepted ks principal costs text) → (table : CostTable) →
     (F : Frame) → F.contract ≡ principal → IsPrincipal F.sender → IsPrincipal F.caller → F.height < 2 ^ 128 →
-    IsSoundDeployment table (λ d t. IsNode costs (d ∷ W) (ks ++ known_of principal (length text.bytes) accepted.defined ∷ []) t) (cost_under table accepted.defined.deploy) (deployment W F (of_text principal text accepted.forms) s)
+    IsSoundDeployment table (λ d t. IsNode (d ∷ W) (ks ++ known_of principal (length text.bytes) accepted.defined ∷ []) t) (cost_under table accepted.defined.deploy) (deployment W F (of_text principal text accepted.forms) s)
 
 -- before all deployments there is a node, with STX of these holders
 abbrev pub GenesisIsNode : Type 0
-GenesisIsNode = (costs : CostTable) (holders : List (Principal × ℕ)) → All (λ (h : Principal × ℕ). IsPrincipal h.0) holders → IsNode costs [] [] (genesis holders)
+GenesisIsNode = (holders : List (Principal × ℕ)) → All (λ (h : Principal × ℕ). IsPrincipal h.0) holders → IsNode [] [] (genesis holders)
 
 -- ---- limits
 
@@ -97,18 +97,18 @@ IsFineEndUnder Done (Lost p) = ⊥
 -- under any limit and any table, also another than that of the bound
 abbrev pub LimitsLeaveDeployments : Type 0
 LimitsLeaveDeployments =
-    (costs table : CostTable) (W : Deployed) (ks : List Known) (bound : Cost5) (a : Answer Contract) → IsSoundDeployment table (λ d t. IsNode costs (d ∷ W) ks t) bound a →
-    (others : CostTable) (p : Purse) → IsFineEndUnder (λ d t. IsNode costs (d ∷ W) ks t) (limited others p a)
+    (table : CostTable) (W : Deployed) (ks : List Known) (bound : Cost5) (a : Answer Contract) → IsSoundDeployment table (λ d t. IsNode (d ∷ W) ks t) bound a →
+    (others : CostTable) (p : Purse) → IsFineEndUnder (λ d t. IsNode (d ∷ W) ks t) (limited others p a)
 
 -- a limit that is no less than the bound and what is spent before cuts nothing off, and what it costs is spent
 abbrev pub BoundsSufficeForDeployments : Type 0
 BoundsSufficeForDeployments =
-    (costs table : CostTable) (W : Deployed) (ks : List Known) (bound : Cost5) (a : Answer Contract) → IsSoundDeployment table (λ d t. IsNode costs (d ∷ W) ks t) bound a →
+    (table : CostTable) (W : Deployed) (ks : List Known) (bound : Cost5) (a : Answer Contract) → IsSoundDeployment table (λ d t. IsNode (d ∷ W) ks t) bound a →
     (p : Purse) → IsAtMost (plus p.spent bound) p.limit →
     limited table p a ≡ limit_on (Within (record { limit = p.limit; spent = plus p.spent (cost table a) })) a.outcome a.state
 
 -- what is spent in the end is at most the bound and what was spent before
 abbrev pub DeploymentsSpendWithin : Type 0
 DeploymentsSpendWithin =
-    (costs table : CostTable) (W : Deployed) (ks : List Known) (bound : Cost5) (a : Answer Contract) → IsSoundDeployment table (λ d t. IsNode costs (d ∷ W) ks t) bound a →
+    (table : CostTable) (W : Deployed) (ks : List Known) (bound : Cost5) (a : Answer Contract) → IsSoundDeployment table (λ d t. IsNode (d ∷ W) ks t) bound a →
     (p : Purse) → IsAtMost (spent_in (limited table p a)) (plus p.spent bound)

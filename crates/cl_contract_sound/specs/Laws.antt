@@ -51,7 +51,7 @@ pub record IsSoundFunction (costs : CostTable) (W : Deployed) (p : Principal) (x
 -- each function of each deployed contract, under each table, also another than that under which the texts were accepted
 abbrev pub FunctionsAreSound : Type 0
 FunctionsAreSound =
-    (costs : CostTable) (W : Deployed) (ks : List Known) → AreContracts costs W ks → (table : CostTable) →
+    (W : Deployed) (ks : List Known) → AreContracts W ks → (table : CostTable) →
     (p : Principal) (k : Known) → known_at p ks ≡ Some k → (x : List ℕ) (g : Signature) → signature_in x k.functions ≡ Some g → IsSoundFunction table W p x g
 
 -- callers see the function of this name at a principal
@@ -64,13 +64,13 @@ pub record IsSigned (ks : List Known) (p : Principal) (x : List ℕ) : Type 0 wh
 -- and these are all the functions that evaluations find in a deployed contract
 abbrev pub FunctionsAreSigned : Type 0
 FunctionsAreSigned =
-    (costs : CostTable) (W : Deployed) (ks : List Known) → AreContracts costs W ks →
+    (W : Deployed) (ks : List Known) → AreContracts W ks →
     (p : Principal) → IsPrincipal p → (c : Contract) → contract_at p W ≡ Some c → (x : List ℕ) (f : Function) → function_in x c.forms ≡ Some f → IsSigned ks p x
 
 -- each is called by a name, and has few parameters
 abbrev pub FunctionsAreNamed : Type 0
 FunctionsAreNamed =
-    (costs : CostTable) (W : Deployed) (ks : List Known) → AreContracts costs W ks →
+    (W : Deployed) (ks : List Known) → AreContracts W ks →
     (p : Principal) → IsPrincipal p → (c : Contract) → contract_at p W ≡ Some c → (x : List ℕ) (f : Function) → function_in x c.forms ≡ Some f → IsName x × (length f.params < 2 ^ 32)
 
 -- ---- expressions

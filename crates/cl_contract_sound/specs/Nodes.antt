@@ -10,12 +10,13 @@ use Rattle.cl_rules.specs.Acceptance.{Accepted, known_of}
 use Rattle.cl_expression_sound.specs.Stages.{AreDistinct}
 use Rattle.cl_expression_sound.specs.Sound.{AreBound}
 
--- A contract stands for a text that was accepted after those before it, under this table: it has the text's forms, version and length,
--- and for each constant a value of its type; and what callers see of it is what the text defines.
-pub record IsOfText (costs : CostTable) (before : List Known) (c : Contract) (k : Known) : Type 0 where
+-- A contract stands for a text that was accepted after those before it, under some table: it has the text's forms, version and
+-- length, and for each constant a value of its type; and what callers see of it is what the text defines.
+pub record IsOfText (before : List Known) (c : Contract) (k : Known) : Type 0 where
   pub valid : IsPrincipal c.principal
+  pub table : CostTable
   pub text : Text
-  pub accepted : Accepted before c.principal costs text
+  pub accepted : Accepted before c.principal table text
   pub forms : c.forms ≡ accepted.forms
   pub version : c.version ≡ text.version
   pub size : c.source_length ≡ length text.bytes
@@ -23,16 +24,16 @@ pub record IsOfText (costs : CostTable) (before : List Known) (c : Contract) (k 
   pub known : k ≡ known_of c.principal (length text.bytes) accepted.defined
 
 -- what callers see, in the order of the deployments: each has a principal of its own, under which evaluations find the contract
-pub data AreOfTexts (costs : CostTable) (W : Deployed) : List Known → Type 0 where
-  none_yet : {ks : List Known} → ks ≡ [] → AreOfTexts costs W ks
-  and_one : {before after : List Known} (c : Contract) (k : Known) → AreOfTexts costs W before → known_at c.principal before ≡ None → IsOfText costs before c k → contract_at c.principal W ≡ Some c → after ≡ before ++ k ∷ [] → AreOfTexts costs W after
+pub data AreOfTexts (W : Deployed) : List Known → Type 0 where
+  none_yet : {ks : List Known} → ks ≡ [] → AreOfTexts W ks
+  and_one : {before after : List Known} (c : Contract) (k : Known) → AreOfTexts W before → known_at c.principal before ≡ None → IsOfText before c k → contract_at c.principal W ≡ Some c → after ≡ before ++ k ∷ [] → AreOfTexts W after
 
 -- deployed contracts, as evaluations and as callers see them, which are the same ones
-pub record AreContracts (costs : CostTable) (W : Deployed) (ks : List Known) : Type 0 where
+pub record AreContracts (W : Deployed) (ks : List Known) : Type 0 where
   pub distinct : AreDistinct W
-  pub texts : AreOfTexts costs W ks
+  pub texts : AreOfTexts W ks
   pub known : (c : Contract) → Contains W c → IsSome (known_at c.principal ks)
 
-pub record IsNode (costs : CostTable) (W : Deployed) (ks : List Known) (s : State) : Type 0 where
-  pub contracts : AreContracts costs W ks
+pub record IsNode (W : Deployed) (ks : List Known) (s : State) : Type 0 where
+  pub contracts : AreContracts W ks
   pub kept : Kept W Whole s

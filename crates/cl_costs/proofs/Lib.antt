@@ -4,3 +4,5 @@ mod Parts
 pub mod Functions
 mod EachName
 mod EveryTable
+pub mod Schedules
+pub mod SameNumbers

@@ -2,3 +2,5 @@ pub mod CostFile
 pub mod Shapes
 pub mod Tables
 pub mod Written
+pub mod Schedules
+pub mod Numbers

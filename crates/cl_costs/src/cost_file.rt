@@ -55,8 +55,10 @@ fn functions_at(alloc: Global, table: &Value) -> Result<[CostFn; 24], Fault<Cost
     Ok(functions)
 }
 
+/// Reads the JSON value of a cost table: the table that it is, or its first fault by the tests of
+/// [`read`]; `NotJson` where the value is no object.
 #[tactic(auto, unfolding(crate::specs::CostFile::table_in))]
-fn table_in(alloc: Global, table: &Value) -> Result<CostTable, Fault<CostRefusal>>
+pub fn read_value(alloc: Global, table: &Value) -> Result<CostTable, Fault<CostRefusal>>
     ensures found { IfOk result (λ t. table_in (view table.now) ≡ Ok t) }
     ensures refused { IfRefused result (λ r. table_in (view table.now) ≡ Err r) }
 {
@@ -80,7 +82,7 @@ pub fn read(alloc: Global, bytes: &[u8]) -> Result<CostTable, Fault<CostRefusal>
     ensures refused { IfRefused result (λ refusal. table_of bytes.now ≡ Err refusal) }
 {
     match parse(alloc, bytes) {
-        Ok(value) => table_in(alloc, &value),
+        Ok(value) => read_value(alloc, &value),
         Err(Fault::Refused(NotJson)) => Err(Fault::Refused(CostRefusal::NotJson)),
         Err(Fault::NoMemory) => Err(Fault::NoMemory),
     }

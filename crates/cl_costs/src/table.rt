@@ -1,24 +1,56 @@
 ghost use Rattle.std.specs.Prelude.{◌≡◌, map};
+ghost use Rattle.std.specs.Bool.{Decides};
 ghost use Rattle.cl_costs.specs.Tables.{place_of};
+ghost use Rattle.cl_costs.specs.Numbers.{is_same};
 
+use crate::numbers::{COUNT, all_are_same, all_numbers};
 use cl_shapes::{CostFn, CostName};
 use std::marker::Model;
 
 /// A cost function for each name, seen as the list of the functions in the order of the names.
+/// Tables are compared by `==`, which takes some hundred instructions.
 #[derive(Clone, Copy)]
 pub struct CostTable {
     functions: [CostFn; 24],
+    /// The numbers of the functions, by which tables are compared.
+    numbers: [[u32; COUNT]; 24],
 }
 
 impl Model for CostTable {
-    ghost use Rattle.std.specs.Prelude.{List};
+    ghost use Rattle.std.specs.Prelude.{◌≡◌, List, map};
+    ghost use Rattle.std.proofs.Common.{sym};
     ghost use Rattle.cl_shapes.specs.declared.function.CostFn.{CostFn};
+    ghost use Rattle.cl_costs.specs.Numbers.{numbers_of};
 
     ghost Value = { List CostFn };
 
     ghost view = { λ t. t.functions };
 
-    ghost inverse = { λ fs. record { functions = fs } };
+    ghost invariant = { λ t. t.numbers ≡ map numbers_of t.functions };
+
+    ghost inverse = { λ fs. record { functions = fs; numbers = map numbers_of fs } };
+
+    ghost inverse_ok = { λ t is. λ i. record { functions = t.functions; numbers = sym is i } };
+}
+
+impl PartialEq for CostTable {
+    ghost use Rattle.std.specs.Prelude.{map, nat_eq};
+    ghost use Rattle.std.specs.Cmp.Lexicographic.{pointwise};
+    ghost use Rattle.std.specs.Ordering.{on};
+    ghost use Rattle.std.specs.Cmp.Rules.{comparing};
+    ghost use Rattle.std.proofs.Common.{rules};
+    ghost use Rattle.cl_costs.specs.Numbers.{numbers_of};
+
+    ghost eq = { on (map numbers_of) (pointwise (pointwise nat_eq)) };
+
+    ghost laws = { Prim.search (comparing, rules) };
+
+    fn eq(&self, other: &CostTable) -> bool
+        ensures numbers { result ≡ is_same self.now other.now }
+        ensures decides { Decides result (self.now ≡ other.now) }
+    {
+        all_are_same(&self.numbers, &other.numbers)
+    }
 }
 
 impl CostTable {
@@ -29,16 +61,17 @@ impl CostTable {
     pub fn builtin() -> CostTable
         ensures { result ≡ unit_table }
     {
-        CostTable {
-            functions: CostName::ALL.map(CostName::unit),
-        }
+        CostTable::new(CostName::ALL.map(CostName::unit))
     }
 
     /// The table of these functions, which stand in the order of the names.
     pub(crate) fn new(functions: [CostFn; 24]) -> CostTable
         ensures { result ≡ functions }
     {
-        CostTable { functions }
+        CostTable {
+            functions,
+            numbers: all_numbers(&functions),
+        }
     }
 
     /// The function of a name.

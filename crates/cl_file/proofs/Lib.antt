@@ -6,6 +6,7 @@ mod Literals
 mod ReadEquations
 mod Filled
 mod Heights
+mod Rising
 mod Holdings
 mod Tests
 mod Readings

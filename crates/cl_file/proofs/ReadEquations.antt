@@ -9,11 +9,13 @@ use Rattle.cl_file.specs.Conditions.{stx_table, ft_table, nft_table, stx_found, 
 use Rattle.cl_file.specs.Entries.{block_table, deploy_table, call_table, common_in, deployment, block, deploy, call, entry, entry_by, rising, entry_after, entry_at}
 use Rattle.cl_file.specs.declared.entry.Entry.TheVariants as entry_
 use Rattle.cl_file.specs.Kinds.{an_amount}
-use Rattle.cl_file.specs.Files.{tested, total, count, new_holder, holder_at, items, file_by, members_of}
+use Rattle.cl_file.specs.Files.{tested, total, count, new_holder, holder_at, items, epochs_of, entries_of, file_by, members_of, second_members_of}
+use Rattle.cl_file.specs.Epochs.{height_above, costs, epoch_above, next_epoch}
+use Rattle.std.specs.Str.{chars}
 use Rattle.cl_c32.specs.declared.principal.Principal.{Principal}
-use Rattle.cl_file.specs.declared.refusal.TxRefusal.TheVariants.{GenesisTooBig, TooMany}
-use Rattle.serde_json.specs.Data.{Items}
-use Rattle.cl_file.specs.declared.names.Object.TheVariants.{Stx, Ft, Nft, Block, Deploy, Call, Holder, File}
+use Rattle.cl_file.specs.declared.refusal.TxRefusal.TheVariants.{BadValue, GenesisTooBig, TooMany}
+use Rattle.serde_json.specs.Data.{Items, no_items}
+use Rattle.cl_file.specs.declared.names.Object.TheVariants.{Stx, Ft, Nft, Block, Deploy, Call, Holder, Epoch, File, SecondFile}
 
 pub stx_is : (values : Values) (path : List ℕ) (d : Data) → stx values path d ≡ and_then (object_by (names_of Stx) stx_table values path d) (λ r. Ok (stx_found r))
 unfolding stx
@@ -67,17 +69,39 @@ pub holder_is : (values : Values) (done : List (Principal × ℕ)) (path : List 
 unfolding holder_at
 holder_is values done path d = refl
 
+pub epoch_is : (values : Values) (height : ℕ) (path : List ℕ) (d : Data) → epoch_above values height path d ≡
+    and_then (only path (names_of Epoch) d) (λ _. and_then (needed (plain (height_above height)) values path (codes "height") d) (λ begins.
+    and_then (needed (plain costs) values path (codes "costs") d) (λ table. Ok (begins, table))))
+unfolding epoch_above
+epoch_is values height path d = refl
+
+pub epochs_is : (values : Values) (list : Items) → epochs_of values list ≡
+    and_then (tested (nat_le (count list) 64) (Err (BadValue (chars (codes "/epochs"))))) (λ _. each_from (next_epoch values) (codes "/epochs") [] 0 list)
+unfolding epochs_of
+epochs_is values list = refl
+
+pub entries_is : (values : Values) (list : Items) → entries_of values list ≡
+    and_then (tested (nat_le (count list) 100000) (Err TooMany)) (λ _. each_from (entry_at values) (codes "/entries") [] 0 list)
+unfolding entries_of
+entries_is values list = refl
+
 pub members_is : (values : Values) (d : Data) → members_of values d ≡
     and_then (only [] (names_of File) d) (λ _. and_then (needed items values [] (codes "genesis") d) (λ holders.
-    and_then (needed items values [] (codes "entries") d) (λ entries. file_by values holders entries)))
+    and_then (needed items values [] (codes "entries") d) (λ entries. file_by values holders no_items entries)))
 unfolding members_of
 members_is values d = refl
 
-pub file_is : (values : Values) (holders list : Items) → file_by values holders list ≡
+pub second_members_is : (values : Values) (d : Data) → second_members_of values d ≡
+    and_then (only [] (names_of SecondFile) d) (λ _. and_then (needed items values [] (codes "genesis") d) (λ holders.
+    and_then (needed items values [] (codes "epochs") d) (λ epochs. and_then (needed items values [] (codes "entries") d) (λ entries. file_by values holders epochs entries))))
+unfolding second_members_of
+second_members_is values d = refl
+
+pub file_is : (values : Values) (holders epochs list : Items) → file_by values holders epochs list ≡
     and_then (each_from (holder_at values) (codes "/genesis") [] 0 holders) (λ genesis.
     and_then (tested (nat_lt (total genesis) (2 ^ 128)) (Err GenesisTooBig)) (λ _.
-    and_then (tested (nat_le (count list) 100000) (Err TooMany)) (λ _.
-    and_then (each_from (entry_at values) (codes "/entries") [] 0 list) (λ entries.
-    Ok (record { genesis = genesis; entries = entries })))))
+    and_then (epochs_of values epochs) (λ begun.
+    and_then (entries_of values list) (λ entries.
+    Ok (record { genesis = genesis; epochs = begun; entries = entries })))))
 unfolding file_by
-file_is values holders list = refl
+file_is values holders epochs list = refl

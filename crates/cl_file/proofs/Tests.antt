@@ -28,8 +28,8 @@ count_is : (xs : List Value) → count (items_view xs) ≡ length xs
 count_is [] = refl
 count_is (x ∷ xs) = ap suc (count_is xs)
 
-pub few : (xs : List Value) → length xs ≤ 100000 → nat_le (count (items_view xs)) 100000 ≡ true
-few xs h = ap (λ n. nat_le n 100000) (count_is xs) ∙ le-leb (length xs) 100000 h
+pub at_most : (n : ℕ) (xs : List Value) → length xs ≤ n → nat_le (count (items_view xs)) n ≡ true
+at_most n xs h = ap (λ m. nat_le m n) (count_is xs) ∙ le-leb (length xs) n h
 
-pub many : (xs : List Value) → 100000 < length xs → nat_le (count (items_view xs)) 100000 ≡ false
-many xs h = ap (λ n. nat_le n 100000) (count_is xs) ∙ lt-leb (length xs) 100000 h
+pub more_than : (n : ℕ) (xs : List Value) → n < length xs → nat_le (count (items_view xs)) n ≡ false
+more_than n xs h = ap (λ m. nat_le m n) (count_is xs) ∙ lt-leb (length xs) n h

@@ -3,6 +3,7 @@ use Rattle.std.specs.Prelude.{◌≡◌, ℕ, suc, ◌++◌, ◌^◌, nat_eq, na
 use Rattle.std.specs.List.{list_any, sum_by}
 use Rattle.std.specs.Option.{option_map_or}
 use Rattle.std.specs.Map.{keys_of}
+use Rattle.std.specs.Str.{chars}
 use Rattle.serde_json.specs.Data.{Data, Items, no_items, item}
 use Rattle.serde_json.specs.Find.{get, as_array, as_object}
 use Rattle.cl_c32.specs.declared.principal.Principal.{Principal}
@@ -12,14 +13,17 @@ use Rattle.cl_file.specs.Paths.{Read, and_then, said, each_from}
 use Rattle.cl_file.specs.Objects.{Values, Texts, Kind, plain, needed, only}
 use Rattle.cl_file.specs.Kinds.{whole, principal, an_amount}
 use Rattle.cl_file.specs.Names.{names_of}
+use Rattle.cl_costs.specs.Schedules.{Epoch}
+use Rattle.cl_file.specs.Epochs.{next_epoch}
 use Rattle.cl_file.specs.Entries.{entry_at}
 use Rattle.cl_file.specs.declared.entry.Entry.{Entry}
-use Rattle.cl_file.specs.declared.names.Object.TheVariants.{Holder, File}
-use Rattle.cl_file.specs.declared.refusal.TxRefusal.TheVariants.{NotJson, TooMany, GenesisTooBig, Version}
+use Rattle.cl_file.specs.declared.names.Object.TheVariants.{Holder, File, SecondFile}
+use Rattle.cl_file.specs.declared.refusal.TxRefusal.TheVariants.{NotJson, BadValue, TooMany, GenesisTooBig, Version}
 
 -- a transaction file
 pub record FileSeen : Type 0 where
   pub genesis : List (Principal × ℕ)
+  pub epochs : List Epoch
   pub entries : List Entry
 
 -- the test, and where it fails the refusal
@@ -57,8 +61,8 @@ abbrev pub count : Items → ℕ
 count no_items = 0
 count (item d ds) = suc (count ds)
 
-abbrev pub is_version_1 : Data → Bool
-is_version_1 d = option_map_or (λ n. nat_eq n 1) (option_and_then whole (get (codes "version") d)) false
+abbrev pub has_version : ℕ → Data → Bool
+has_version version d = option_map_or (λ n. nat_eq n version) (option_and_then whole (get (codes "version") d)) false
 
 -- an array's items
 abbrev pub items : Kind Items
@@ -67,28 +71,53 @@ items values path d = said path (as_array d)
 abbrev pub total : List (Principal × ℕ) → ℕ
 total holders = sum_by (λ h. h.1) holders
 
--- The top members were read: the holders, their sum, the number of entries, and the entries.
-unfoldable pub file_by : Values → Items → Items → Read FileSeen
-file_by values holders items =
+-- at most 64 epochs
+unfoldable pub epochs_of : Values → Items → Read (List Epoch)
+epochs_of values items =
+    and_then (tested (nat_le (count items) 64) (Err (BadValue (chars (codes "/epochs"))))) (λ _.
+    each_from (next_epoch values) (codes "/epochs") [] 0 items)
+
+-- at most 100,000 entries
+unfoldable pub entries_of : Values → Items → Read (List Entry)
+entries_of values items =
+    and_then (tested (nat_le (count items) 100000) (Err TooMany)) (λ _.
+    each_from (entry_at values) (codes "/entries") [] 0 items)
+
+-- The top members were read: the holders, their sum, the epochs, and the entries.
+unfoldable pub file_by : Values → Items → Items → Items → Read FileSeen
+file_by values holders epochs items =
     and_then (each_from (holder_at values) (codes "/genesis") [] 0 holders) (λ genesis.
     and_then (tested (nat_lt (total genesis) (2 ^ 128)) (Err GenesisTooBig)) (λ _.
-    and_then (tested (nat_le (count items) 100000) (Err TooMany)) (λ _.
-    and_then (each_from (entry_at values) (codes "/entries") [] 0 items) (λ entries.
-    Ok (record { genesis = genesis; entries = entries })))))
+    and_then (epochs_of values epochs) (λ begun.
+    and_then (entries_of values items) (λ entries.
+    Ok (record { genesis = genesis; epochs = begun; entries = entries })))))
 
--- the top members, and what they hold
+-- the top members of version 1, which has no epochs, and what they hold
 unfoldable pub members_of : Values → Data → Read FileSeen
 members_of values d =
     and_then (only [] (names_of File) d) (λ _.
     and_then (needed items values [] (codes "genesis") d) (λ holders.
     and_then (needed items values [] (codes "entries") d) (λ entries.
-    file_by values holders entries)))
+    file_by values holders no_items entries)))
+
+-- those of version 2
+unfoldable pub second_members_of : Values → Data → Read FileSeen
+second_members_of values d =
+    and_then (only [] (names_of SecondFile) d) (λ _.
+    and_then (needed items values [] (codes "genesis") d) (λ holders.
+    and_then (needed items values [] (codes "epochs") d) (λ epochs.
+    and_then (needed items values [] (codes "entries") d) (λ entries.
+    file_by values holders epochs entries))))
 
 abbrev pub is_object : Data → Bool
 is_object d = is_some (as_object d)
 
 unfoldable pub file_in : Values → Data → Read FileSeen
-file_in values d = if is_object d then (if is_version_1 d then members_of values d else Err Version) else Err NotJson
+file_in values d =
+    if is_object d then
+    (if has_version 1 d then members_of values d
+    else (if has_version 2 d then second_members_of values d else Err Version))
+    else Err NotJson
 
 abbrev pub json_file : Values → Option Data → Read FileSeen
 json_file values json = option_map_or (file_in values) json (Err NotJson)

@@ -4,5 +4,6 @@ pub mod Kinds
 pub mod Names
 pub mod Conditions
 pub mod Entries
+pub mod Epochs
 pub mod Files
 pub mod Laws

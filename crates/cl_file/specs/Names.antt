@@ -2,7 +2,7 @@
 use Rattle.std.specs.Prelude.{ℕ, List, [], ◌∷◌, codes, Option, Some, None, if◌then◌else◌}
 use Rattle.std.specs.Str.{bytes_eq}
 use Rattle.cl_file.specs.declared.names.Object.{Object}
-use Rattle.cl_file.specs.declared.names.Object.TheVariants.{Stx, Ft, Nft, Holder, Block, Deploy, Call, File}
+use Rattle.cl_file.specs.declared.names.Object.TheVariants.{Stx, Ft, Nft, Holder, Block, Deploy, Call, Epoch, File, SecondFile}
 use Rattle.cl_file.specs.declared.names.ConditionKind.{ConditionKind}
 use Rattle.cl_file.specs.declared.names.ConditionKind.TheVariants as on
 use Rattle.cl_file.specs.declared.names.EntryKind.{EntryKind}
@@ -16,7 +16,9 @@ names_of Holder = codes "principal" ∷ codes "stx" ∷ []
 names_of Block = codes "height" ∷ []
 names_of Deploy = codes "sender" ∷ codes "name" ∷ codes "source" ∷ codes "limit" ∷ codes "mode" ∷ codes "post" ∷ codes "clarity" ∷ []
 names_of Call = codes "sender" ∷ codes "contract" ∷ codes "function" ∷ codes "args" ∷ codes "limit" ∷ codes "mode" ∷ codes "post" ∷ []
+names_of Epoch = codes "height" ∷ codes "costs" ∷ []
 names_of File = codes "version" ∷ codes "genesis" ∷ codes "entries" ∷ []
+names_of SecondFile = codes "version" ∷ codes "genesis" ∷ codes "epochs" ∷ codes "entries" ∷ []
 
 -- what a condition is on whose one member has this name
 abbrev pub condition_kind : List ℕ → Option ConditionKind

@@ -6,6 +6,7 @@ mod condition;
 mod conditions;
 mod entries;
 mod entry;
+mod epochs;
 mod examples;
 mod file;
 mod holders;
@@ -23,7 +24,7 @@ mod tx_file;
 
 pub use conditions::Conditions;
 pub use entry::{Common, Entry};
-pub use examples::{faults_by_example, files_by_example, versions_by_example};
+pub use examples::{epochs_by_example, faults_by_example, files_by_example, versions_by_example};
 pub use file::read;
 pub use laws::files_have_one_reading;
 pub use refusal::TxRefusal;

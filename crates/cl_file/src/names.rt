@@ -12,7 +12,10 @@ pub(crate) enum Object {
     Block,
     Deploy,
     Call,
+    Epoch,
+    /// The file of version 1, and that of version 2.
     File,
+    SecondFile,
 }
 
 /// What a condition is on.
@@ -71,7 +74,9 @@ pub(crate) fn names_of(object: Object) -> &'static [&'static str]
         Object::Call => &[
             "sender", "contract", "function", "args", "limit", "mode", "post",
         ],
+        Object::Epoch => &["height", "costs"],
         Object::File => &["version", "genesis", "entries"],
+        Object::SecondFile => &["version", "genesis", "epochs", "entries"],
     }
 }
 

@@ -56,10 +56,10 @@ module _ (sound : FunctionsAreSound) (limits : LimitsLeaveSound) (W : Deployed) 
   one_function f g e = cc
 
   -- of a function that callers see: a value of its return type and a state that is kept, an abort, or a charge above the limit
-  signed_call : (costs : Costs) (known : List Known) → AreContracts costs W known → Kept W Whole s → (k : Known) → known_at F.contract known ≡ Some k → (g : Signature) → signature_in x k.functions ≡ Some g →
+  signed_call : (known : List Known) → AreContracts W known → Kept W Whole s → (k : Known) → known_at F.contract known ≡ Some k → (g : Signature) → signature_in x k.functions ≡ Some g →
       IsFineUnder (λ v. IsOf v g.returns) (Kept W Whole) left
-  signed_call costs known contracts kept k at g told =
-      let f = sound costs W known contracts table F.contract k at x g told in
+  signed_call known contracts kept k at g told =
+      let f = sound W known contracts table F.contract k at x g told in
       let same : f.function ≡ call.function = one_function f.function call.function (sym f.there ∙ call.there) in
       let params : call.function.params ≡ g.params = ap (λ (h : Function). h.params) (sym same) ∙ f.params in
       let fitting : AreOf vs (types_of_params g) = subst (λ (ps : List (List ℕ × PlainType)). AreOf vs (map (λ (param : List ℕ × PlainType). param.1) ps)) params call.fitting in
@@ -69,8 +69,8 @@ module _ (sound : FunctionsAreSound) (limits : LimitsLeaveSound) (W : Deployed) 
 
   -- what is spent of it
   pub call_spends : CallsSpendWithin → IsKeptWorld W s → (after : Purse) → ((most : Cost5) → IsAtMost (spent_in left) most → IsAtMost p.spent most → IsAtMost after.spent most) → SpendsWithin table W F.contract x p after
-  call_spends spend world after low = λ costs known contracts k at g told.
-      let f = sound costs W known contracts table F.contract k at x g told in
+  call_spends spend world after low = λ known contracts k at g told.
+      let f = sound W known contracts table F.contract k at x g told in
       let same : f.function ≡ call.function = one_function f.function call.function (sym f.there ∙ call.there) in
       let params : call.function.params ≡ g.params = ap (λ (h : Function). h.params) (sym same) ∙ f.params in
       let fitting : AreOf vs (types_of_params g) = subst (λ (ps : List (List ℕ × PlainType)). AreOf vs (map (λ (param : List ℕ × PlainType). param.1) ps)) params call.fitting in
@@ -86,29 +86,29 @@ module _ (sound : FunctionsAreSound) (limits : LimitsLeaveSound) (W : Deployed) 
   found_in (Some c) e = (c, refl, e)
 
   -- callers see each function that evaluations find
-  is_signed : FunctionsAreSigned → (costs : Costs) (known : List Known) → AreContracts costs W known → IsSigned known F.contract x
-  is_signed signed costs known contracts =
+  is_signed : FunctionsAreSigned → (known : List Known) → AreContracts W known → IsSigned known F.contract x
+  is_signed signed known contracts =
       let found = found_in (contract_at F.contract W) call.there in
-      signed costs W known contracts F.contract valid.contract found.0 found.1 x call.function found.2
+      signed W known contracts F.contract valid.contract found.0 found.1 x call.function found.2
 
   pub call_fine : FunctionsAreSigned → (world : IsKeptWorld W s) → (t : PlainType) × IsFineUnder (λ v. IsOf v t) (Kept W Whole) left
   call_fine signed world =
-      let g = is_signed signed world.costs world.known world.node.contracts in
-      (g.signature.returns, signed_call world.costs world.known world.node.contracts world.node.kept g.known g.there g.signature g.told)
+      let g = is_signed signed world.known world.node.contracts in
+      (g.signature.returns, signed_call world.known world.node.contracts world.node.kept g.known g.there g.signature g.told)
 
   given_fine : (t : PlainType) (l : Limited Val) (v : Val) (after : State) (q : Purse) → l ≡ Gave v after q → IsFineUnder (λ v. IsOf v t) (Kept W Whole) l → IsOf v t × Kept W Whole after
   given_fine t l v after q e fine = subst (IsFineUnder (λ v. IsOf v t) (Kept W Whole)) e fine
 
   -- what is given is of the return type
   pub returned_typed : (world : IsKeptWorld W s) (v : Val) (after : State) (q : Purse) → left ≡ Gave v after q → IsReturnOf W F.contract x v
-  returned_typed world v after q e = λ costs known contracts k at g told.
-      (given_fine g.returns left v after q e (signed_call costs known contracts world.node.kept k at g told)).0
+  returned_typed world v after q e = λ known contracts k at g told.
+      (given_fine g.returns left v after q e (signed_call known contracts world.node.kept k at g told)).0
 
   -- and the state then is kept
   pub call_keeps : FunctionsAreSigned → (world : IsKeptWorld W s) (v : Val) (after : State) (q : Purse) → left ≡ Gave v after q → IsKeptWorld W after
   call_keeps signed world v after q e =
       let fine = call_fine signed world in
-      record { costs = world.costs; known = world.known; node = record { contracts = world.node.contracts; kept = (given_fine fine.0 left v after q e fine.1).1 } }
+      record { known = world.known; node = record { contracts = world.node.contracts; kept = (given_fine fine.0 left v after q e fine.1).1 } }
 
 -- ---- what is left of a sound deployment
 
@@ -117,7 +117,7 @@ module _ (sound : TextsAreSound) (limits : LimitsLeaveDeployments) (W : Deployed
   left_deployed = limited table p (deployment W F (contract_with c []) s)
 
   abbrev Node : Contract → State → Type 0
-  Node d t = IsNode a.costs (d ∷ W) (a.known ++ known_of c.principal (length a.text.bytes) a.accepted.defined ∷ []) t
+  Node d t = IsNode (d ∷ W) (a.known ++ known_of c.principal (length a.text.bytes) a.accepted.defined ∷ []) t
 
   same_contract : contract_with c [] ≡ of_text c.principal a.text a.accepted.forms
   same_contract = λ i. record { principal = c.principal; version = a.version i; forms = a.forms i; source_length = a.size i; constants = [] }
@@ -125,8 +125,8 @@ module _ (sound : TextsAreSound) (limits : LimitsLeaveDeployments) (W : Deployed
   pub deployment_fine : IsFineEndUnder Node left_deployed
   deployment_fine =
       subst (λ (d : Contract). IsFineEndUnder Node (limited table p (deployment W F d s))) (sym same_contract)
-      (limits a.costs table W (a.known ++ known_of c.principal (length a.text.bytes) a.accepted.defined ∷ []) (cost_under table a.accepted.defined.deploy) (deployment W F (of_text c.principal a.text a.accepted.forms) s)
-      (sound a.costs W a.known s a.node c.principal (subst IsPrincipal (sym home) valid.contract) a.new a.text a.accepted table F (sym home) valid.sender valid.caller valid.height)
+      (limits table W (a.known ++ known_of c.principal (length a.text.bytes) a.accepted.defined ∷ []) (cost_under table a.accepted.defined.deploy) (deployment W F (of_text c.principal a.text a.accepted.forms) s)
+      (sound W a.known s a.node c.principal (subst IsPrincipal (sym home) valid.contract) a.new a.costs a.text a.accepted table F (sym home) valid.sender valid.caller valid.height)
       table p)
 
   -- what is spent of it
@@ -135,15 +135,14 @@ module _ (sound : TextsAreSound) (limits : LimitsLeaveDeployments) (W : Deployed
       let most : Cost5 = plus p.spent (cost_under table a.accepted.defined.deploy) in
       low most
       (subst (λ (d : Contract). IsAtMost (spent_in (limited table p (deployment W F d s))) most) (sym same_contract)
-      (spend a.costs table W (a.known ++ known_of c.principal (length a.text.bytes) a.accepted.defined ∷ []) (cost_under table a.accepted.defined.deploy) (deployment W F (of_text c.principal a.text a.accepted.forms) s)
-      (sound a.costs W a.known s a.node c.principal (subst IsPrincipal (sym home) valid.contract) a.new a.text a.accepted table F (sym home) valid.sender valid.caller valid.height)
+      (spend table W (a.known ++ known_of c.principal (length a.text.bytes) a.accepted.defined ∷ []) (cost_under table a.accepted.defined.deploy) (deployment W F (of_text c.principal a.text a.accepted.forms) s)
+      (sound W a.known s a.node c.principal (subst IsPrincipal (sym home) valid.contract) a.new a.costs a.text a.accepted table F (sym home) valid.sender valid.caller valid.height)
       p))
       (and_more p.spent p.spent (cost_under table a.accepted.defined.deploy) (same_cost p.spent))
 
   -- the state that it leaves is kept with the contract
   pub deployment_keeps : (d : Contract) (after : State) (q : Purse) → left_deployed ≡ Gave d after q → IsKeptWorld (d ∷ W) after
   deployment_keeps d after q e = record {
-    costs = a.costs;
     known = a.known ++ known_of c.principal (length a.text.bytes) a.accepted.defined ∷ [];
     node = subst (IsFineEndUnder Node) e deployment_fine;
   }

@@ -16,11 +16,10 @@ use Rattle.cl_contracts.specs.declared.checked.Checked.{Checked}
 use Rattle.cl_contracts.specs.Seen.{forms_of}
 use Rattle.cl_contract_sound.specs.Nodes.{AreContracts, IsNode}
 
--- the deployed contracts were accepted one after another, under some table of costs, and a state is kept as they say
+-- the deployed contracts were accepted one after another, each under some table of costs, and a state is kept as they say
 pub record IsKeptWorld (W : Deployed) (s : State) : Type 0 where
-  pub costs : CostTable
   pub known : List Known
-  pub node : IsNode costs W known s
+  pub node : IsNode W known s
 
 -- ---- calls
 
@@ -33,24 +32,24 @@ pub record IsFittingCall (W : Deployed) (p : Principal) (x : List ℕ) (vs : Lis
 -- a value is of the type that callers see returned by a function
 abbrev pub IsReturnOf : Deployed → Principal → List ℕ → Val → Type 0
 IsReturnOf W p x v =
-    (costs : CostTable) (known : List Known) → AreContracts costs W known →
+    (known : List Known) → AreContracts W known →
     (k : Known) → known_at p known ≡ Some k → (g : Signature) → signature_in x k.functions ≡ Some g → IsOf v g.returns
 
 -- what is spent of a purse, after want of memory too, is at most what was spent before and the bound of the function that callers
 -- see
 abbrev pub SpendsWithin : CostTable → Deployed → Principal → List ℕ → Purse → Purse → Type 0
 SpendsWithin table W p x before after =
-    (costs : CostTable) (known : List Known) → AreContracts costs W known →
+    (known : List Known) → AreContracts W known →
     (k : Known) → known_at p known ≡ Some k → (g : Signature) → signature_in x k.functions ≡ Some g → IsAtMost after.spent (plus before.spent (cost_under table g.bound))
 
 -- ---- deployments
 
--- A contract stands for a text that is accepted after the deployed contracts, none of which has its principal; and a state is kept
--- as these say.
+-- A contract stands for a text that is accepted after the deployed contracts, under some table of costs, and none of them has its
+-- principal; and a state is kept as they say.
 pub record IsAcceptedAfter (W : Deployed) (s : State) (c : Checked) : Type 0 where
   pub costs : CostTable
   pub known : List Known
-  pub node : IsNode costs W known s
+  pub node : IsNode W known s
   pub new : known_at c.principal known ≡ None
   pub text : Text
   pub accepted : Accepted known c.principal costs text

@@ -1,33 +1,38 @@
--- The bounds that are told of an accepted contract are those that its callers see.
+-- The lines of an accepted contract have the bounds and types that its callers see.
 use Rattle.std.proofs.Common.{◌≡◌, ◌⊎◌, inl, inr, ℕ, zero, suc, Bool, true, false, List, [], ◌∷◌, slice_get, Option, Some, None, refl, sym, ap, subst, ◌∙◌}
-use Rattle.std.specs.Prelude.{if◌then◌else◌, unwrap_or, option_map, filter_map}
+use Rattle.std.specs.Prelude.{if◌then◌else◌, unwrap_or, option_map, filter_map, Contains}
+use Rattle.std.proofs.lemmas.List.Elements.{Contains-append_left, Contains-append_right, Contains-push}
 use Rattle.std.specs.List.{cons_option}
 use Rattle.cl_forms.specs.Texts.{Text}
+use Rattle.cl_types.specs.Types.{PlainType}
 use Rattle.cl_types.proofs.Lattice.{keys_equal, key_same}
 use Rattle.cl_c32.specs.declared.principal.Principal.{Principal}
 use Rattle.cl_shapes.specs.declared.cost.Cost5.{Cost5}
+use Rattle.cl_shapes.specs.Costs.{first_above}
 use Rattle.cl_forms.specs.Forms.{Form, FormKind, ConstantForm, VariableForm, MapForm, FungibleForm, NonFungibleForm, FunctionForm, ExpressionForm}
 use Rattle.cl_meaning.specs.Limits.{Costs}
 use Rattle.cl_rules.specs.Bills.{Bill, cost_under}
-use Rattle.cl_rules.specs.Context.{Context, Known, Signature, same, named_in, signature_in}
+use Rattle.cl_rules.specs.Context.{Context, Known, Signature, same, signature_in}
 use Rattle.cl_rules.specs.Verdicts.{Found}
 use Rattle.cl_rules.specs.FormRules.{Defined, signature_of, context_after}
 use Rattle.cl_rules.specs.FormTyping.{form_typed, FormsTyped, no_more, one_more}
-use Rattle.cl_rules.specs.Acceptance.{Accepted, bound_at, bound_by, bound_of, forms_at}
+use Rattle.cl_rules.specs.Acceptance.{Accepted, most_cost, bound_at, bound_by, bound_of, forms_at}
 use Rattle.cl_contract_sound.proofs.Contexts.{signature_split}
-use Rattle.cl_tx.specs.Step.{bound_line}
+use Rattle.cl_tx.specs.declared.outcome.Reach.TheVariants.{Bound}
+use Rattle.cl_tx.specs.Step.{bound_line, return_by, return_of}
+use Rattle.cl_node_sound.specs.Told.{FunctionLine, line_named}
 
 -- ---- forms that are functions
 
-abbrev IsFunctionKind : FormKind → Type 0
+abbrev pub IsFunctionKind : FormKind → Type 0
 IsFunctionKind (FunctionForm access params body) = Unit {0}
 IsFunctionKind kind = ⊥
 
-abbrev IsFunction : List ℕ → Form → Type 0
+abbrev pub IsFunction : List ℕ → Form → Type 0
 IsFunction x form = IsFunctionKind form.kind × (unwrap_or form.name [] ≡ x)
 
 -- one of the forms is a function of this name
-abbrev IsAmong : List ℕ → List Form → Type 0
+abbrev pub IsAmong : List ℕ → List Form → Type 0
 IsAmong x [] = ⊥
 IsAmong x (form ∷ forms) = IsFunction x form ⊎ IsAmong x forms
 
@@ -83,52 +88,89 @@ among_typed D E (form ∷ forms) (one_more {E = F} (form_typed fs follows sound 
 -- ---- lines
 
 module _ (costs : Costs) (E : Defined) where
-  line_there : (kind : FormKind) (name : List ℕ) (g : Signature) → IsFunctionKind kind → signature_in name E.context.functions ≡ Some g → option_map {U = List ℕ × Cost5} (λ (bound : Bill). (name, cost_under costs bound)) (bound_by E kind name) ≡ Some (name, cost_under costs g.bound)
-  line_there (FunctionForm access params body) name g is h = ap (λ o. option_map {U = List ℕ × Cost5} (λ (bound : Bill). (name, cost_under costs bound)) (bound_at o)) h
-  line_there (ConstantForm e) name g is h = absurd is
-  line_there (VariableForm t e) name g is h = absurd is
-  line_there (MapForm k v) name g is h = absurd is
-  line_there (FungibleForm supply) name g is h = absurd is
-  line_there (NonFungibleForm t) name g is h = absurd is
-  line_there (ExpressionForm e) name g is h = absurd is
+  -- the lines of some forms by their bounds and their types
+  abbrev line_of_lists : List ℕ → List Form → Option FunctionLine
+  line_of_lists x forms = line_named x (filter_map (bound_line costs E) forms) (filter_map (return_of E) forms)
 
-  one_bound : (b c : Bill) → Some b ≡ Some c → b ≡ c
-  one_bound b c e = cc
+  module _ (x : List ℕ) (g : Signature) (s : signature_in x E.context.functions ≡ Some g) where
+    -- the line is the function's
+    abbrev IsRight : Option FunctionLine → Type 0
+    IsRight o = o ≡ Some (record { reach = Bound (cost_under costs g.bound); returns = g.returns })
 
-  -- a function's line has the bound of its signature
-  line_only : (kind : FormKind) (name : List ℕ) (g : Signature) (b : Bill) → bound_by E kind name ≡ Some b → signature_in name E.context.functions ≡ Some g → b ≡ g.bound
-  line_only (FunctionForm access params body) name g b e h = one_bound b g.bound (sym e ∙ ap bound_at h)
-  line_only (ConstantForm e) name g b is h = absurd cc
-  line_only (VariableForm t e) name g b is h = absurd cc
-  line_only (MapForm k v) name g b is h = absurd cc
-  line_only (FungibleForm supply) name g b is h = absurd cc
-  line_only (NonFungibleForm t) name g b is h = absurd cc
-  line_only (ExpressionForm e) name g b is h = absurd cc
+    -- the line of a form comes first, where it is a function's
+    first : (kind : FormKind) (name : List ℕ) (bounds : List (List ℕ × Cost5)) (types : List PlainType) → (IsFunctionKind kind × (name ≡ x)) ⊎ IsRight (line_named x bounds types) →
+        IsRight (line_named x (cons_option (option_map {U = List ℕ × Cost5} (λ (bound : Bill). (name, cost_under costs bound)) (bound_by E kind name)) bounds) (cons_option (return_by E kind name) types))
+    first (FunctionForm access params body) name bounds types h = by (signature_in name E.context.functions) refl h
+      where
+        one : (f : Signature) → Some f ≡ Some g → f ≡ g
+        one f e = cc
 
-  -- the line of a function that is among the forms
-  pub lines_tell : (x : List ℕ) (g : Signature) → signature_in x E.context.functions ≡ Some g → (forms : List Form) → IsAmong x forms → named_in x (filter_map (bound_line costs E) forms) ≡ Some (cost_under costs g.bound)
-  lines_tell x g s [] h = absurd h
-  lines_tell x g s (form ∷ forms) (inl h) =
-      ap (λ (o : Option (List ℕ × Cost5)). named_in x (cons_option o (filter_map (bound_line costs E) forms)))
-      (line_there form.kind (unwrap_or form.name []) g h.0 (ap (λ y. signature_in y E.context.functions) h.1 ∙ s))
-      ∙ ap (λ (b : Bool). if b then Some (cost_under costs g.bound) else named_in x (filter_map (bound_line costs E) forms)) (ap (λ y. same y x) h.1 ∙ key_same x)
-  lines_tell x g s (form ∷ forms) (inr h) = by (bound_of E form) refl (lines_tell x g s forms h)
-    where
-      rest : List (List ℕ × Cost5)
-      rest = filter_map (bound_line costs E) forms
+        none : None ≡ Some g → ⊥
+        none e = cc
 
-      by_name : (b : Bill) → bound_of E form ≡ Some b → named_in x rest ≡ Some (cost_under costs g.bound) → (t : Bool) → same (unwrap_or form.name []) x ≡ t → (if t then Some (cost_under costs b) else named_in x rest) ≡ Some (cost_under costs g.bound)
-      by_name b e more false t = more
-      by_name b e more true t = ap (λ (c : Bill). Some (cost_under costs c)) (line_only form.kind (unwrap_or form.name []) g b e (ap (λ y. signature_in y E.context.functions) (keys_equal (unwrap_or form.name []) x t) ∙ s))
+        differ : false ≡ true → ⊥
+        differ e = cc
 
-      by : (o : Option Bill) → bound_of E form ≡ o → named_in x rest ≡ Some (cost_under costs g.bound) → named_in x (cons_option (option_map {U = List ℕ × Cost5} (λ (bound : Bill). (unwrap_or form.name [], cost_under costs bound)) o) rest) ≡ Some (cost_under costs g.bound)
-      by None e more = more
-      by (Some b) e more = by_name b e more (same (unwrap_or form.name []) x) refl
+        at : (f : Signature) → signature_in name E.context.functions ≡ Some f → (t : Bool) → same name x ≡ t → (Unit {0} × (name ≡ x)) ⊎ IsRight (line_named x bounds types) →
+            IsRight (if t then Some (record { reach = Bound (cost_under costs f.bound); returns = f.returns }) else line_named x bounds types)
+        at f e true j h =
+            ap (λ (f : Signature). Some (record { reach = Bound (cost_under costs f.bound); returns = f.returns })) (one f (sym e ∙ ap (λ y. signature_in y E.context.functions) (keys_equal name x j) ∙ s))
+        at f e false j (inl h) = absurd (differ (sym j ∙ ap (λ y. same y x) h.1 ∙ key_same x))
+        at f e false j (inr h) = h
 
--- what is told of an accepted text has each function that it defines, with its bound
-pub accepted_lines : (costs : Costs) (ks : List Known) (p : Principal) (source : Text) (a : Accepted ks p costs source) (x : List ℕ) (g : Signature) → signature_in x a.defined.context.functions ≡ Some g → named_in x (filter_map (bound_line costs a.defined) a.forms) ≡ Some (cost_under costs g.bound)
-accepted_lines costs ks p source a x g h = by (among_typed _ a.defined (forms_at a.forms a.order) a.typed.are_typed x g h)
+        by : (o : Option Signature) → signature_in name E.context.functions ≡ o → (Unit {0} × (name ≡ x)) ⊎ IsRight (line_named x bounds types) →
+            IsRight (line_named x (cons_option (option_map {U = List ℕ × Cost5} (λ (bound : Bill). (name, cost_under costs bound)) (bound_at o)) bounds) (cons_option (option_map (λ (f : Signature). f.returns) o) types))
+        by None e (inl h) = absurd (none (sym e ∙ ap (λ y. signature_in y E.context.functions) h.1 ∙ s))
+        by None e (inr h) = h
+        by (Some f) e h = at f e (same name x) refl h
+    first (ConstantForm e) name bounds types (inl h) = absurd h.0
+    first (ConstantForm e) name bounds types (inr h) = h
+    first (VariableForm t e) name bounds types (inl h) = absurd h.0
+    first (VariableForm t e) name bounds types (inr h) = h
+    first (MapForm k v) name bounds types (inl h) = absurd h.0
+    first (MapForm k v) name bounds types (inr h) = h
+    first (FungibleForm supply) name bounds types (inl h) = absurd h.0
+    first (FungibleForm supply) name bounds types (inr h) = h
+    first (NonFungibleForm t) name bounds types (inl h) = absurd h.0
+    first (NonFungibleForm t) name bounds types (inr h) = h
+    first (ExpressionForm e) name bounds types (inl h) = absurd h.0
+    first (ExpressionForm e) name bounds types (inr h) = h
+
+    -- the line of a function that is among the forms
+    lines_tell : (forms : List Form) → IsAmong x forms → IsRight (line_of_lists x forms)
+    lines_tell [] h = absurd h
+    lines_tell (form ∷ forms) (inl h) = first form.kind (unwrap_or form.name []) (filter_map (bound_line costs E) forms) (filter_map (return_of E) forms) (inl h)
+    lines_tell (form ∷ forms) (inr h) = first form.kind (unwrap_or form.name []) (filter_map (bound_line costs E) forms) (filter_map (return_of E) forms) (inr (lines_tell forms h))
+
+  bound_there : (kind : FormKind) (name : List ℕ) (g : Signature) → IsFunctionKind kind → signature_in name E.context.functions ≡ Some g → bound_by E kind name ≡ Some g.bound
+  bound_there (FunctionForm access params body) name g is h = ap bound_at h
+  bound_there (ConstantForm e) name g is h = absurd is
+  bound_there (VariableForm t e) name g is h = absurd is
+  bound_there (MapForm k v) name g is h = absurd is
+  bound_there (FungibleForm supply) name g is h = absurd is
+  bound_there (NonFungibleForm t) name g is h = absurd is
+  bound_there (ExpressionForm e) name g is h = absurd is
+
+  -- where the bounds of all forms are within the limit, so is that of a function among them
+  bounded_among : (x : List ℕ) (g : Signature) → signature_in x E.context.functions ≡ Some g → (forms : List Form) → IsAmong x forms → ((form : Form) (bound : Bill) → Contains forms form → bound_of E form ≡ Some bound → first_above most_cost (cost_under costs bound) ≡ None) → first_above most_cost (cost_under costs g.bound) ≡ None
+  bounded_among x g s [] h all = absurd h
+  bounded_among x g s (form ∷ forms) (inl h) all =
+      all form g.bound (Contains-append_left (form ∷ []) forms form (Contains-push [] form)) (bound_there form.kind (unwrap_or form.name []) g h.0 (ap (λ y. signature_in y E.context.functions) h.1 ∙ s))
+  bounded_among x g s (form ∷ forms) (inr h) all = bounded_among x g s forms h (λ f b there. all f b (Contains-append_right (form ∷ []) forms f there))
+
+-- each function that an accepted text defines is one of its forms
+pub accepted_among : (costs : Costs) (ks : List Known) (p : Principal) (source : Text) (a : Accepted ks p costs source) (x : List ℕ) (g : Signature) → signature_in x a.defined.context.functions ≡ Some g → IsAmong x a.forms
+accepted_among costs ks p source a x g h = by (among_typed _ a.defined (forms_at a.forms a.order) a.typed.are_typed x g h)
   where
-    by : (None ≡ Some g) ⊎ IsAmong x (forms_at a.forms a.order) → named_in x (filter_map (bound_line costs a.defined) a.forms) ≡ Some (cost_under costs g.bound)
+    by : (None ≡ Some g) ⊎ IsAmong x (forms_at a.forms a.order) → IsAmong x a.forms
     by (inl k) = absurd cc
-    by (inr k) = lines_tell costs a.defined x g h a.forms (among_at x a.forms a.order k)
+    by (inr k) = among_at x a.forms a.order k
+
+module _ (costs : Costs) (ks : List Known) (p : Principal) (source : Text) (a : Accepted ks p costs source) (x : List ℕ) (g : Signature) (s : signature_in x a.defined.context.functions ≡ Some g) where
+  -- the lines of an accepted text have each function that it defines, with its bound and its type
+  pub accepted_lines : line_of_lists costs a.defined x a.forms ≡ Some (record { reach = Bound (cost_under costs g.bound); returns = g.returns })
+  accepted_lines = lines_tell costs a.defined x g s a.forms (accepted_among costs ks p source a x g s)
+
+  -- and this bound is within the limit
+  pub accepted_bounded : first_above most_cost (cost_under costs g.bound) ≡ None
+  accepted_bounded = bounded_among costs a.defined x g s a.forms (accepted_among costs ks p source a x g s) a.bounded.functions

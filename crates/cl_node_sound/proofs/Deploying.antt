@@ -33,13 +33,13 @@ use Rattle.cl_node_sound.proofs.SameContracts.{from_front, contracts_moved, kept
 use Rattle.cl_node_sound.proofs.Enough.{IsPassed, passes_not}
 use Rattle.cl_node_sound.proofs.Calling.{Comes, aborted_sound, failed_sound, stopped_sound, settled_sound}
 
-module _ (costs : Costs) (node : NodeSeen) (N : IsSoundNode costs node) where
+module _ (costs : Costs) (node : NodeSeen) (N : IsSoundNode node) where
   -- one more contract
-  done : (told : Told) (known : Known) (c : Contract) (cost : Cost5) (s : State) → IsNode costs (c ∷ node.contracts) (node.known ++ known ∷ []) s → IsSoundNode costs (moves_on (with_contract node c known) told Done cost s).node
+  done : (told : Told) (known : Known) (c : Contract) (cost : Cost5) (s : State) → IsNode (c ∷ node.contracts) (node.known ++ known ∷ []) s → IsSoundNode (moves_on (with_contract node c known) told Done cost s).node
   done told known c cost s n =
       let same = from_front c node.contracts n.contracts.distinct in
       record {
-        contracts = contracts_moved (c ∷ node.contracts) (node.contracts ++ c ∷ []) same costs (node.known ++ known ∷ []) n.contracts;
+        contracts = contracts_moved (c ∷ node.contracts) (node.contracts ++ c ∷ []) same (node.known ++ known ∷ []) n.contracts;
         kept = kept_moved (c ∷ node.contracts) (node.contracts ++ c ∷ []) same Whole s n.kept;
         height = N.height;
         no_events = refl;
@@ -50,23 +50,23 @@ module _ (costs : Costs) (node : NodeSeen) (N : IsSoundNode costs node) where
   abbrev AnyTree : Tree → Type 0
   AnyTree v = Unit {0}
 
-  ended : (Low : Cost5 → Type 0) (Reason : Type 0) (common : Common) (told : Told) (known : Known) (l : Limited Contract) → IsFineEndUnder (λ d t. IsNode costs (d ∷ node.contracts) (node.known ++ known ∷ []) t) l → Low (charged l) → (IsPassed l → Reason) → Comes costs told Low AnyTree Reason (deployment_ended common node told known l)
-  ended Low Reason common told known (Gave c s purse) fine low reason = settled_sound costs node N told Low AnyTree Reason (holds s.moves common.mode common.conditions) (with_contract node c known) Done purse.spent s (done told known c purse.spent s fine) low (λ v e. tt) (λ h. h)
-  ended Low Reason common told known (Threw v s purse) fine low reason = failed_sound costs node N told Low AnyTree Reason (Aborted EarlyTop) purse.spent low (λ v e. tt) (λ h. h)
-  ended Low Reason common told known (AbortedBy why purse) fine low reason = aborted_sound costs node N told Low AnyTree Reason why purse.spent low
-  ended Low Reason common told known (Passed over purse) fine low reason = stopped_sound costs node N told Low AnyTree Reason over over.attempted low (reason tt)
+  ended : (Low : Cost5 → Type 0) (Reason : Type 0) (common : Common) (told : Told) (known : Known) (l : Limited Contract) → IsFineEndUnder (λ d t. IsNode (d ∷ node.contracts) (node.known ++ known ∷ []) t) l → Low (charged l) → (IsPassed l → Reason) → Comes told Low AnyTree Reason (deployment_ended common node told known l)
+  ended Low Reason common told known (Gave c s purse) fine low reason = settled_sound node N told Low AnyTree Reason (holds s.moves common.mode common.conditions) (with_contract node c known) Done purse.spent s (done told known c purse.spent s fine) low (λ v e. tt) (λ h. h)
+  ended Low Reason common told known (Threw v s purse) fine low reason = failed_sound node N told Low AnyTree Reason (Aborted EarlyTop) purse.spent low (λ v e. tt) (λ h. h)
+  ended Low Reason common told known (AbortedBy why purse) fine low reason = aborted_sound node N told Low AnyTree Reason why purse.spent low
+  ended Low Reason common told known (Passed over purse) fine low reason = stopped_sound node N told Low AnyTree Reason over over.attempted low (reason tt)
   ended Low Reason common told known (Lost purse) fine low reason = absurd fine
 
   pub deployment_comes : (common : Common) → IsAddress common.sender → (principal : Principal) → IsPrincipal principal → known_at principal node.known ≡ None → (source : Text) (accepted : Accepted node.known principal costs source) →
-      Comes costs (told_of costs accepted.defined accepted.forms) (λ c. IsAtMost c (cost_under costs accepted.defined.deploy)) AnyTree (IsAtMost (cost_under costs accepted.defined.deploy) (limit_of common.limit) → ⊥) (run_deployment costs node common principal source accepted.forms accepted.defined)
+      Comes (told_of costs accepted.defined accepted.forms) (λ c. IsAtMost c (cost_under costs accepted.defined.deploy)) AnyTree (IsAtMost (cost_under costs accepted.defined.deploy) (limit_of common.limit) → ⊥) (run_deployment costs node common principal source accepted.forms accepted.defined)
   unfolding run_deployment
   deployment_comes common sender principal valid new source accepted =
       let frame = frame_of node common.sender principal in
       let purse = purse_of common in
       let bound = cost_under costs accepted.defined.deploy in
-      let sound = text_is_sound costs node.contracts node.known node.state (record { contracts = N.contracts; kept = N.kept }) principal valid new source accepted costs frame refl (sender, tt) (sender, tt) N.height in
+      let sound = text_is_sound node.contracts node.known node.state (record { contracts = N.contracts; kept = N.kept }) principal valid new costs source accepted costs frame refl (sender, tt) (sender, tt) N.height in
       ended (λ c. IsAtMost c bound) (IsAtMost bound (limit_of common.limit) → ⊥) common (told_of costs accepted.defined accepted.forms) (known_of principal (length source.bytes) accepted.defined) (limited costs purse (deployment node.contracts frame (of_text principal source accepted.forms) node.state))
-      (end_under (λ d t. IsNode costs (d ∷ node.contracts) (node.known ++ known_of principal (length source.bytes) accepted.defined ∷ []) t) (deployment node.contracts frame (of_text principal source accepted.forms) node.state) sound.outcome costs purse)
+      (end_under (λ d t. IsNode (d ∷ node.contracts) (node.known ++ known_of principal (length source.bytes) accepted.defined ∷ []) t) (deployment node.contracts frame (of_text principal source accepted.forms) node.state) sound.outcome costs purse)
       (at_most _ (cost costs (deployment node.contracts frame (of_text principal source accepted.forms) node.state)) bound (charged_low costs purse.limit (deployment node.contracts frame (of_text principal source accepted.forms) node.state)) sound.within)
       (λ passed enough. passes_not costs bound purse.limit (deployment node.contracts frame (of_text principal source accepted.forms) node.state) sound.within enough passed)
 
@@ -79,7 +79,7 @@ module _ (costs : Costs) (node : NodeSeen) (N : IsSoundNode costs node) where
       limited costs (purse_of common) (deployment node.contracts (frame_of node common.sender principal) (of_text principal source accepted.forms) node.state) ≡ Gave c s purse → AreBound accepted.defined.context.constants c.constants
   constants_bound common sender principal valid new source accepted c s purse is =
       let frame = frame_of node common.sender principal in
-      let sound = text_is_done costs node.contracts node.known node.state (record { contracts = N.contracts; kept = N.kept }) principal valid new source accepted costs frame refl (sender, tt) (sender, tt) N.height in
+      let sound = text_is_done node.contracts node.known node.state (record { contracts = N.contracts; kept = N.kept }) principal valid new costs source accepted costs frame refl (sender, tt) (sender, tt) N.height in
       let under = end_under (IsLeft principal source accepted) (deployment node.contracts frame (of_text principal source accepted.forms) node.state) sound.outcome costs (purse_of common) in
       let done : IsLeft principal source accepted c s = subst (IsFineEndUnder (IsLeft principal source accepted)) is under in
       subst (AreBound accepted.defined.context.constants) (sym (ap (λ (c : Contract). c.constants) done.is)) done.constants

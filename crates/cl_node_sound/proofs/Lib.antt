@@ -8,3 +8,4 @@ pub mod NewContracts
 pub mod KnownStay
 pub mod BoundsSeen
 pub mod Told
+mod Rebounds

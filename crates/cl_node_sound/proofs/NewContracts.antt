@@ -8,12 +8,11 @@ use Rattle.cl_tokens.specs.Ledger.{Ledger}
 use Rattle.cl_tokens.specs.Owners.{Owners}
 use Rattle.cl_events.specs.State.{place}
 use Rattle.cl_meaning.specs.Deployed.{Contract, contract_at}
-use Rattle.cl_meaning.specs.Limits.{Costs}
 use Rattle.cl_contract_sound.proofs.States.{places_same}
 use Rattle.cl_tx.specs.Nodes.{NodeSeen}
 use Rattle.cl_node_sound.specs.Sound.{IsSoundNode}
 
-module _ (costs : Costs) (node : NodeSeen) (N : IsSoundNode costs node) (p : Principal) (valid : IsPrincipal p) (new : contract_at p node.contracts ≡ None) where
+module _ (node : NodeSeen) (N : IsSoundNode node) (p : Principal) (valid : IsPrincipal p) (new : contract_at p node.contracts ≡ None) where
   -- a place of the principal's is no place of a deployed contract's
   no_place : (c : Contract) (x y : List ℕ) → Contains node.contracts c → place p x ≡ place c.principal y → ⊥
   no_place c x y there is =

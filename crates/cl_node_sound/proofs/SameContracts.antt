@@ -10,7 +10,7 @@ use Rattle.cl_forms.specs.Forms.{FormKind, VariableForm, MapForm, FungibleForm, 
 use Rattle.cl_events.specs.State.{State, holder, is_principal, at_rest}
 use Rattle.cl_meaning.specs.Deployed.{Contract, Deployed, contract_at}
 use Rattle.cl_meaning.specs.Kept.{Defines, Stage, Kept}
-use Rattle.cl_rules.specs.Context.{CostTable, Known}
+use Rattle.cl_rules.specs.Context.{Known}
 use Rattle.cl_expression_sound.specs.Stages.{AreDistinct}
 use Rattle.cl_contract_sound.specs.Nodes.{AreOfTexts, none_yet, and_one, AreContracts}
 
@@ -21,17 +21,17 @@ pub record AreSame (W V : Deployed) : Type 0 where
   pub back : (c : Contract) → Contains V c → Contains W c
 
 module _ (W V : Deployed) (S : AreSame W V) where
-  texts_moved : (costs : CostTable) (ks : List Known) → AreOfTexts costs W ks → AreOfTexts costs V ks
-  texts_moved costs ks (none_yet e) = none_yet e
-  texts_moved costs ks (and_one {before = before} c k texts new h there is) = and_one c k (texts_moved costs before texts) new h (S.found c.principal ∙ there) is
+  texts_moved : (ks : List Known) → AreOfTexts W ks → AreOfTexts V ks
+  texts_moved ks (none_yet e) = none_yet e
+  texts_moved ks (and_one {before = before} c k texts new h there is) = and_one c k (texts_moved before texts) new h (S.found c.principal ∙ there) is
 
-  pub contracts_moved : (costs : CostTable) (ks : List Known) → AreContracts costs W ks → AreContracts costs V ks
-  contracts_moved costs ks A = record {
+  pub contracts_moved : (ks : List Known) → AreContracts W ks → AreContracts V ks
+  contracts_moved ks A = record {
     distinct = record {
       valid = λ c h. A.distinct.valid c (S.back c h);
       found = λ c h. S.found c.principal ∙ A.distinct.found c (S.back c h);
     };
-    texts = texts_moved costs ks A.texts;
+    texts = texts_moved ks A.texts;
     known = λ c h. A.known c (S.back c h);
   }
 

@@ -1,4 +1,5 @@
--- Sound nodes: each contract stands for one accepted text, the state is kept, and nothing was told or moved.
+-- Sound nodes: each contract stands for one text, accepted under some table of its own, the state is kept, and nothing was told or
+-- moved.
 use Rattle.std.specs.Prelude.{◌≡◌, ℕ, ◌<◌, ◌^◌, true, false, List, [], Option, Some, None}
 use Rattle.std.specs.List.{All}
 use Rattle.cl_types.specs.Types.{PlainType}
@@ -6,7 +7,7 @@ use Rattle.cl_c32.specs.Address.{IsAddress}
 use Rattle.cl_c32.specs.ContractName.{IsContractName}
 use Rattle.cl_c32.specs.declared.principal.Principal.{Principal}
 use Rattle.cl_shapes.specs.declared.cost.Cost5.{Cost5}
-use Rattle.cl_shapes.specs.Costs.{IsAtMost}
+use Rattle.cl_shapes.specs.Costs.{first_above, IsAtMost}
 use Rattle.cl_values.specs.Tree.{Tree, ResponseV}
 use Rattle.cl_values.specs.Typed.{IsOf}
 use Rattle.cl_values.specs.Valid.{IsVal, IsPrincipal}
@@ -14,6 +15,7 @@ use Rattle.cl_meaning.specs.Kept.{Whole, Kept}
 use Rattle.cl_meaning.specs.Limits.{Costs}
 use Rattle.cl_rules.specs.Bills.{cost_under}
 use Rattle.cl_rules.specs.Context.{Known, Names, Signature, known_at, named_in, signature_in}
+use Rattle.cl_rules.specs.Acceptance.{most_cost}
 use Rattle.cl_contract_sound.specs.Nodes.{AreContracts}
 use Rattle.cl_file.specs.declared.entry.Entry.{Entry}
 use Rattle.cl_file.specs.declared.entry.Entry.TheVariants.{Deploy, Call, Block}
@@ -22,19 +24,20 @@ use Rattle.cl_tx.specs.declared.outcome.Outcome.{Outcome}
 use Rattle.cl_tx.specs.declared.outcome.Outcome.TheVariants.{Good, Bad, Plain}
 use Rattle.cl_tx.specs.Nodes.{NodeSeen}
 
-pub record IsSoundNode (costs : Costs) (node : NodeSeen) : Type 0 where
-  pub contracts : AreContracts costs node.contracts node.known
+pub record IsSoundNode (node : NodeSeen) : Type 0 where
+  pub contracts : AreContracts node.contracts node.known
   pub kept : Kept node.contracts Whole node.state
   pub height : node.height < 2 ^ 128
   pub no_events : node.state.events ≡ []
   pub no_moves : node.state.moves ≡ []
 
--- a cost is at most the bound of the function that callers see under this name
+-- under this table the function that callers see under this name has a bound within the limit, and a cost is at most that
 pub record IsWithinBound (costs : Costs) (ks : List Known) (p : Principal) (x : List ℕ) (cost : Cost5) : Type 0 where
   pub known : Known
   pub signature : Signature
   pub there : known_at p ks ≡ Some known
   pub told : signature_in x known.functions ≡ Some signature
+  pub bounded : first_above most_cost (cost_under costs signature.bound) ≡ None
   pub low : IsAtMost cost (cost_under costs signature.bound)
 
 -- the value that a call gives: an ok and an err are responses

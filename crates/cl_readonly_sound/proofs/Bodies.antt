@@ -16,7 +16,7 @@ use Rattle.cl_order.proofs.Good.{order_good}
 use Rattle.cl_meaning.specs.Deployed.{Contract, Function, has_name, form_of, as_function, function_in}
 use Rattle.cl_meaning.specs.Deploying.{forms_at}
 use Rattle.cl_meaning.specs.Kept.{IsAmong}
-use Rattle.cl_rules.specs.Context.{CostTable, Context, Known}
+use Rattle.cl_rules.specs.Context.{Context, Known}
 use Rattle.cl_rules.specs.Verdicts.{Found}
 use Rattle.cl_rules.specs.Typing.{Typed, Follows, ends, part}
 use Rattle.cl_rules.specs.FormRules.{Defined, form_plan, context_after}
@@ -126,11 +126,11 @@ module _ (c : Contract) (x : List ℕ) (access : Access) (params : List (List �
       same_kind : (k l : FormKind) → Some k ≡ Some l → k ≡ l
       same_kind k l e = cc
 
-pub body_typed : (costs : CostTable) (before : List Known) (c : Contract) (k : Known) → (h : IsOfText costs before c k) → (x : List ℕ) (f : Function) → function_in x c.forms ≡ Some f → IsBody c.principal h.text.version before f.params f.body
-body_typed costs before c k h x f there =
+pub body_typed : (before : List Known) (c : Contract) (k : Known) → (h : IsOfText before c k) → (x : List ℕ) (f : Function) → function_in x c.forms ≡ Some f → IsBody c.principal h.text.version before f.params f.body
+body_typed before c k h x f there =
     let o = h.accepted.typed.is_ordered in
     let form = (function_there x c.forms f there).form in
-    let its = text_forms before costs h.text c h.accepted h.forms in
+    let its = text_forms before h.table h.text c h.accepted h.forms in
     let all = all_at (trees_of o.items) c (subst (AreFormsOf h.text.version (trees_of o.items)) (sym h.forms) o.are_forms) h.accepted.order (subst (λ fs. IsGoodOrder fs h.accepted.order) (sym h.forms) (order_good h.accepted.forms h.accepted.order o.order_is)) in
     let among = subst (λ fs. IsAmong x (forms_at fs h.accepted.order)) h.forms (all x (FunctionForm f.access f.params f.body) form) in
     body_among c x f.access f.params f.body form _ h.accepted.defined (forms_at h.accepted.forms h.accepted.order) its h.accepted.typed.are_typed among

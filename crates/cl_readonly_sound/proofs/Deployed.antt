@@ -59,27 +59,27 @@ all_apart Apart (c ∷ cs) h = (h c (Contains-append_left (c ∷ []) cs c (Conta
 -- ---- contracts that are deployed
 
 -- what callers see at a principal stands for an accepted text
-pub record IsTextAt (costs : CostTable) (W : Deployed) (q : Principal) (k : Known) : Type 0 where
+pub record IsTextAt (W : Deployed) (q : Principal) (k : Known) : Type 0 where
   pub before : List Known
   pub contract : Contract
-  pub earlier : AreOfTexts costs W before
-  pub of_text : IsOfText costs before contract k
+  pub earlier : AreOfTexts W before
+  pub of_text : IsOfText before contract k
   pub there : contract_at contract.principal W ≡ Some contract
   pub home : contract.principal ≡ q
 
-pub text_at : (costs : CostTable) (W : Deployed) (ks : List Known) → AreOfTexts costs W ks → (q : Principal) (k : Known) → known_at q ks ≡ Some k → IsTextAt costs W q k
-text_at costs W ks (none_yet e) q k h = none_at (ap (known_at q) (sym e) ∙ h)
+pub text_at : (W : Deployed) (ks : List Known) → AreOfTexts W ks → (q : Principal) (k : Known) → known_at q ks ≡ Some k → IsTextAt W q k
+text_at W ks (none_yet e) q k h = none_at (ap (known_at q) (sym e) ∙ h)
   where
-    none_at : None ≡ Some k → IsTextAt costs W q k
+    none_at : None ≡ Some k → IsTextAt W q k
     none_at e = absurd cc
-text_at costs W after (and_one {before = before} c n texts new h there is) q k e = by (known_split q before n k (ap (known_at q) (sym is) ∙ e)) (text_at costs W before texts q k)
+text_at W after (and_one {before = before} c n texts new h there is) q k e = by (known_split q before n k (ap (known_at q) (sym is) ∙ e)) (text_at W before texts q k)
   where
-    by : (known_at q before ≡ Some k) ⊎ ((n.principal ≡ q) × (n ≡ k)) → (known_at q before ≡ Some k → IsTextAt costs W q k) → IsTextAt costs W q k
+    by : (known_at q before ≡ Some k) ⊎ ((n.principal ≡ q) × (n ≡ k)) → (known_at q before ≡ Some k → IsTextAt W q k) → IsTextAt W q k
     by (inl g) more = more g
-    by (inr g) more = record { before = before; contract = c; earlier = texts; of_text = subst (IsOfText costs before c) g.1 h; there = there; home = sym (ap (λ (k : Known). k.principal) h.known) ∙ g.0 }
+    by (inr g) more = record { before = before; contract = c; earlier = texts; of_text = subst (IsOfText before c) g.1 h; there = there; home = sym (ap (λ (k : Known). k.principal) h.known) ∙ g.0 }
 
-pub stands_for : (costs : CostTable) (W : Deployed) (q : Principal) (k : Known) → IsTextAt costs W q k → StandsForText costs W q
-stands_for costs W q k t = record {
+pub stands_for : (W : Deployed) (q : Principal) (k : Known) → IsTextAt W q k → StandsForText W q
+stands_for W q k t = record {
   before = t.before;
   contract = t.contract;
   known = k;
@@ -90,8 +90,8 @@ stands_for costs W q k t = record {
 }
 
 -- a read-only function of an accepted contract doesn't write
-pub read_only_apart : (costs : CostTable) (W : Deployed) (q : Principal) (t : StandsForText costs W q) (x : List ℕ) (f : Function) → function_in x t.contract.forms ≡ Some f → f.access ≡ ReadOnly → DoesNotWrite costs W q x
-read_only_apart costs W q t x f there access =
+pub read_only_apart : (W : Deployed) (q : Principal) (t : StandsForText W q) (x : List ℕ) (f : Function) → function_in x t.contract.forms ≡ Some f → f.access ≡ ReadOnly → DoesNotWrite W q x
+read_only_apart W q t x f there access =
     let h = t.of_text in
     let is = function_there x t.contract.forms f there in
     let form = form_there x t.contract.forms (FunctionForm f.access f.params f.body) is.form in
@@ -113,18 +113,18 @@ same_access f s o g h k e = sym e ∙ ap (λ (f : Function). f.access) (same_fun
     same_function : Some s ≡ Some f → s ≡ f
     same_function e = cc
 
-access_served : (costs : CostTable) (W : Deployed) (q : Principal) (k : Known) (a : IsKnownAt W Whole q k) (x : List ℕ) (g : Signature) → signature_in x k.functions ≡ Some g → (f : Function) → function_in x a.contract.forms ≡ Some f → g.access ≡ f.access
-access_served costs W q k a x g told f is =
+access_served : (table : CostTable) (W : Deployed) (q : Principal) (k : Known) (a : IsKnownAt W Whole q k) (x : List ℕ) (g : Signature) → signature_in x k.functions ≡ Some g → (f : Function) → function_in x a.contract.forms ≡ Some f → g.access ≡ f.access
+access_served table W q k a x g told f is =
     let T = stands_in W Whole a.defined.context (whole_context W Whole q k a) in
-    let s = as_served costs W Whole a.contract x g (T.functions x g (ap (λ (k : Known). signature_in x k.functions) a.is ∙ told)) in
+    let s = as_served table W Whole a.contract x g (T.functions x g (ap (λ (k : Known). signature_in x k.functions) a.is ∙ told)) in
     same_access f s.0 (function_in x a.contract.forms) g s.1 is (ap (λ (g : Signature). g.access) s.2.signature)
 
 -- the access that callers see is the function's
-access_told : (costs : CostTable) (W : Deployed) (before : List Known) → AreOfTexts costs W before → (q : Principal) (k : Known) → known_at q before ≡ Some k → (c : Contract) → contract_at q W ≡ Some c → (x : List ℕ) (g : Signature) → signature_in x k.functions ≡ Some g → (f : Function) → function_in x c.forms ≡ Some f → g.access ≡ f.access
-access_told costs W before texts q k at c there x g told f is = by (known_there W Whole before (are_known costs W before texts) q k at)
+access_told : (table : CostTable) (W : Deployed) (before : List Known) → AreOfTexts W before → (q : Principal) (k : Known) → known_at q before ≡ Some k → (c : Contract) → contract_at q W ≡ Some c → (x : List ℕ) (g : Signature) → signature_in x k.functions ≡ Some g → (f : Function) → function_in x c.forms ≡ Some f → g.access ≡ f.access
+access_told table W before texts q k at c there x g told f is = by (known_there W Whole before (are_known W before texts) q k at)
   where
     by : IsKnownAt W Whole q k → g.access ≡ f.access
-    by a = access_served costs W q k a x g told f (ap (λ (c : Contract). function_in x c.forms) (some_contract a.contract c (sym a.there ∙ ap (λ q. contract_at q W) a.at ∙ there)) ∙ is)
+    by a = access_served table W q k a x g told f (ap (λ (c : Contract). function_in x c.forms) (some_contract a.contract c (sym a.there ∙ ap (λ q. contract_at q W) a.at ∙ there)) ∙ is)
 
 -- ---- calls of other contracts
 
@@ -189,16 +189,16 @@ told_there (Some f) g h = by f.access h
     by ReadOnly h = h
     by Private h = absurd cc
 
-module _ (costs : CostTable) (W : Deployed) where
+module _ (W : Deployed) where
   -- a function of a deployed contract, which doesn't write
   pub record IsQuietFunction (p : Principal) (f : Function) : Type 0 where
-    pub apart : DoesNotWrite costs W p f.name
+    pub apart : DoesNotWrite W p f.name
     pub there : function_in f.name apart.text.contract.forms ≡ Some f
 
   abbrev DoesNotWriteThere : Principal → Function → List ℕ → Type 0
-  DoesNotWriteThere p f y = (d : DoesNotWrite costs W p y) × (function_in y d.text.contract.forms ≡ Some f)
+  DoesNotWriteThere p f y = (d : DoesNotWrite W p y) × (function_in y d.text.contract.forms ≡ Some f)
 
-  pub quiet_function : (p : Principal) (x : List ℕ) → DoesNotWrite costs W p x → (c : Contract) → contract_at p W ≡ Some c → (f : Function) → function_in x c.forms ≡ Some f → IsQuietFunction p f
+  pub quiet_function : (p : Principal) (x : List ℕ) → DoesNotWrite W p x → (c : Contract) → contract_at p W ≡ Some c → (f : Function) → function_in x c.forms ≡ Some f → IsQuietFunction p f
   quiet_function p x d c at f is =
       let one : d.text.contract ≡ c = some_contract d.text.contract c (sym d.text.there ∙ at) in
       let there : function_in x d.text.contract.forms ≡ Some f = ap (λ (c : Contract). function_in x c.forms) one ∙ is in
@@ -206,7 +206,7 @@ module _ (costs : CostTable) (W : Deployed) where
       let h : DoesNotWriteThere p f f.name = subst (DoesNotWriteThere p f) (sym named) (d, there) in
       record { apart = h.0; there = h.1 }
 
-  quiet_one : (p : Principal) (x : List ℕ) → DoesNotWrite costs W p x → IsQuietOne W IsQuietFunction p (function_of x (contract_at p W))
+  quiet_one : (p : Principal) (x : List ℕ) → DoesNotWrite W p x → IsQuietOne W IsQuietFunction p (function_of x (contract_at p W))
   quiet_one p x d = by (contract_at p W) d.text.there
     where
       by_function : (c : Contract) → contract_at p W ≡ Some c → (o : Option Function) → function_in x c.forms ≡ o → IsQuietOne W IsQuietFunction p o
@@ -219,29 +219,29 @@ module _ (costs : CostTable) (W : Deployed) where
   -- ---- calls in the code of a deployed contract
 
   -- a function of the target that may be called doesn't write: it is read-only, since a call of a public one would write
-  target_apart : (p : Principal) (x : List ℕ) (d : DoesNotWrite costs W p x) (leaf : Leaf) (at : Span) (y : List ℕ) (at' : Span) (es : Forest) (q : Principal) (k : Known) (g : Signature) → contract_literal p leaf ≡ Some q → another_at p d.text.before q ≡ Some k → signature_in y k.functions ≡ Some g →
+  target_apart : (p : Principal) (x : List ℕ) (d : DoesNotWrite W p x) (leaf : Leaf) (at : Span) (y : List ℕ) (at' : Span) (es : Forest) (q : Principal) (k : Known) (g : Signature) → contract_literal p leaf ≡ Some q → another_at p d.text.before q ≡ Some k → signature_in y k.functions ≡ Some g →
       IsApart d.text.contract.forms (calls_public d.text.before p) (record { operator = codes "contract-call?"; parts = Then (LeafAt leaf at) (Then (LeafAt (Named y) at') es) }) →
-      (text : StandsForText costs W q) (f : Function) → function_in y text.contract.forms ≡ Some f → g.access ≡ f.access → (f.access ≡ Public) ⊎ (f.access ≡ ReadOnly) → DoesNotWrite costs W q y
+      (text : StandsForText W q) (f : Function) → function_in y text.contract.forms ≡ Some f → g.access ≡ f.access → (f.access ≡ Public) ⊎ (f.access ≡ ReadOnly) → DoesNotWrite W q y
   target_apart p x d leaf at y at' es q k g literal another told apart text f is access (inl public) =
       absurd (apart.across leaf y at at' es refl refl
       (subst (λ r. is_public_at d.text.before p r y ≡ true) (sym literal)
       (subst (λ o. is_public_in o y ≡ true) (sym another)
       (subst (λ o. is_public_there o ≡ true) (sym told)
       (subst (λ a. is_public a ≡ true) (sym public ∙ sym access) refl)))))
-  target_apart p x d leaf at y at' es q k g literal another told apart text f is access (inr read_only) = read_only_apart costs W q text y f is read_only
+  target_apart p x d leaf at y at' es q k g literal another told apart text f is access (inr read_only) = read_only_apart W q text y f is read_only
 
-  target_quiet : (p : Principal) (x : List ℕ) (d : DoesNotWrite costs W p x) (leaf : Leaf) (at : Span) (y : List ℕ) (at' : Span) (es : Forest) (q : Principal) (k : Known) (g : Signature) → contract_literal p leaf ≡ Some q → another_at p d.text.before q ≡ Some k → signature_in y k.functions ≡ Some g →
+  target_quiet : (p : Principal) (x : List ℕ) (d : DoesNotWrite W p x) (leaf : Leaf) (at : Span) (y : List ℕ) (at' : Span) (es : Forest) (q : Principal) (k : Known) (g : Signature) → contract_literal p leaf ≡ Some q → another_at p d.text.before q ≡ Some k → signature_in y k.functions ≡ Some g →
       IsApart d.text.contract.forms (calls_public d.text.before p) (record { operator = codes "contract-call?"; parts = Then (LeafAt leaf at) (Then (LeafAt (Named y) at') es) }) →
-      StandsForText costs W q → (c : Contract) → contract_at q W ≡ Some c → (f : Function) → function_in y c.forms ≡ Some f → (f.access ≡ Public) ⊎ (f.access ≡ ReadOnly) → IsQuietFunction c.principal f
+      StandsForText W q → (c : Contract) → contract_at q W ≡ Some c → (f : Function) → function_in y c.forms ≡ Some f → (f.access ≡ Public) ⊎ (f.access ≡ ReadOnly) → IsQuietFunction c.principal f
   target_quiet p x d leaf at y at' es q k g literal another told apart text c found f is callable =
       let one : text.contract ≡ c = some_contract text.contract c (sym text.there ∙ found) in
       let known : known_at q d.text.before ≡ Some k = another_there (same_principal q p) (known_at q d.text.before) k another in
-      let access : g.access ≡ f.access = access_told costs W d.text.before d.text.earlier q k known c found y g told f is in
+      let access : g.access ≡ f.access = access_told d.text.of_text.table W d.text.before d.text.earlier q k known c found y g told f is in
       let in_text : function_in y text.contract.forms ≡ Some f = ap (λ (c : Contract). function_in y c.forms) one ∙ is in
       let home : q ≡ c.principal = sym text.home ∙ ap (λ (c : Contract). c.principal) one in
       subst (λ q. IsQuietFunction q f) home (quiet_function q y (target_apart p x d leaf at y at' es q k g literal another told apart text f in_text access callable) c found f is)
 
-  target_across : (p : Principal) (x : List ℕ) (d : DoesNotWrite costs W p x) (leaf : Leaf) (at : Span) (y : List ℕ) (at' : Span) (es : Forest) (G : Context) → G.principal ≡ p → G.deployed ≡ d.text.before → IsTarget G leaf y →
+  target_across : (p : Principal) (x : List ℕ) (d : DoesNotWrite W p x) (leaf : Leaf) (at : Span) (y : List ℕ) (at' : Span) (es : Forest) (G : Context) → G.principal ≡ p → G.deployed ≡ d.text.before → IsTarget G leaf y →
       IsApart d.text.contract.forms (calls_public d.text.before p) (record { operator = codes "contract-call?"; parts = Then (LeafAt leaf at) (Then (LeafAt (Named y) at') es) }) → IsQuietAcross W IsQuietFunction p (Then (LeafAt leaf at) (Then (LeafAt (Named y) at') es))
   target_across p x d leaf at y at' es G home deployed t apart F E at_home c is f callable_told =
       let literal : contract_literal p leaf ≡ Some t.target = subst (λ r. contract_literal r leaf ≡ Some t.target) home t.literal in
@@ -252,10 +252,10 @@ module _ (costs : CostTable) (W : Deployed) where
       let named : target_of (scope W F E) (LeafAt leaf at) ≡ Some t.target = literal_is W F E p at_home leaf at t.target literal in
       let other : option_and_then (other_contract (scope W F E)) (Some t.target) ≡ Some c = subst (λ o. option_and_then (other_contract (scope W F E)) o ≡ Some c) named is in
       let found : contract_at t.target W ≡ Some c = other_there (is_principal t.target F.contract) (contract_at t.target W) c other in
-      target_quiet p x d leaf at y at' es t.target t.known t.signature literal another told apart (stands_for costs W t.target t.known (text_at costs W d.text.before d.text.earlier t.target t.known known)) c found f there.0 there.1
+      target_quiet p x d leaf at y at' es t.target t.known t.signature literal another told apart (stands_for W t.target t.known (text_at W d.text.before d.text.earlier t.target t.known known)) c found f there.0 there.1
 
   -- the function of another contract
-  across_quiet : (p : Principal) (x : List ℕ) (d : DoesNotWrite costs W p x) (G : Context) → G.principal ≡ p → G.deployed ≡ d.text.before → (B : Names) (es : Forest) →
+  across_quiet : (p : Principal) (x : List ℕ) (d : DoesNotWrite W p x) (G : Context) → G.principal ≡ p → G.deployed ≡ d.text.before → (B : Names) (es : Forest) →
       shape_rules (contract_call_shape (row_of ContractCall) G B (trees_of es)).faults ≡ [] → IsApart d.text.contract.forms (calls_public d.text.before p) (record { operator = codes "contract-call?"; parts = es }) → IsQuietAcross W IsQuietFunction p es
   across_quiet p x d G home deployed B (Then (LeafAt leaf at) (Then (LeafAt (Named y) at') es)) rules apart =
       let fine = fine_shape (contract_call_shape (row_of ContractCall) G B (trees_of (Then (LeafAt leaf at) (Then (LeafAt (Named y) at') es)))).faults rules in
@@ -266,7 +266,7 @@ module _ (costs : CostTable) (W : Deployed) where
       let bad = (fine_shape (contract_call_shape (row_of ContractCall) G B (trees_of (Then (TupleAt ps at) (Then (LeafAt (Named y) at') es)))).faults rules).literal_expected in absurd cc
   across_quiet p x d G home deployed B es rules apart = tt
 
-  calls_quiet : (p : Principal) (x : List ℕ) (d : DoesNotWrite costs W p x) (G : Context) → G.principal ≡ p → G.version ≡ d.text.contract.version → G.deployed ≡ d.text.before → CallsAreQuiet W IsQuietFunction p G (IsApart d.text.contract.forms (calls_public d.text.before p))
+  calls_quiet : (p : Principal) (x : List ℕ) (d : DoesNotWrite W p x) (G : Context) → G.principal ≡ p → G.version ≡ d.text.contract.version → G.deployed ≡ d.text.before → CallsAreQuiet W IsQuietFunction p G (IsApart d.text.contract.forms (calls_public d.text.before p))
   calls_quiet p x d G home version deployed = record {
     versions = λ y. ap (native_of y) d.text.there ∙ ap (λ v. native v y) (sym version);
     natives = λ y es apart. apart.natives;
@@ -275,7 +275,7 @@ module _ (costs : CostTable) (W : Deployed) where
     across = across_quiet p x d G home deployed;
   }
     where
-      another : (y : List ℕ) → (Writes d.text.contract.forms (calls_public d.text.before p) y → ⊥) → DoesNotWrite costs W p y
+      another : (y : List ℕ) → (Writes d.text.contract.forms (calls_public d.text.before p) y → ⊥) → DoesNotWrite W p y
       another y h = record { text = d.text; apart = h }
 
       uses : (y : List ℕ) (es : Forest) → IsApart d.text.contract.forms (calls_public d.text.before p) (record { operator = y; parts = es }) → is_one_of applying_natives y ≡ true → IsQuietUse W IsQuietFunction p es
@@ -286,7 +286,7 @@ module _ (costs : CostTable) (W : Deployed) where
   pub bodies_quiet : (p : Principal) (f : Function) → IsQuietFunction p f → IsQuiet W IsQuietFunction p f.body
   bodies_quiet p f q =
       let d = q.apart in
-      let b = body_typed costs d.text.before d.text.contract d.text.known d.text.of_text f.name f q.there in
+      let b = body_typed d.text.before d.text.contract d.text.known d.text.of_text f.name f q.there in
       let is = function_there f.name d.text.contract.forms f q.there in
       let form = form_there f.name d.text.contract.forms (FunctionForm f.access f.params f.body) is.form in
       let none : WritesIn d.text.contract.forms (calls_public d.text.before p) f.body → ⊥ = λ w. d.apart (has_writing_body (record { form = form.form; access = f.access; params = f.params; there = form.there; named = form.named; function = form.is }) w) in

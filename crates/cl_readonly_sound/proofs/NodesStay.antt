@@ -5,6 +5,8 @@ use Rattle.cl_types.specs.declared.sized.Access.{Access}
 use Rattle.cl_types.specs.declared.sized.Access.TheVariants.{Public, ReadOnly, Private}
 use Rattle.cl_c32.specs.declared.principal.Principal.{Principal}
 use Rattle.cl_shapes.specs.declared.cost.Cost5.{Cost5}
+use Rattle.cl_shapes.specs.declared.cost.Dimension.{Dimension}
+use Rattle.cl_costs.specs.Schedules.{ScheduleSeen}
 use Rattle.cl_shapes.specs.Limits.{Purse}
 use Rattle.cl_values.specs.Tree.{Tree, ResponseV}
 use Rattle.cl_events.specs.State.{State, at_rest}
@@ -17,7 +19,8 @@ use Rattle.cl_tx.specs.declared.outcome.Outcome.{Outcome as TxOutcome}
 use Rattle.cl_tx.specs.declared.outcome.Outcome.TheVariants.{Good, Plain}
 use Rattle.cl_post.specs.Post.{holds}
 use Rattle.cl_tx.specs.Nodes.{NodeSeen, Stepped, Told, nothing_told, stays, frame_of, purse_of, moves_on, settled_by, settled, answered, call_ended}
-use Rattle.cl_tx.specs.Step.{Steps, first_misfit, run_call, if_fitting, if_as_many, if_open, if_function, if_deployed, call_step}
+use Rattle.cl_tx.specs.Rebounds.{first_over}
+use Rattle.cl_tx.specs.Step.{Steps, costs_for, first_misfit, run_call, if_bounded, if_fitting, if_as_many, if_open, if_function, if_deployed, call_step}
 use Rattle.cl_node_sound.specs.Sound.{IsSoundNode, HasParts}
 use Rattle.cl_readonly_sound.specs.Untouched.{ArePrints, IsUntouched}
 use Rattle.cl_readonly_sound.specs.Laws.{DoesNotWrite}
@@ -48,7 +51,7 @@ leaves_under costs purse s a h = by (pay costs (Within purse) a.log) a.outcome
     by (Within p) Wrong = tt
     by (Within p) Deeper = tt
 
-module _ (costs : Costs) (node : NodeSeen) (N : IsSoundNode costs node) (common : Common) (p : Principal) (function : List ℕ) (args : List Tree) (d : DoesNotWrite costs node.contracts p function) where
+module _ (costs : Costs) (node : NodeSeen) (N : IsSoundNode node) (common : Common) (p : Principal) (function : List ℕ) (args : List Tree) (d : DoesNotWrite node.contracts p function) where
   -- the node is as it was, and prints are handed out
   record IsAsBefore (s : Stepped) : Type 0 where
     same : s.node ≡ node
@@ -93,10 +96,14 @@ module _ (costs : Costs) (node : NodeSeen) (N : IsSoundNode costs node) (common 
 
   run_stays : (c : Contract) (f : Function) → contract_at p node.contracts ≡ Some c → function_in function c.forms ≡ Some f → Stays (run_call costs node common p f args)
   unfolding run_call
-  run_stays c f at is = ended_stays f.access _ (leaves_under costs (purse_of common) node.state _ (call_untouched costs node.contracts p function d c at f is (frame_of node common.sender p) refl args node.state))
+  run_stays c f at is = ended_stays f.access _ (leaves_under costs (purse_of common) node.state _ (call_untouched node.contracts p function d c at f is (frame_of node common.sender p) refl args node.state))
+
+  bounded_stays : (c : Contract) (f : Function) → contract_at p node.contracts ≡ Some c → function_in function c.forms ≡ Some f → (o : Option Dimension) → Stays (if_bounded costs node common p f args o)
+  bounded_stays c f at is (Some dimension) = stays_itself _ _ _
+  bounded_stays c f at is None = run_stays c f at is
 
   fitting_stays : (c : Contract) (f : Function) → contract_at p node.contracts ≡ Some c → function_in function c.forms ≡ Some f → (o : Option ℕ) → Stays (if_fitting costs node common p f args o)
-  fitting_stays c f at is None = run_stays c f at is
+  fitting_stays c f at is None = bounded_stays c f at is (first_over costs node.known p f.name)
   fitting_stays c f at is (Some index) = stays_itself _ _ _
 
   count_stays : (c : Contract) (f : Function) → contract_at p node.contracts ≡ Some c → function_in function c.forms ≡ Some f → (b : Bool) → Stays (if_as_many costs node common p f args b)
@@ -120,12 +127,12 @@ module _ (costs : Costs) (node : NodeSeen) (N : IsSoundNode costs node) (common 
   unfolding call_step
   call_stays = contract_stays (contract_at p node.contracts) refl
 
-module _ (costs : Costs) (node : NodeSeen) (common : Common) (contract : Principal) (function : List ℕ) (args : List Tree) (s : Stepped) (parts : HasParts (Call common contract function args)) (N : IsSoundNode costs node) where
-  pub calls_keep_nodes : DoesNotWrite costs node.contracts contract function → Steps costs node (Call common contract function args) s → s.node ≡ node
-  calls_keep_nodes d step = (call_stays costs node N common contract function args d s step).same
+module _ (schedule : ScheduleSeen) (node : NodeSeen) (common : Common) (contract : Principal) (function : List ℕ) (args : List Tree) (s : Stepped) (parts : HasParts (Call common contract function args)) (N : IsSoundNode node) where
+  pub calls_keep_nodes : DoesNotWrite node.contracts contract function → Steps schedule node (Call common contract function args) s → s.node ≡ node
+  calls_keep_nodes d step = (call_stays (costs_for schedule node) node N common contract function args d s step).same
 
-  pub calls_hand_out_prints : DoesNotWrite costs node.contracts contract function → Steps costs node (Call common contract function args) s → ArePrints s.result.events
-  calls_hand_out_prints d step = (call_stays costs node N common contract function args d s step).prints
+  pub calls_hand_out_prints : DoesNotWrite node.contracts contract function → Steps schedule node (Call common contract function args) s → ArePrints s.result.events
+  calls_hand_out_prints d step = (call_stays (costs_for schedule node) node N common contract function args d s step).prints
 
-  pub read_only_keep_nodes : (c : Contract) → contract_at contract node.contracts ≡ Some c → (f : Function) → function_in function c.forms ≡ Some f → f.access ≡ ReadOnly → Steps costs node (Call common contract function args) s → s.node ≡ node
-  read_only_keep_nodes c at f is access step = calls_keep_nodes (read_only_does_not_write costs node.contracts node.known N.contracts contract parts.1 c at function f is access) step
+  pub read_only_keep_nodes : (c : Contract) → contract_at contract node.contracts ≡ Some c → (f : Function) → function_in function c.forms ≡ Some f → f.access ≡ ReadOnly → Steps schedule node (Call common contract function args) s → s.node ≡ node
+  read_only_keep_nodes c at f is access step = calls_keep_nodes (read_only_does_not_write node.contracts node.known N.contracts contract parts.1 c at function f is access) step

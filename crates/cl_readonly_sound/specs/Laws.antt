@@ -6,11 +6,11 @@ use Rattle.cl_values.specs.Tree.{Tree}
 use Rattle.cl_values.specs.Valid.{IsPrincipal}
 use Rattle.cl_forms.specs.Writes.{Writes}
 use Rattle.cl_events.specs.State.{State}
+use Rattle.cl_costs.specs.Schedules.{ScheduleSeen}
 use Rattle.cl_meaning.specs.Deployed.{Contract, Deployed, Function, contract_at, function_in}
 use Rattle.cl_meaning.specs.Scope.{Frame}
-use Rattle.cl_meaning.specs.Limits.{Costs}
 use Rattle.cl_meaning.specs.Top.{call_from}
-use Rattle.cl_rules.specs.Context.{CostTable, Known}
+use Rattle.cl_rules.specs.Context.{Known}
 use Rattle.cl_rules.specs.Acceptance.{calls_public}
 use Rattle.cl_contract_sound.specs.Nodes.{IsOfText, AreOfTexts, AreContracts}
 use Rattle.cl_file.specs.declared.entry.Common.{Common}
@@ -21,41 +21,41 @@ use Rattle.cl_node_sound.specs.Sound.{IsSoundNode, HasParts}
 use Rattle.cl_readonly_sound.specs.Untouched.{ArePrints, IsUntouched}
 
 -- At this principal a contract is deployed that stands for a text, which was accepted after these contracts.
-pub record StandsForText (costs : CostTable) (W : Deployed) (p : Principal) : Type 0 where
+pub record StandsForText (W : Deployed) (p : Principal) : Type 0 where
   pub before : List Known
   pub contract : Contract
   pub known : Known
-  pub earlier : AreOfTexts costs W before
-  pub of_text : IsOfText costs before contract known
+  pub earlier : AreOfTexts W before
+  pub of_text : IsOfText before contract known
   pub there : contract_at p W ≡ Some contract
   pub home : contract.principal ≡ p
 
 -- and each deployed contract does
 abbrev pub ContractsStandForTexts : Type 0
 ContractsStandForTexts =
-    (costs : CostTable) (W : Deployed) (ks : List Known) → AreContracts costs W ks → (p : Principal) → IsPrincipal p → (c : Contract) → contract_at p W ≡ Some c → StandsForText costs W p
+    (W : Deployed) (ks : List Known) → AreContracts W ks → (p : Principal) → IsPrincipal p → (c : Contract) → contract_at p W ≡ Some c → StandsForText W p
 
 -- the function of this name isn't among those of the contract that write
-pub record DoesNotWrite (costs : CostTable) (W : Deployed) (p : Principal) (x : List ℕ) : Type 0 where
-  pub text : StandsForText costs W p
+pub record DoesNotWrite (W : Deployed) (p : Principal) (x : List ℕ) : Type 0 where
+  pub text : StandsForText W p
   pub apart : Writes text.contract.forms (calls_public text.before p) x → ⊥
 
 -- a call of the function, in any frame of the contract, with any values and in any state, whatever it comes to
 abbrev pub CallsLeaveStates : Type 0
 CallsLeaveStates =
-    (costs : CostTable) (W : Deployed) (p : Principal) (x : List ℕ) → DoesNotWrite costs W p x → (c : Contract) → contract_at p W ≡ Some c → (f : Function) → function_in x c.forms ≡ Some f →
+    (W : Deployed) (p : Principal) (x : List ℕ) → DoesNotWrite W p x → (c : Contract) → contract_at p W ≡ Some c → (f : Function) → function_in x c.forms ≡ Some f →
     (F : Frame) → F.contract ≡ p → (vs : List Tree) (s : State) → IsUntouched s (call_from W F f vs s).state
 
 -- a read-only function of a deployed contract doesn't write
 abbrev pub ReadOnlyDoNotWrite : Type 0
 ReadOnlyDoNotWrite =
-    (costs : CostTable) (W : Deployed) (ks : List Known) → AreContracts costs W ks →
-    (p : Principal) → IsPrincipal p → (c : Contract) → contract_at p W ≡ Some c → (x : List ℕ) (f : Function) → function_in x c.forms ≡ Some f → f.access ≡ ReadOnly → DoesNotWrite costs W p x
+    (W : Deployed) (ks : List Known) → AreContracts W ks →
+    (p : Principal) → IsPrincipal p → (c : Contract) → contract_at p W ≡ Some c → (x : List ℕ) (f : Function) → function_in x c.forms ≡ Some f → f.access ≡ ReadOnly → DoesNotWrite W p x
 
 -- and so a call of it leaves the state untouched
 abbrev pub ReadOnlyLeaveStates : Type 0
 ReadOnlyLeaveStates =
-    (costs : CostTable) (W : Deployed) (ks : List Known) → AreContracts costs W ks →
+    (W : Deployed) (ks : List Known) → AreContracts W ks →
     (p : Principal) → IsPrincipal p → (c : Contract) → contract_at p W ≡ Some c → (x : List ℕ) (f : Function) → function_in x c.forms ≡ Some f → f.access ≡ ReadOnly →
     (F : Frame) → F.contract ≡ p → (vs : List Tree) (s : State) → IsUntouched s (call_from W F f vs s).state
 
@@ -64,18 +64,18 @@ ReadOnlyLeaveStates =
 -- what a call of a function that doesn't write makes of a sound node is that node
 abbrev pub CallsKeepNodes : Type 0
 CallsKeepNodes =
-    (costs : Costs) (node : NodeSeen) (common : Common) (contract : Principal) (function : List ℕ) (args : List Tree) (s : Stepped) → HasParts (Call common contract function args) → IsSoundNode costs node →
-    DoesNotWrite costs node.contracts contract function → Steps costs node (Call common contract function args) s → s.node ≡ node
+    (schedule : ScheduleSeen) (node : NodeSeen) (common : Common) (contract : Principal) (function : List ℕ) (args : List Tree) (s : Stepped) → HasParts (Call common contract function args) → IsSoundNode node →
+    DoesNotWrite node.contracts contract function → Steps schedule node (Call common contract function args) s → s.node ≡ node
 
 -- and the events that are handed out were printed
 abbrev pub CallsHandOutPrints : Type 0
 CallsHandOutPrints =
-    (costs : Costs) (node : NodeSeen) (common : Common) (contract : Principal) (function : List ℕ) (args : List Tree) (s : Stepped) → HasParts (Call common contract function args) → IsSoundNode costs node →
-    DoesNotWrite costs node.contracts contract function → Steps costs node (Call common contract function args) s → ArePrints s.result.events
+    (schedule : ScheduleSeen) (node : NodeSeen) (common : Common) (contract : Principal) (function : List ℕ) (args : List Tree) (s : Stepped) → HasParts (Call common contract function args) → IsSoundNode node →
+    DoesNotWrite node.contracts contract function → Steps schedule node (Call common contract function args) s → ArePrints s.result.events
 
 -- a read-only function is such a one
 abbrev pub ReadOnlyKeepNodes : Type 0
 ReadOnlyKeepNodes =
-    (costs : Costs) (node : NodeSeen) (common : Common) (contract : Principal) (function : List ℕ) (args : List Tree) (s : Stepped) → HasParts (Call common contract function args) → IsSoundNode costs node →
+    (schedule : ScheduleSeen) (node : NodeSeen) (common : Common) (contract : Principal) (function : List ℕ) (args : List Tree) (s : Stepped) → HasParts (Call common contract function args) → IsSoundNode node →
     (c : Contract) → contract_at contract node.contracts ≡ Some c → (f : Function) → function_in function c.forms ≡ Some f → f.access ≡ ReadOnly →
-    Steps costs node (Call common contract function args) s → s.node ≡ node
+    Steps schedule node (Call common contract function args) s → s.node ≡ node

@@ -140,10 +140,10 @@ abbrev pub known_of : Principal → ℕ → Defined → Known
 known_of principal size defined = record { principal = principal; length = size; functions = defined.context.functions }
 
 -- Contracts that are deployed one after another, as their callers see them: each has a principal of its own, and its text was
--- accepted after those before it.
-pub data AreDeployed (table : CostTable) : List Known → Type 0 where
-  none_yet : {deployed : List Known} → deployed ≡ [] → AreDeployed table deployed
-  and_one : {before after : List Known} (principal : Principal) (text : Text) (accepted : Accepted before principal table text) → AreDeployed table before → known_at principal before ≡ None → after ≡ before ++ known_of principal (length text.bytes) accepted.defined ∷ [] → AreDeployed table after
+-- accepted after those before it, under some table: each under its own.
+pub data AreDeployed : List Known → Type 0 where
+  none_yet : {deployed : List Known} → deployed ≡ [] → AreDeployed deployed
+  and_one : {before after : List Known} (principal : Principal) (table : CostTable) (text : Text) (accepted : Accepted before principal table text) → AreDeployed before → known_at principal before ≡ None → after ≡ before ++ known_of principal (length text.bytes) accepted.defined ∷ [] → AreDeployed after
 
 abbrev pub nowhere : Span
 nowhere = record { start = 0; end = 0 }

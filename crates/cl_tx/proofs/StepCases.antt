@@ -4,10 +4,12 @@ use Rattle.cl_types.specs.declared.sized.Access.{Access}
 use Rattle.cl_types.specs.declared.sized.Access.TheVariants.{Public, ReadOnly, Private}
 use Rattle.cl_c32.specs.declared.principal.Principal.{Principal}
 use Rattle.cl_shapes.specs.declared.cost.Cost5.{Cost5}
+use Rattle.cl_shapes.specs.declared.cost.Dimension.{Dimension}
 use Rattle.cl_shapes.specs.Limits.{Purse}
 use Rattle.cl_values.specs.Tree.{Tree, ResponseV}
 use Rattle.cl_events.specs.State.{State}
 use Rattle.cl_forms.specs.Texts.{Text, text_of}
+use Rattle.cl_costs.specs.Schedules.{ScheduleSeen}
 use Rattle.cl_meaning.specs.Deployed.{Contract, Function, contract_at, function_in}
 use Rattle.cl_meaning.specs.Limits.{Costs, Limited, Gave, Threw, AbortedBy, Passed, Lost}
 use Rattle.cl_rules.specs.Context.{Known, known_at}
@@ -19,7 +21,8 @@ use Rattle.cl_tx.specs.declared.outcome.Outcome.{Outcome}
 use Rattle.cl_tx.specs.declared.outcome.Outcome.TheVariants.{Done, Good, Plain}
 use Rattle.cl_post.specs.Post.{holds as first_failed}
 use Rattle.cl_tx.specs.Nodes.{NodeSeen, Stepped, Told, nothing_told, contract_of, stays, moves_on, with_contract, moved, settled_by, settled, answered, call_ended, deployment_ended}
-use Rattle.cl_tx.specs.Step.{first_misfit, run_call, if_fitting, if_as_many, if_open, if_function, if_deployed, call_step, run_deployment, DeploySteps, name_taken, source_refused, evaluated, Steps}
+use Rattle.cl_tx.specs.Step.{first_misfit, run_call, if_bounded, if_fitting, if_as_many, if_open, if_function, if_deployed, call_step, run_deployment, DeploySteps, name_taken, source_refused, evaluated, Steps, costs_for}
+use Rattle.cl_tx.specs.Rebounds.{first_over, rebounds_at}
 use Rattle.cl_tx.specs.Laws.{IsKept}
 use Rattle.cl_tx.proofs.Principals.{principal_kept}
 
@@ -71,9 +74,13 @@ module _ (P : Stepped → Type 0) where
       unfolding run_call
       run_holds f = ended_holds common f.access _
 
+      bounded_holds : (f : Function) (over : Option Dimension) → HoldsIf (if_bounded costs node common contract f args over)
+      bounded_holds f (Some dimension) = holds _ (stay _ _)
+      bounded_holds f None = run_holds f
+
       fitting_holds : (f : Function) (misfit : Option ℕ) → HoldsIf (if_fitting costs node common contract f args misfit)
       fitting_holds f (Some index) = holds _ (stay _ _)
-      fitting_holds f None = run_holds f
+      fitting_holds f None = bounded_holds f (first_over costs node.known contract f.name)
 
       as_many_holds : (f : Function) (as_many : Bool) → HoldsIf (if_as_many costs node common contract f args as_many)
       as_many_holds f false = holds _ (stay _ _)
@@ -112,7 +119,8 @@ module _ (P : Stepped → Type 0) where
       deploy_holds common principal source s (evaluated e a p) =
           deployment_holds common _ _ _ (λ c t purse is. done principal source a e _ c (principal_kept _ _ _ _ _ _ c t purse is) purse.spent t) s p
 
-      pub step_holds : ((outcome : Outcome) → IsKept outcome → (cost : Cost5) (s : State) → P (moves_on node nothing_told outcome cost s)) → ((height : ℕ) → P (moved node height)) → (entry : Entry) (s : Stepped) → Steps costs node entry s → P s
-      step_holds go block (Deploy common name source version) s x = deploy_holds common (contract_of common.sender name) (text_of source version) s x
-      step_holds go block (Call common contract function args) s x = call_holds node (λ outcome cost. stay nothing_told outcome cost) go costs common contract args function s x
+    module _ (schedule : ScheduleSeen) (done : (principal : Principal) (source : Text) (accepted : Accepted node.known principal (costs_for schedule node) source) → known_at principal node.known ≡ None → (told : Told) (c : Contract) → c.principal ≡ principal → (cost : Cost5) (s : State) → P (moves_on (with_contract node c (known_of principal (length source.bytes) accepted.defined)) told Done cost s)) where
+      pub step_holds : ((outcome : Outcome) → IsKept outcome → (cost : Cost5) (s : State) → P (moves_on node nothing_told outcome cost s)) → ((height : ℕ) → P (moved node height (rebounds_at schedule node height))) → (entry : Entry) (s : Stepped) → Steps schedule node entry s → P s
+      step_holds go block (Deploy common name source version) s x = deploy_holds (costs_for schedule node) done common (contract_of common.sender name) (text_of source version) s x
+      step_holds go block (Call common contract function args) s x = call_holds node (λ outcome cost. stay nothing_told outcome cost) go (costs_for schedule node) common contract args function s x
       step_holds go block (Block height) s x = subst P (sym x) (block height)

@@ -24,6 +24,7 @@ use Rattle.cl_tx.specs.declared.outcome.EntryRefusal.{EntryRefusal}
 use Rattle.cl_tx.specs.declared.outcome.Outcome.{Outcome}
 use Rattle.cl_tx.specs.declared.outcome.Outcome.TheVariants.{Moved, Done, Good, Bad, Plain, Aborted, Refused}
 use Rattle.cl_tx.specs.declared.outcome.Bounds.{Bounds}
+use Rattle.cl_tx.specs.declared.outcome.Rebound.{Rebound}
 use Rattle.cl_tx.specs.declared.outcome.TxResult.{TxResult}
 
 -- The state, which is at rest; the deployed contracts, in the order of their deployments, as evaluations see them, and the same
@@ -75,7 +76,7 @@ abbrev pub nothing_told : Told
 nothing_told = record { bounds = None; types = [] }
 
 abbrev pub result_of : Told → Outcome → Option Cost5 → List Event → TxResult
-result_of told outcome cost events = record { outcome = outcome; cost = cost; bounds = told.bounds; types = told.types; events = events }
+result_of told outcome cost events = record { outcome = outcome; cost = cost; bounds = told.bounds; types = told.types; events = events; rebounds = [] }
 
 -- the node stays as it was, and no event is handed out
 abbrev pub stays : NodeSeen → Told → Outcome → Option Cost5 → Stepped
@@ -94,9 +95,12 @@ moves_on node told outcome cost s = record {
   result = result_of told outcome (Some cost) s.events;
 }
 
--- a block begins at a height
-abbrev pub moved : NodeSeen → ℕ → Stepped
-moved node height = record { node = record node { height = height }; result = result_of nothing_told Moved None [] }
+-- a block begins at a height, and its result has these bounds of deployed functions
+abbrev pub moved : NodeSeen → ℕ → List Rebound → Stepped
+moved node height lines = record {
+  node = record node { height = height };
+  result = record (result_of nothing_told Moved None []) { rebounds = lines };
+}
 
 -- The end of an entry without an err and an abort: the node moves on to what it came to be in a state. But where a
 -- post-condition fails, by its place, it stays as it was, and what was charged stays charged.

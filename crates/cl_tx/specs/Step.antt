@@ -1,11 +1,13 @@
--- The step of a node: what an entry makes of it, under a table of costs.
+-- The step of a node: what an entry makes of it, under a schedule of costs. Its table is that of its height.
 use Rattle.std.specs.Prelude.{◌≡◌, ℕ, suc, nat_eq, Bool, true, false, List, [], ◌∷◌, ◌++◌, length, unwrap_or, option_map, if◌then◌else◌, Option, Some, None}
 use Rattle.std.specs.List.{filter_map}
 use Rattle.cl_types.specs.Types.{PlainType}
 use Rattle.cl_types.specs.declared.sized.Access.{Access}
 use Rattle.cl_types.specs.declared.sized.Access.TheVariants.{Private}
 use Rattle.cl_c32.specs.declared.principal.Principal.{Principal}
+use Rattle.cl_shapes.specs.declared.function.CostFn.{CostFn}
 use Rattle.cl_shapes.specs.declared.cost.Cost5.{Cost5}
+use Rattle.cl_shapes.specs.declared.cost.Dimension.{Dimension}
 use Rattle.cl_sexpr.specs.declared.sexpr.Span.{Span}
 use Rattle.cl_sexpr.specs.declared.rule.Rule.{Rule}
 use Rattle.cl_values.specs.Tree.{Tree}
@@ -14,6 +16,7 @@ use Rattle.cl_forms.specs.Texts.{Text, text_of}
 use Rattle.cl_forms.specs.Forms.{Form, FormKind, FunctionForm}
 use Rattle.cl_events.specs.State.{genesis}
 use Rattle.cl_events.specs.declared.event.Event.{Event}
+use Rattle.cl_costs.specs.Schedules.{ScheduleSeen, costs_at}
 use Rattle.cl_meaning.specs.Deployed.{Contract, Function, contract_at, function_in}
 use Rattle.cl_meaning.specs.Deploying.{deployment}
 use Rattle.cl_meaning.specs.Limits.{Costs, limited}
@@ -25,17 +28,19 @@ use Rattle.cl_rules.specs.Acceptance.{Accepted, FirstBreakOf, bound_of, known_of
 use Rattle.cl_file.specs.declared.entry.Common.{Common}
 use Rattle.cl_file.specs.declared.entry.Entry.{Entry}
 use Rattle.cl_file.specs.declared.entry.Entry.TheVariants.{Deploy, Call, Block}
-use Rattle.cl_tx.specs.declared.outcome.EntryRefusal.TheVariants.{NoContract, NoFunction, NotPublic, ArgumentCount, Argument, NameTaken, ContractRefused}
+use Rattle.cl_tx.specs.declared.outcome.EntryRefusal.TheVariants.{NoContract, NoFunction, NotPublic, ArgumentCount, Argument, NameTaken, ContractRefused, NoBound}
 use Rattle.cl_tx.specs.declared.outcome.Outcome.{Outcome}
 use Rattle.cl_tx.specs.declared.outcome.Outcome.TheVariants.{Done, Good, Plain}
 use Rattle.cl_tx.specs.declared.outcome.TxResult.{TxResult}
 use Rattle.cl_file.specs.Files.{FileSeen}
+use Rattle.cl_tx.specs.Rebounds.{first_over, rebounds_at}
 use Rattle.cl_tx.specs.Nodes.{NodeSeen, Stepped, Told, frame_of, contract_of, purse_of, refused, moved, call_ended, deployment_ended}
 
 -- ---- a call
 --
 -- The order of its tests, which are written from the last to the first: the contract is deployed, it has the function, the
--- function isn't private, it takes so many arguments, each argument is of its parameter's type; then it is applied.
+-- function isn't private, it takes so many arguments, each argument is of its parameter's type, its bound is within the limit; then
+-- it is applied.
 
 -- the first argument, counted from a number on, that isn't of its parameter's type
 abbrev pub first_misfit : ℕ → List (List ℕ × PlainType) → List Tree → Option ℕ
@@ -46,9 +51,13 @@ first_misfit n ps vs = None
 unfoldable pub run_call : Costs → NodeSeen → Common → Principal → Function → List Tree → Option Stepped
 run_call costs node common contract f args = call_ended common f.access node (limited costs (purse_of common) (call_from node.contracts (frame_of node common.sender contract) f args node.state))
 
+abbrev pub if_bounded : Costs → NodeSeen → Common → Principal → Function → List Tree → Option Dimension → Option Stepped
+if_bounded costs node common contract f args (Some dimension) = Some (refused node (NoBound dimension))
+if_bounded costs node common contract f args None = run_call costs node common contract f args
+
 abbrev pub if_fitting : Costs → NodeSeen → Common → Principal → Function → List Tree → Option ℕ → Option Stepped
 if_fitting costs node common contract f args (Some index) = Some (refused node (Argument index))
-if_fitting costs node common contract f args None = run_call costs node common contract f args
+if_fitting costs node common contract f args None = if_bounded costs node common contract f args (first_over costs node.known contract f.name)
 
 abbrev pub if_as_many : Costs → NodeSeen → Common → Principal → Function → List Tree → Bool → Option Stepped
 if_as_many costs node common contract f args false = Some (refused node ArgumentCount)
@@ -109,25 +118,33 @@ pub data DeploySteps (costs : Costs) (node : NodeSeen) (common : Common) (princi
 
 -- ---- entries
 
+-- the costs at a node's height
+abbrev pub costs_for : ScheduleSeen → NodeSeen → Costs
+costs_for schedule node = costs_at schedule node.height
+
 -- What an entry makes of a node. The evaluations go to a depth of 256. What is charged above the entry's limit, what aborts, what
 -- an entry's conditions don't let pass, and a public function's err leave the node as it was.
-abbrev pub Steps : Costs → NodeSeen → Entry → Stepped → Type 0
-Steps costs node (Deploy common name source version) s = DeploySteps costs node common (contract_of common.sender name) (text_of source version) s
-Steps costs node (Call common contract function args) s = call_step costs node common contract function args ≡ Some s
-Steps costs node (Block height) s = s ≡ moved node height
+abbrev pub Steps : ScheduleSeen → NodeSeen → Entry → Stepped → Type 0
+Steps schedule node (Deploy common name source version) s = DeploySteps (costs_for schedule node) node common (contract_of common.sender name) (text_of source version) s
+Steps schedule node (Call common contract function args) s = call_step (costs_for schedule node) node common contract function args ≡ Some s
+Steps schedule node (Block height) s = s ≡ moved node height (rebounds_at schedule node height)
 
 -- the entries one after another, with their results
-abbrev pub AllStep : Costs → NodeSeen → List Entry → List TxResult → NodeSeen → Type 0
-AllStep costs node [] results after = (results ≡ []) × (after ≡ node)
-AllStep costs node (e ∷ es) results after = (s : Stepped) × (more : List TxResult) × Steps costs node e s × AllStep costs s.node es more after × (results ≡ s.result ∷ more)
+abbrev pub AllStep : ScheduleSeen → NodeSeen → List Entry → List TxResult → NodeSeen → Type 0
+AllStep schedule node [] results after = (results ≡ []) × (after ≡ node)
+AllStep schedule node (e ∷ es) results after = (s : Stepped) × (more : List TxResult) × Steps schedule node e s × AllStep schedule s.node es more after × (results ≡ s.result ∷ more)
 
 -- before all entries, with these holders of STX
 abbrev pub first_node : List (Principal × ℕ) → NodeSeen
 first_node holders = record { state = genesis holders; contracts = []; known = []; height = 0 }
 
--- the results of a file's entries, and the node after them
-pub record Runs (costs : Costs) (file : FileSeen) (results : List TxResult) (after : NodeSeen) : Type 0 where
-  pub steps : AllStep costs (first_node file.genesis) file.entries results after
+-- the schedule of a cost file's table and a file's epochs
+abbrev pub schedule_of : List CostFn → FileSeen → ScheduleSeen
+schedule_of table file = record { first = table; epochs = file.epochs }
+
+-- the results of a file's entries under a schedule, and the node after them
+pub record Runs (schedule : ScheduleSeen) (file : FileSeen) (results : List TxResult) (after : NodeSeen) : Type 0 where
+  pub steps : AllStep schedule (first_node file.genesis) file.entries results after
 
 -- ---- what was committed
 
@@ -143,8 +160,8 @@ committed [] = []
 committed (r ∷ rs) = if_committed r.outcome r.events ++ committed rs
 
 -- the events that a file commits
-pub record Commits (costs : Costs) (file : FileSeen) (events : List Event) : Type 0 where
+pub record Commits (schedule : ScheduleSeen) (file : FileSeen) (events : List Event) : Type 0 where
   pub results : List TxResult
   pub after : NodeSeen
-  pub runs : Runs costs file results after
+  pub runs : Runs schedule file results after
   pub events_are : events ≡ committed results

@@ -1,12 +1,17 @@
--- Steps by example, under the unit table: what calls come to, and what the deployments of accepted texts come to.
-use Rattle.std.specs.Prelude.{ℕ, List, [], ◌∷◌, codes, Option, Some, None}
+-- Steps by example, under the unit table: the results of calls and of the deployments of accepted texts, and what epochs change.
+use Rattle.std.specs.Prelude.{ℕ, ◌^◌, slice_set, List, [], ◌∷◌, codes, Option, Some, None}
 use Rattle.cl_types.specs.declared.sized.Access.TheVariants.{Private}
 use Rattle.cl_c32.specs.declared.principal.Principal.{Principal}
 use Rattle.cl_shapes.specs.declared.cost.Cost5.{Cost5}
+use Rattle.cl_shapes.specs.declared.function.CostFn.{CostFn}
+use Rattle.cl_shapes.specs.declared.function.Shape.TheVariants.{Constant}
+use Rattle.cl_shapes.specs.Names.{plain_unit}
 use Rattle.cl_values.specs.Tree.{Tree, UintV, PrincipalV}
 use Rattle.cl_events.specs.State.{State, genesis}
 use Rattle.cl_events.specs.declared.event.Event.{Event}
 use Rattle.cl_forms.specs.Texts.{Text}
+use Rattle.cl_costs.specs.Tables.{function_of, unit_table}
+use Rattle.cl_costs.specs.Schedules.{ScheduleSeen, epoch_at, table_at, costs_at}
 use Rattle.cl_meaning.specs.Deployed.{Deployed}
 use Rattle.cl_meaning.specs.Samples.{P0, P1, of_P0, unit, uint, function, contract}
 use Rattle.cl_meaning.specs.PayRow.{pay_forms}
@@ -26,13 +31,15 @@ use Rattle.cl_post.specs.Post.{holds, holds_one, sent, is_of}
 use Rattle.cl_events.specs.declared.event.Asset.TheVariants.{Stx}
 use Rattle.cl_tx.specs.declared.outcome.Outcome.{Outcome}
 use Rattle.cl_tx.specs.declared.outcome.EntryRefusal.{EntryRefusal}
+use Rattle.cl_tx.specs.declared.outcome.Rebound.{Rebound}
 use Rattle.cl_tx.specs.declared.outcome.TxResult.{TxResult}
 use Rattle.cl_tx.specs.Nodes.{NodeSeen, Stepped, nothing_told, result_of, refused}
+use Rattle.cl_tx.specs.Rebounds.{rebounds_at}
 use Rattle.cl_tx.specs.Step.{run_call, call_step, run_deployment, first_node}
 
 -- all that an example opens
 unfoldable pub opened : Unit {0}
-unfolding meaning_opened rules_opened run_call call_step run_deployment holds holds_one sent is_of
+unfolding meaning_opened rules_opened function_of unit_table epoch_at table_at rebounds_at run_call call_step run_deployment holds holds_one sent is_of
 opened = tt
 
 abbrev pub by : Principal → Common
@@ -96,3 +103,27 @@ deployed name text = run_by (of_P0 name) (of_one text) (program_of text) (text_j
 abbrev pub result_in : Option Stepped → Option TxResult
 result_in None = None
 result_in (Some s) = Some s.result
+
+-- ---- epochs
+
+-- the unit table, but for the runtime of one function, by its place
+abbrev pub unit_but : ℕ → ℕ → List CostFn
+unit_but place runtime = slice_set unit_table place (record plain_unit { runtime = Constant runtime })
+
+-- from height 10 on a step of arithmetic costs 5, and from 20 on no bound with a look-up is within the limit
+abbrev pub dearer : ScheduleSeen
+dearer = record { first = unit_table; epochs = (10, unit_but 6 5) ∷ (20, unit_but 1 (2 ^ 128)) ∷ [] }
+
+-- the rebounds of a block at a height after a deployment
+abbrev pub told_at : ℕ → Option Stepped → Option (List Rebound)
+told_at height None = None
+told_at height (Some s) = Some (rebounds_at dearer s.node height)
+
+-- the result of a call by P0 at a height after it
+abbrev pub called_at : ℕ → Option Stepped → List ℕ → List ℕ → List Tree → Option TxResult
+called_at height None name f args = None
+called_at height (Some s) name f args = result_in (call_step (costs_at dearer height) (record s.node { height = height }) (by P0) (of_P0 name) f args)
+
+-- (define-read-only (add1 (x int)) (+ x 1)), deployed at height 0
+abbrev pub inc : Option Stepped
+inc = deployed (codes "inc") (codes "(define-read-only (add1 (x int)) (+ x 1))")

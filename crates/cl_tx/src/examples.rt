@@ -1,6 +1,6 @@
 //! Steps by example: each function here says what some entries come to, and does nothing. The costs
 //! and bounds are those of the unit table, worked out by hand from the table of charges.
-ghost use Rattle.std.specs.Prelude.{◌≡◌, ◌-◌, ◌^◌, [], ◌∷◌, true, false, pos, codes, Some};
+ghost use Rattle.std.specs.Prelude.{◌≡◌, ◌-◌, ◌^◌, [], ◌∷◌, true, false, pos, codes, Some, None};
 ghost use Rattle.cl_types.specs.Types.{NoType, IntType, UintType, ResponseType};
 ghost use Rattle.cl_shapes.specs.Costs.{cost5};
 ghost use Rattle.cl_values.specs.Tree.{IntV, UintV, BoolV, PrincipalV};
@@ -12,13 +12,15 @@ ghost use Rattle.cl_meaning.specs.AcrossRow.{both, v_and_w};
 ghost use Rattle.cl_meaning.specs.LimitRow.{n_contract, n_is};
 ghost use Rattle.cl_meaning.specs.PayRow.{paid};
 ghost use Rattle.cl_meaning.specs.TokenRow.{token, no_coins, after_mint, told};
-ghost use Rattle.cl_tx.specs.declared.outcome.Outcome.TheVariants.{Done, Good, Bad, Plain, Aborted};
+ghost use Rattle.cl_tx.specs.declared.outcome.Outcome.TheVariants.{Done, Good, Bad, Plain, Aborted, Refused};
 ghost use Rattle.cl_tx.specs.declared.outcome.Stop.TheVariants.{Overflow, SupplyOverflow, EarlyTop, CostLimit, PostCondition};
-ghost use Rattle.cl_tx.specs.declared.outcome.EntryRefusal.TheVariants.{NoContract, NoFunction, NotPublic, ArgumentCount, Argument};
-ghost use Rattle.cl_shapes.specs.declared.cost.Dimension.TheVariants.{WriteLength};
+ghost use Rattle.cl_tx.specs.declared.outcome.EntryRefusal.TheVariants.{NoContract, NoFunction, NotPublic, ArgumentCount, Argument, NoBound};
+ghost use Rattle.cl_tx.specs.declared.outcome.Reach.TheVariants.{Bound, Over};
+ghost use Rattle.cl_tx.specs.Nodes.{nothing_told, result_of};
+ghost use Rattle.cl_shapes.specs.declared.cost.Dimension.TheVariants.{Runtime, WriteLength};
 ghost use Rattle.cl_post.specs.declared.condition.Mode.TheVariants.{Allow, Deny};
 ghost use Rattle.cl_post.specs.declared.condition.Code5.TheVariants.{Eq, Lt, Le};
-ghost use Rattle.cl_tx.specs.StepRows.{called, ran, not_run, hidden, terms, on_stx, called_on, payer, rich, pays, deployed, result_in};
+ghost use Rattle.cl_tx.specs.StepRows.{called, ran, not_run, hidden, terms, on_stx, called_on, payer, rich, pays, deployed, result_in, told_at, called_at, inc};
 
 /// Calls of the contract of `(define-read-only (add1 (x int)) (+ x 1))`.
 pub fn calls_of_a_function()
@@ -92,6 +94,7 @@ pub fn deployments()
           bounds = Some (record { deploy = cost5 2 0 0 2 41; functions = (codes "add1", cost5 5 0 0 0 0) ∷ [] });
           types = IntType ∷ [];
           events = [];
+          rebounds = [];
         }) }
     ensures counter { result_in (deployed (codes "n")
         (codes "(define-data-var n uint u0)(define-public (inc) (begin (var-set n (+ (var-get n) u1)) (ok (var-get n))))"))
@@ -101,6 +104,7 @@ pub fn deployments()
           bounds = Some (record { deploy = cost5 4 0 0 3 121; functions = (codes "inc", cost5 8 2 34 1 17) ∷ [] });
           types = ResponseType UintType NoType ∷ [];
           events = [];
+          rebounds = [];
         }) }
     ensures in_order { result_in (deployed (codes "a")
         (codes "(define-private (a) (b))(define-private (b) 1)"))
@@ -110,6 +114,7 @@ pub fn deployments()
           bounds = Some (record { deploy = cost5 3 0 0 3 46; functions = (codes "a", cost5 3 0 0 0 0) ∷ (codes "b", cost5 2 0 0 0 0) ∷ [] });
           types = IntType ∷ IntType ∷ [];
           events = [];
+          rebounds = [];
         }) }
     ensures early { result_in (deployed (codes "e") (codes "(asserts! false u1)"))
         ≡ Some (record {
@@ -118,5 +123,34 @@ pub fn deployments()
           bounds = Some (record { deploy = cost5 4 0 0 1 19; functions = [] });
           types = [];
           events = [];
+          rebounds = [];
         }) }
+{}
+
+/// Epochs that begin at heights 10 and 20: the rebounds of a block before the first, at it and at the
+/// second, where a bound is above the limit; and calls at these heights, where E5 comes before E8.
+pub fn steps_in_epochs()
+    ensures before { told_at 9 inc ≡ Some [] }
+    ensures begins { told_at 10 inc
+        ≡ Some (record {
+          contract = of_P0 (codes "inc");
+          name = codes "add1";
+          reach = Bound (cost5 9 0 0 0 0);
+          returns = IntType;
+        } ∷ []) }
+    ensures above { told_at 20 inc
+        ≡ Some (record {
+          contract = of_P0 (codes "inc");
+          name = codes "add1";
+          reach = Over Runtime;
+          returns = IntType;
+        } ∷ []) }
+    ensures cheap { called_at 9 inc (codes "inc") (codes "add1") (IntV (pos 41) ∷ [])
+        ≡ Some (result_of nothing_told (Plain (IntV (pos 42))) (Some (cost5 5 0 0 0 0)) []) }
+    ensures dear { called_at 10 inc (codes "inc") (codes "add1") (IntV (pos 41) ∷ [])
+        ≡ Some (result_of nothing_told (Plain (IntV (pos 42))) (Some (cost5 9 0 0 0 0)) []) }
+    ensures no_bound { called_at 20 inc (codes "inc") (codes "add1") (IntV (pos 41) ∷ [])
+        ≡ Some (result_of nothing_told (Refused (NoBound Runtime)) None []) }
+    ensures misfit { called_at 20 inc (codes "inc") (codes "add1") (UintV 41 ∷ [])
+        ≡ Some (result_of nothing_told (Refused (Argument 0)) None []) }
 {}

@@ -1,10 +1,11 @@
 //! What becomes of an entry.
 ghost use Rattle.std.specs.Prelude.{◌≡◌};
 
+use cl_c32::Principal;
 use cl_events::Event;
 use cl_file::Row;
 use cl_sexpr::Refusal;
-use cl_shapes::{Cost5, Over};
+use cl_shapes::{Cost5, Dimension, Over};
 use cl_types::{Name, SizedTy};
 use cl_values::Val;
 use std::marker::Model;
@@ -89,6 +90,9 @@ pub enum EntryRefusal {
     NameTaken,
     /// E7: the source breaks a rule.
     ContractRefused(SourceRefusal),
+    /// E8: under the table of the height the function's bound is above 2^128-1, in this dimension
+    /// first.
+    NoBound(Dimension),
 }
 
 impl Drop for EntryRefusal {
@@ -101,6 +105,7 @@ impl Drop for EntryRefusal {
             EntryRefusal::Argument { index: _ } => {}
             EntryRefusal::NameTaken => {}
             EntryRefusal::ContractRefused(refusal) => drop(refusal),
+            EntryRefusal::NoBound(_) => {}
         }
     }
 }
@@ -146,6 +151,25 @@ pub struct Bounds {
     pub functions: Row<(Name, Cost5)>,
 }
 
+/// What the bound of a function is under a table of costs.
+#[derive(Clone, Copy)]
+pub enum Reach {
+    /// This cost.
+    Bound(Cost5),
+    /// It is above 2^128-1, in this dimension first.
+    Over(Dimension),
+}
+
+/// A function of a deployed contract, with its bound under the table that begins with a block.
+#[derive(Drop)]
+pub struct Rebound {
+    pub contract: Principal,
+    pub name: Name,
+    pub reach: Reach,
+    /// The type that the function returns.
+    pub returns: SizedTy,
+}
+
 /// What becomes of an entry, and what goes with it.
 pub struct TxResult {
     pub outcome: Outcome,
@@ -158,6 +182,9 @@ pub struct TxResult {
     pub types: Row<SizedTy>,
     /// The events of a deployment that is done, of an ok and of a plain value, in order.
     pub events: Row<Event>,
+    /// Of a block at which the number of the epoch changes: each function of each deployed
+    /// contract, in the order of the deployments and then of the text.
+    pub rebounds: Row<Rebound>,
 }
 
 impl Drop for TxResult {
@@ -168,10 +195,12 @@ impl Drop for TxResult {
             bounds,
             types,
             events,
+            rebounds,
         } = self;
         drop(outcome);
         drop(bounds);
         drop(types);
         drop(events);
+        drop(rebounds);
     }
 }

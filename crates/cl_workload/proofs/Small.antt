@@ -2,7 +2,8 @@
 use Rattle.std.proofs.Common.{◌≡◌, ℕ, zero, suc, ◌^◌, ◌<◌, ◌%◌, ◌==◌, Bool, true, false, List, [], ◌∷◌, length, All, refl, ap, ◌∙◌, arith, if◌then◌else◌}
 use Rattle.std.proofs.lemmas.List.{length-append}
 use Rattle.std.proofs.lemmas.List.Elements.{All-nil, All-cons, All-head, All-tail, All-push, All-same}
-use Rattle.cl_shapes.specs.Names.{unit_function}
+use Rattle.cl_costs.specs.Tables.{unit_table}
+use Rattle.cl_costs.specs.Schedules.{always}
 use Rattle.cl_file.specs.declared.entry.Entry.{Entry}
 use Rattle.cl_tx.specs.declared.outcome.TxResult.{TxResult}
 use Rattle.cl_tx.specs.Nodes.{NodeSeen}
@@ -35,7 +36,7 @@ length_calls seed (suc n) =
 
 -- ---- their results
 
-results_cheap : (entries : List Entry) (node : NodeSeen) (results : List TxResult) (after : NodeSeen) → All IsLimited entries → AllStep unit_function node entries results after
+results_cheap : (entries : List Entry) (node : NodeSeen) (results : List TxResult) (after : NodeSeen) → All IsLimited entries → AllStep (always unit_table) node entries results after
     → (length results ≡ length entries) × All IsCheap results
 results_cheap [] node results after limited x = (ap length x.0, All-same IsCheap results [] x.0 (All-nil IsCheap))
 results_cheap (e ∷ es) node results after limited x =
@@ -44,7 +45,7 @@ results_cheap (e ∷ es) node results after limited x =
       All-same IsCheap results (x.0.result ∷ x.1) x.4 (All-cons IsCheap x.0.result x.1 (step_cheap node e x.0 (All-head IsLimited e es limited) x.2) more.1),
     )
 
-pub workloads_small : (seed count : ℕ) (results : List TxResult) (after : NodeSeen) → count < 2 ^ 32 → Runs unit_function (workload seed count) results after → AreSmall results
+pub workloads_small : (seed count : ℕ) (results : List TxResult) (after : NodeSeen) → count < 2 ^ 32 → Runs (always unit_table) (workload seed count) results after → AreSmall results
 workloads_small seed count results after low runs =
     let found = results_cheap (deployment ∷ calls seed count) (first_node []) results after (All-cons IsLimited deployment (calls seed count) (omega arith) (calls_limited seed count)) runs.steps in
     let long = length_calls seed count in

@@ -2,7 +2,8 @@
 use Rattle.std.specs.Prelude.{◌≡◌, ℕ, ◌≤◌, ◌<◌, ◌^◌, List, ◌++◌, length, codes, decimal, All, Option, Some, None}
 use Rattle.std.specs.List.{sum_by}
 use Rattle.cl_shapes.specs.declared.cost.Cost5.{Cost5}
-use Rattle.cl_shapes.specs.Names.{unit_function}
+use Rattle.cl_costs.specs.Tables.{unit_table}
+use Rattle.cl_costs.specs.Schedules.{always}
 use Rattle.cl_maps.specs.Maps.{get}
 use Rattle.cl_tokens.specs.Ledger.{Ledger, balance}
 use Rattle.cl_events.specs.State.{State, place, holder}
@@ -70,7 +71,7 @@ summary_line count counts supply held =
 pub record IsSummary (seed count : ℕ) (line : List ℕ) : Type 0 where
   pub results : List TxResult
   pub after : NodeSeen
-  pub runs : Runs unit_function (workload seed count) results after
+  pub runs : Runs (always unit_table) (workload seed count) results after
   pub is : line ≡ summary_line count (counts_of results) (supply_of (coins after.state)) (balance_of (coins after.state))
 
 -- ---- how great the counts can be
@@ -86,4 +87,4 @@ pub record AreSmall (results : List TxResult) : Type 0 where
 
 -- the results of a workload
 abbrev pub WorkloadsAreSmall : Type 0
-WorkloadsAreSmall = (seed count : ℕ) (results : List TxResult) (after : NodeSeen) → count < 2 ^ 32 → Runs unit_function (workload seed count) results after → AreSmall results
+WorkloadsAreSmall = (seed count : ℕ) (results : List TxResult) (after : NodeSeen) → count < 2 ^ 32 → Runs (always unit_table) (workload seed count) results after → AreSmall results

@@ -47,4 +47,4 @@ calls seed (suc n) = calls seed n ++ call_for (drawn (number_after seed (suc n))
 
 -- The entries of a workload by its seed and its number of calls. Nobody holds anything before.
 abbrev pub workload : ℕ → ℕ → FileSeen
-workload seed count = record { genesis = []; entries = deployment ∷ calls seed count }
+workload seed count = record { genesis = []; epochs = []; entries = deployment ∷ calls seed count }

@@ -5,4 +5,4 @@ pub returns-clause-calls : goal.returns-clause-calls
 returns-clause-calls c = λ costs W t bound a h p. spent_low costs bound a h.within p
 
 pub returns-clause-deployments : goal.returns-clause-deployments
-returns-clause-deployments c = λ costs table W ks bound a h p. spent_low table bound a h.within p
+returns-clause-deployments c = λ table W ks bound a h p. spent_low table bound a h.within p

@@ -13,7 +13,7 @@ pub returns-clause-enough : goal.returns-clause-enough
 returns-clause-enough c = λ costs W t bound a h p low. enough costs bound a h.within p low
 
 pub returns-clause-deployments : goal.returns-clause-deployments
-returns-clause-deployments c = λ costs table W ks bound a h others p. end_under (λ d t. IsNode costs (d ∷ W) ks t) a h.outcome others p
+returns-clause-deployments c = λ table W ks bound a h others p. end_under (λ d t. IsNode (d ∷ W) ks t) a h.outcome others p
 
 pub returns-clause-enough_for_deployments : goal.returns-clause-enough_for_deployments
-returns-clause-enough_for_deployments c = λ costs table W ks bound a h p low. enough table bound a h.within p low
+returns-clause-enough_for_deployments c = λ table W ks bound a h p low. enough table bound a h.within p low

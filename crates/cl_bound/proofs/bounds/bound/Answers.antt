@@ -1,4 +1,4 @@
-use Rattle.std.proofs.Common.{◌≡◌, List, Some, filter_map, refl, sym, ap, subst, ◌∙◌}
+use Rattle.std.proofs.Common.{◌≡◌, List, Some, filter_map, sym, ap, subst, ◌∙◌}
 use Rattle.cl_shapes.specs.declared.function.CostFn.{CostFn}
 use Rattle.cl_costs.specs.Tables.{function_of}
 use Rattle.cl_rules.specs.Bills.{cost_under}
@@ -6,8 +6,7 @@ use Rattle.cl_rules.specs.Acceptance.{Bounded}
 use Rattle.cl_contracts.specs.Seen.{forms_of}
 use Rattle.cl_tx.specs.Step.{bound_line}
 use Rattle.cl_sums.specs.Sums.{told}
-use Rattle.cl_bound.specs.Seen.{ShowFunctions}
-use Rattle.cl_bound.proofs.Bounding.{all_bounded, first_above_all}
+use Rattle.cl_bound.proofs.Bounding.{all_bounded, are_kept, first_above_all}
 use Rattle.cl_bound.proofs.bounds.bound.Goals as goal
 
 pub returns-in-Some-clause-broken : goal.returns-in-Some-clause-broken
@@ -40,10 +39,6 @@ returns-in_ok-functions-in-None-clause-told c deployed known D are knows stands 
     λ i. Some (record { deploy = sym deploy i; functions = sym lines i })
 
 pub returns-in_ok-functions-in-None-clause-kept : goal.returns-in_ok-functions-in-None-clause-kept
-returns-in_ok-functions-in-None-clause-kept c deployed are = record {
-  principal = refl;
-  length = refl;
-  functions = λ known D knows stands.
-      let done = c.in_ok-deployment.ensures.defined known c.args.checked.now.principal D (c.new-prices.ensures.shown known c.args.checked.now.version c.args.checked.now.source_length (are known knows)) stands in
-      subst (λ (t : List CostFn). ShowFunctions (function_of t) D.context.functions c.deployment.new.prices.functions.entries) (c.in_ok-deployment.ensures.costs ∙ c.new-prices.ensures.costs) done.0.functions;
-}
+returns-in_ok-functions-in-None-clause-kept c deployed are =
+    are_kept deployed.contracts.entries c.args.checked.now c.deployment.new.prices c.args.costs.now c.kept.result c.kept.ensures.principal c.kept.ensures.length c.kept.ensures.functions (c.in_ok-deployment.ensures.costs ∙ c.new-prices.ensures.costs)
+    (λ known D stand stands. (c.in_ok-deployment.ensures.defined known c.args.checked.now.principal D (c.new-prices.ensures.shown known c.args.checked.now.version c.args.checked.now.source_length (are known stand)) stands).0)

@@ -1,7 +1,8 @@
 use Rattle.std.proofs.Common.{◌≡◌, ℕ, ◌<◌, List, length, get_or, Some, None, sym, subst, ◌∙◌}
 use Rattle.cl_code.specs.declared.definition.Definition.{Definition}
 use Rattle.cl_costs.specs.Tables.{function_of}
-use Rattle.cl_bound.proofs.Lines.{one_within, line_next, line_more, line_past}
+use Rattle.cl_tx.specs.Step.{bound_line}
+use Rattle.cl_bound.proofs.Lines.{lines_of, one_within, line_next, line_more, line_past}
 use Rattle.cl_bound.proofs.bounds.lines.Goals as goal
 use Rattle.cl_bound.proofs.bounds.lines.Goals.{in-Some+in_ok-push, in_default}
 
@@ -14,10 +15,10 @@ loop-definition-preserved c D shows bounded =
     let here = c.line.ensures D shows (one_within c.args.checked.now (function_of c.args.prices.now.costs) D i d lt at bounded) in
     elim c.match-line.branch [
       | in-Some+in_ok-push w ↦
-          line_more c.args.checked.now (function_of c.args.prices.now.costs) D i w.in-Some.line c.loop-definition.lines.items c.match-line.lines.items
+          line_more (bound_line (function_of c.args.prices.now.costs) D) c.args.checked.now.definitions.items (lines_of (bound_line (function_of c.args.prices.now.costs) D) c.args.checked.now.definitions.items) i w.in-Some.line c.loop-definition.lines.items c.match-line.lines.items
           ((λ j. (w.lines-is j).items) ∙ w.in_ok-push.ensures.items)
-          (line_next c.args.checked.now (function_of c.args.prices.now.costs) D i d (Some w.in-Some.line) c.loop-definition.lines.items lt at (sym w.in-Some.is ∙ here) (c.loop-definition.invariant D shows bounded))
+          (line_next (bound_line (function_of c.args.prices.now.costs) D) c.args.checked.now.definitions.items (lines_of (bound_line (function_of c.args.prices.now.costs) D) c.args.checked.now.definitions.items) i d (Some w.in-Some.line) c.loop-definition.lines.items lt at (sym w.in-Some.is ∙ here) (c.loop-definition.invariant D shows bounded))
       | in_default w ↦
-          line_past c.args.checked.now (function_of c.args.prices.now.costs) D i c.loop-definition.lines.items c.match-line.lines.items (λ j. (w.lines-is j).items)
-          (line_next c.args.checked.now (function_of c.args.prices.now.costs) D i d None c.loop-definition.lines.items lt at (sym w.in_default.is ∙ here) (c.loop-definition.invariant D shows bounded))
+          line_past (bound_line (function_of c.args.prices.now.costs) D) c.args.checked.now.definitions.items (lines_of (bound_line (function_of c.args.prices.now.costs) D) c.args.checked.now.definitions.items) i c.loop-definition.lines.items c.match-line.lines.items (λ j. (w.lines-is j).items)
+          (line_next (bound_line (function_of c.args.prices.now.costs) D) c.args.checked.now.definitions.items (lines_of (bound_line (function_of c.args.prices.now.costs) D) c.args.checked.now.definitions.items) i d None c.loop-definition.lines.items lt at (sym w.in_default.is ∙ here) (c.loop-definition.invariant D shows bounded))
     ]
