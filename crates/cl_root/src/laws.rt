@@ -1,13 +1,13 @@
 //! Laws of roots: each function here is one, and does nothing.
-ghost use Rattle.std.specs.Prelude.{◌≡◌, ◌<◌, ◌^◌, ℕ, List, [], ◌∷◌, ◌++◌, Option, length};
+ghost use Rattle.std.specs.Prelude.{◌≡◌, ◌<◌, ◌^◌, ℕ, List, [], ◌∷◌, ◌++◌, Option, Some, length};
 ghost use Rattle.sha2.specs.Sha256.{sha256};
 ghost use Rattle.cl_events.specs.State.{State};
 ghost use Rattle.cl_tables.specs.declared.row.StateRow.{StateRow};
 ghost use Rattle.cl_tables.specs.StateRows.{IsRow};
 ghost use Rattle.cl_root.specs.RowBytes.{key_bytes};
-ghost use Rattle.cl_root.specs.Leaves.{Leaf, leaf_input};
+ghost use Rattle.cl_root.specs.Leaves.{Leaf, leaf_input, leaf_of};
 ghost use Rattle.cl_root.specs.HashTree.{AreParts, IsRoot, root_of, root_of_parts};
-ghost use Rattle.cl_root.specs.Paths.{IsPath};
+ghost use Rattle.cl_root.specs.Paths.{IsPath, end_of};
 ghost use Rattle.cl_root.specs.declared.side.Side.{Side};
 
 /// The root of no leaf, of one leaf, and of more leaves by the roots of their two parts.
@@ -23,6 +23,12 @@ pub fn states_have_one_root()
     ensures root { (s : State) (a b : List ℕ) → IsRoot a s → IsRoot b s → a ≡ b }
     ensures path { (s : State) (key : List ℕ) (a b : Option (List Side)) →
         IsPath a key s → IsPath b key s → a ≡ b }
+{}
+
+/// The path of a row leads to the root of its state.
+pub fn paths_lead_to_roots()
+    ensures { (s : State) (row : StateRow) (path : List Side) → IsRow s row →
+        IsPath (Some path) (key_bytes row) s → IsRoot (end_of (leaf_of row) path) s }
 {}
 
 /// No two rows of a state have the same key bytes, and four bytes hold their length.

@@ -10,7 +10,9 @@ mod side;
 mod tree;
 
 pub use bytes::row_bytes;
-pub use laws::{root_by_parts, rows_have_keys_of_their_own, states_have_one_root};
-pub use paths::{prove, verify};
+pub use laws::{
+    paths_lead_to_roots, root_by_parts, rows_have_keys_of_their_own, states_have_one_root,
+};
+pub use paths::{prove, root_by_path, verify};
 pub use side::Side;
 pub use tree::root;

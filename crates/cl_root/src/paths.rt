@@ -87,8 +87,9 @@ fn stepped(digest: &[u8; 32], side: &Side) -> [u8; 32]
     }
 }
 
-/// The digest to which a leaf leads by a path.
-fn end_of(key: &[u8], value: &[u8], path: &[Side]) -> [u8; 32]
+/// The root to which a leaf with this key and this value leads by a path. Of a row of a state, and the path that `prove` gave
+/// for it, that is the root of the state, without the tree. It takes no memory.
+pub fn root_by_path(key: &[u8], value: &[u8], path: &[Side]) -> [u8; 32]
     requires { length key.now < 2 ^ 32 }
     ensures { result ≡ end_of (key.now, value.now) path.now }
 {
@@ -108,5 +109,5 @@ pub fn verify(root: &[u8; 32], key: &[u8], value: &[u8], path: &[Side]) -> bool
     ensures leads { IsTrue result ↔ (end_of (key.now, value.now) path.now ≡ root.now) }
     ensures sound { IsTrue result → HasRowOrClash root.now (key.now, value.now) path.now }
 {
-    end_of(key, value, path) == *root
+    root_by_path(key, value, path) == *root
 }

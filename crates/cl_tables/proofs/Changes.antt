@@ -88,7 +88,7 @@ variable_change h r s key b v sound at was done ready keeps =
     let back : with_value key b s.content ≡ h.variables = (λ i. with_value key (was i) (done i)) ∙ undone_write h.variables key (Some v) in
     record {
       back = λ i. record h { variables = back i };
-      ready = ready;
+      ready = (ready, at);
       rooms = variables_serve r s.room keeps;
       sound = record {
         variables = subst (λ m. Each (λ k x. IsPlaceKey k) m) (sym done) (each_put (λ k x. IsPlaceKey k) h.variables key v sound.variables at);
@@ -109,7 +109,7 @@ entry_change h r s key b o sound at was done ready keeps =
     let back : with_value key b s.content ≡ h.entries = (λ i. with_value key (was i) (done i)) ∙ undone_write h.entries key o in
     record {
       back = λ i. record h { entries = back i };
-      ready = ready;
+      ready = (ready, at);
       rooms = entries_serve r s.room keeps;
       sound = record {
         variables = sound.variables;

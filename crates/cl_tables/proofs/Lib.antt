@@ -8,6 +8,9 @@ pub mod Amounts
 pub mod OwnerKeys
 pub mod KeyReading
 pub mod RowLists
+pub mod Joined
+pub mod Grafted
 pub mod MadeRows
 pub mod PlacedRows
 pub mod WholeRows
+pub mod Covering

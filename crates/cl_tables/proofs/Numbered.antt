@@ -61,7 +61,7 @@ module _ {A : Type 0} where
 
   -- ------------------------------------------------------------ the map by places
 
-  abbrev keyed : List (Place × A) → List (List ℕ × A)
+  abbrev pub keyed : List (Place × A) → List (List ℕ × A)
   keyed es = map (λ e. (key_of e.0, e.1)) es
 
   pub get-by_place : (es : List (Place × A)) (q : List ℕ) → get q (by_place es) ≡ find key_cmp q (keyed es)
@@ -108,13 +108,13 @@ module _ {A : Type 0} where
   over true x y o = refl
   over false x y o = refl
 
-  first_changed : (key : List ℕ) (e : Place × A) (es : List (Place × A)) (a : A) (q : List ℕ) → key ≡ key_of e.0
+  pub first_changed : (key : List ℕ) (e : Place × A) (es : List (Place × A)) (a : A) (q : List ℕ) → key ≡ key_of e.0
       → cond (is_key q (key_of e.0)) (Some a) (find key_cmp q (keyed es)) ≡ cond (is_key q key) (Some a) (cond (is_key q (key_of e.0)) (Some e.1) (find key_cmp q (keyed es)))
   first_changed key e es a q same =
       over (is_key q (key_of e.0)) e.1 a (find key_cmp q (keyed es))
       ∙ ap (λ k. cond (is_key q k) (Some a) (cond (is_key q (key_of e.0)) (Some e.1) (find key_cmp q (keyed es)))) (sym same)
 
-  later_changed : (key q k : List ℕ) (x a : A) (new old : Option A) → is_key key k ≡ false → (b : Bool) → is_key q k ≡ b → (c : Bool) → is_key q key ≡ c → new ≡ cond c (Some a) old → cond b (Some x) new ≡ cond c (Some a) (cond b (Some x) old)
+  pub later_changed : (key q k : List ℕ) (x a : A) (new old : Option A) → is_key key k ≡ false → (b : Bool) → is_key q k ≡ b → (c : Bool) → is_key q key ≡ c → new ≡ cond c (Some a) old → cond b (Some x) new ≡ cond c (Some a) (cond b (Some x) old)
   later_changed key q k x a new old apart true b true c rest = absurd (subst T (sym b ∙ ap (λ j. is_key j k) (same_keys q key c) ∙ apart) tt)
   later_changed key q k x a new old apart true b false c rest = refl
   later_changed key q k x a new old apart false b c same rest = rest

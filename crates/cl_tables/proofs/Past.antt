@@ -30,7 +30,7 @@ back_grown : (ns : List Note) (n : Note) (c d : Held) → undone n d ≡ c → g
 back_grown [] n c d is = is
 back_grown (m ∷ ns) n c d is = ap (undone m) (back_grown ns n c d is)
 
-before_grown : (ns : List Note) (n : Note) (c d : Held) → undone n d ≡ c → before (ns ++ n ∷ []) d ≡ before ns c ++ c ∷ []
+pub before_grown : (ns : List Note) (n : Note) (c d : Held) → undone n d ≡ c → before (ns ++ n ∷ []) d ≡ before ns c ++ c ∷ []
 before_grown [] n c d is = ap (λ h. h ∷ []) is
 before_grown (m ∷ ns) n c d is =
     let here = ap (undone m) (back_grown ns n c d is) in
@@ -60,8 +60,8 @@ giver_kept x y (Burn n from) kx r = kx from r
 
 -- with f and g tokens that were defined later, in old rooms; and with h and k of them in new ones
 one_ready : (f g h k df dg : ℕ) (old new : Rooms) (n : Note) → Serves f g h k old new → IsReady old (df + f) (dg + g) n → IsReady new (df + h) (dg + k) n
-one_ready f g h k df dg old new (Variable key b) s r = s.variables key r
-one_ready f g h k df dg old new (Entry key b) s r = s.entries key r
+one_ready f g h k df dg old new (Variable key b) s r = (s.variables key r.0, r.1)
+one_ready f g h k df dg old new (Entry key b) s r = (s.entries key r.0, r.1)
 one_ready f g h k df dg old new (Stx act) s r = giver_kept old.stx new.stx act s.stx r
 one_ready f g h k df dg old new (Fungible i act) s r =
     (omega (arith, r.0, s.fungibles), giver_kept (room_at old.fungibles i) (room_at new.fungibles i) act (s.holders i (omega (arith, r.0)) (omega (arith, r.0, s.fungibles))) r.1)
@@ -77,7 +77,7 @@ nonfungibles_counted : (ns : List Note) (f : ℕ) → all_nonfungibles ns f ≡ 
 nonfungibles_counted [] f = omega arith
 nonfungibles_counted (n ∷ ns) f = let rest = nonfungibles_counted ns f in omega (arith, rest)
 
-ready_moved : (f g h k : ℕ) (old new : Rooms) (ns : List Note) → Serves f g h k old new → AreReady old f g ns → AreReady new h k ns
+pub ready_moved : (f g h k : ℕ) (old new : Rooms) (ns : List Note) → Serves f g h k old new → AreReady old f g ns → AreReady new h k ns
 ready_moved f g h k old new [] s all = tt
 ready_moved f g h k old new (n ∷ ns) s all =
     let df = all_fungibles ns 0 in
@@ -99,7 +99,7 @@ ready_grown r [] n all last = (last, tt)
 ready_grown r (m ∷ ns) n all last =
     (subst (λ a. IsReady r a (all_nonfungibles (ns ++ n ∷ []) 0) m) (sym (fungibles_end ns n)) (subst (λ a. IsReady r (all_fungibles ns (fungibles_in n)) a m) (sym (nonfungibles_end ns n)) all.0), ready_grown r ns n all.1 last)
 
-ready_split : (r : Rooms) (ns : List Note) (n : Note) → AreReady r 0 0 (ns ++ n ∷ []) → AreReady r (fungibles_in n) (nonfungibles_in n) ns × IsReady r 0 0 n
+pub ready_split : (r : Rooms) (ns : List Note) (n : Note) → AreReady r 0 0 (ns ++ n ∷ []) → AreReady r (fungibles_in n) (nonfungibles_in n) ns × IsReady r 0 0 n
 ready_split r [] n all = (tt, all.0)
 ready_split r (m ∷ ns) n all =
     let rest = ready_split r ns n all.1 in
@@ -109,7 +109,7 @@ sound_grown : (hs : List Held) (h : Held) → AreSound hs → IsSound h → AreS
 sound_grown [] h all last = (last, tt)
 sound_grown (g ∷ hs) h all last = (all.0, sound_grown hs h all.1 last)
 
-sound_split : (hs : List Held) (h : Held) → AreSound (hs ++ h ∷ []) → AreSound hs × IsSound h
+pub sound_split : (hs : List Held) (h : Held) → AreSound (hs ++ h ∷ []) → AreSound hs × IsSound h
 sound_split [] h all = (tt, all.0)
 sound_split (g ∷ hs) h all = let rest = sound_split hs h all.1 in ((all.0, rest.0), rest.1)
 

@@ -152,7 +152,7 @@ module _ {A : Type 0} where
       (ap (λ b. cond b (Some e.1) (entries.find key_cmp e.0 es)) (self_equal e.0), found_behind e.0 e.1 es es (left_of _ _ rising) (each_found es (right_of _ _ rising)))
 
   -- what is found stands in the list
-  stands : (key : List ℕ) (a : A) (es : List (List ℕ × A)) → entries.find key_cmp key es ≡ Some a → Contains es (key, a)
+  pub stands : (key : List ℕ) (a : A) (es : List (List ℕ × A)) → entries.find key_cmp key es ≡ Some a → Contains es (key, a)
   stands key a [] is = absurd (none-some a is)
   stands key a (e ∷ es) is =
       elim (is_key key e.0) as (λ b. is_key key e.0 ≡ b → cond b (Some e.1) (entries.find key_cmp key es) ≡ Some a → Contains (e ∷ es) (key, a)) [
@@ -160,7 +160,7 @@ module _ {A : Type 0} where
         | false ↦ λ same behind. let rest = stands key a es behind in (suc rest.0, omega (arith, rest.1), rest.2)
       ] refl is
 
-  rows_found : (es : List (List ℕ × A)) (m : Map A) → IsPermutation es m.list → ByRecursion (λ e. get e.0 m ≡ Some e.1) es
+  pub rows_found : (es : List (List ℕ × A)) (m : Map A) → IsPermutation es m.list → ByRecursion (λ e. get e.0 m ≡ Some e.1) es
   rows_found es m moved =
       let P : List ℕ × A → Type 0 = λ e. get e.0 m ≡ Some e.1 in
       recursion_from_All P es (All-permutation P m.list es (IsPermutation-sym es m.list moved) (All-from_recursion P m.list (each_found m.list m.rising)))

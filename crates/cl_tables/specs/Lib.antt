@@ -8,3 +8,5 @@ pub mod Deeds
 pub mod Amounts
 pub mod StateRows
 pub mod RowParts
+pub mod Spots
+pub mod Covering

@@ -19,7 +19,7 @@ use Rattle.cl_tables.specs.declared.note.Note.{Note}
 use Rattle.cl_tables.specs.declared.note.Note.TheVariants.{Variable, Entry, Stx, Fungible, Asset, FungibleDefined, NonFungibleDefined}
 use Rattle.cl_tables.specs.Variables.{IsPlaceKey}
 use Rattle.cl_tables.specs.Numbered.{by_place, value_at, but_last, ArePlaced}
-use Rattle.cl_tables.specs.Spelled.{Each, IsSpelled}
+use Rattle.cl_tables.specs.Spelled.{Each, IsSpot, IsSpelled}
 use Rattle.cl_tables.specs.Codes.{state_code}
 
 -- what the tables hold
@@ -125,10 +125,10 @@ all_nonfungibles [] later = later
 all_nonfungibles (n ∷ ns) later = nonfungibles_in n + all_nonfungibles ns later
 
 -- a note's change is undone without memory, once so many tokens are taken away that were defined after it: its token is one of
--- the rest, and its keys have slots
+-- the rest, and its keys have slots, and are those of a variable or an entry
 abbrev pub IsReady : Rooms → ℕ → ℕ → Note → Type 0
-IsReady r f n (Variable key before) = HasRoom r.variables key
-IsReady r f n (Entry key before) = HasRoom r.entries key
+IsReady r f n (Variable key before) = HasRoom r.variables key × IsPlaceKey key
+IsReady r f n (Entry key before) = HasRoom r.entries key × IsSpot key
 IsReady r f n (Stx act) = HasGiver r.stx act
 IsReady r f n (Fungible i act) = (i + f < length r.fungibles) × HasGiver (room_at r.fungibles i) act
 IsReady r f n (Asset i asset owner) = (i + n < length r.nonfungibles) × HasRoom (room_at r.nonfungibles i) asset

@@ -2,6 +2,7 @@
 #![tactic(auto)]
 
 mod deed;
+mod grafts;
 mod held;
 mod keys;
 mod listing;
@@ -9,6 +10,7 @@ mod note;
 mod place;
 mod reading;
 mod row;
+mod spot;
 mod tables;
 mod tokens;
 
@@ -18,4 +20,5 @@ pub use keys::{holder_key, place_key, spot_key, wire_key};
 pub use note::Note;
 pub use place::Place;
 pub use row::{RowKind, StateRow};
+pub use spot::Spot;
 pub use tables::Tables;

@@ -1,4 +1,8 @@
 //! What is kept of a change, so that it can be undone.
+ghost use Rattle.std.specs.Prelude.{◌≡◌};
+ghost use Rattle.cl_tokens.specs.Table.{is_key};
+ghost use Rattle.cl_tables.specs.Covering.{covers};
+
 use crate::held::HeldValue;
 use cl_tokens::{Act, Key};
 
@@ -13,4 +17,32 @@ pub enum Note {
     Asset(usize, Key, Option<Key>),
     FungibleDefined,
     NonFungibleDefined,
+}
+
+fn is_key(a: &Key, b: &Key) -> bool
+    ensures { result ≡ is_key a.now b.now }
+{
+    a.cmp(b).is_eq()
+}
+
+impl Note {
+    /// Of a write, the key of its variable or its entry.
+    pub fn key(&self) -> Option<&Key> {
+        match self {
+            Note::Variable(key, _) => Some(key),
+            Note::Entry(key, _) => Some(key),
+            _ => None,
+        }
+    }
+
+    /// Whether both are writes to the same place, so that the earlier one alone is needed to undo both.
+    pub fn covers(&self, later: &Note) -> bool
+        ensures { result ≡ covers self.now later.now }
+    {
+        match (self, later) {
+            (Note::Variable(key, _), Note::Variable(later, _)) => is_key(key, later),
+            (Note::Entry(key, _), Note::Entry(later, _)) => is_key(key, later),
+            _ => false,
+        }
+    }
 }

@@ -39,7 +39,7 @@ impl Touched {
 }
 
 /// A law of each place: it is valid.
-fn is_valid(at: &Place)
+pub(crate) fn is_valid(at: &Place)
     ensures { IsPlace at.now }
 {
     let _version = at.contract.address.version;

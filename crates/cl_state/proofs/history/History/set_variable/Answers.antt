@@ -1,11 +1,13 @@
-use Rattle.std.proofs.Common.{◌≡◌, ◌∙◌, ap, subst, ◌++◌, ◌∷◌, []}
+use Rattle.std.proofs.Common.{◌≡◌, ◌∙◌, ap, subst}
 use Rattle.std.specs.Prelude.{IfSome, OnSome, Option, is_some}
 use Rattle.cl_maps.specs.Maps.{put}
 use Rattle.cl_events.specs.State.{place, with_variables}
-use Rattle.cl_tables.specs.Notes.{past_of, changed_to, state_of}
+use Rattle.cl_tables.specs.Notes.{Past, past_of, state_of}
 use Rattle.cl_tables.specs.declared.note.Note.{Note}
 use Rattle.cl_tables.specs.Tables.{held_in, Changes}
-use Rattle.cl_tables.proofs.Past.{refused, kept_changed, past_changed, kept_as_before, past_as_before}
+use Rattle.cl_tables.specs.Covering.{IsNoted, Writes}
+use Rattle.cl_tables.proofs.Past.{refused, kept_as_before, past_as_before}
+use Rattle.cl_tables.proofs.Covering.{kept_noted, written}
 use Rattle.cl_state.proofs.history.History.set_variable.Goals as goal
 
 pub returns-in_err-reserve-clause-refused : goal.returns-in_err-reserve-clause-refused
@@ -21,8 +23,8 @@ returns-in_err-set-clause-refused c =
 pub invariant_of-self-in-Some : goal.invariant_of-self-in-Some
 invariant_of-self-in-Some c =
     let change : Changes c.in-Some.note c.self.inside.tables c.set_variable.new.self = subst (λ (o : Option Note). IfSome o (λ note. Changes note c.self.inside.tables c.set_variable.new.self)) c.in-Some.is c.in_ok-set.ensures.noted in
-    kept_changed c.self.inside.tables c.set_variable.new.self c.self.inside.notes.items c.add_note.new.notes.items c.in-Some.note c.self.invariant change
-    (c.add_note.ensures ∙ ap (λ xs. xs ++ c.in-Some.note ∷ []) c.in_ok-reserve.ensures.items)
+    kept_noted c.add_write.result c.self.inside.tables c.set_variable.new.self c.self.inside.notes.items c.add_write.new.notes.items c.in-Some.note c.args.floor c.self.invariant change
+    (subst (λ xs. IsNoted c.add_write.result c.args.floor c.in-Some.note xs c.add_write.new.notes.items) c.in_ok-reserve.ensures.items c.add_write.ensures)
 
 pub invariant_of-self-in-None : goal.invariant_of-self-in-None
 invariant_of-self-in-None c = kept_as_before c.self.inside.tables c.set_variable.new.self c.self.inside.notes.items c.reserve.new.self.items c.self.invariant (c.in_ok-set.ensures.absent (ap is_some c.in-None.is)) c.in_ok-reserve.ensures.items
@@ -34,9 +36,9 @@ returns-in-Some-clause-done c _ =
     let at = place c.args.at.now.contract c.args.at.now.name in
     let change : Changes c.in-Some.note c.self.inside.tables new = subst (λ (o : Option Note). IfSome o (λ note. Changes note c.self.inside.tables new)) c.in-Some.is c.in_ok-set.ensures.noted in
     let state : state_of (held_in new) ≡ with_variables (put at c.args.value old.variables) old = subst (λ (o : Option Note). OnSome o (state_of (held_in new) ≡ with_variables (put at c.args.value old.variables) old)) c.in-Some.is c.in_ok-set.ensures.state in
-    past_changed c.self.inside.tables new c.self.inside.notes.items c.add_note.new.notes.items c.in-Some.note (with_variables (put at c.args.value old.variables) old) change
-    (c.add_note.ensures ∙ ap (λ xs. xs ++ c.in-Some.note ∷ []) c.in_ok-reserve.ensures.items) state
-    ∙ ap (λ p. changed_to (with_variables (put at c.args.value p.state.variables) p.state) p) c.self.view_is
+    subst (λ (p : Past). Writes c.args.floor (with_variables (put at c.args.value p.state.variables) p.state) p (past_of c.add_write.new.notes.items (held_in new))) c.self.view_is
+    (written c.add_write.result c.self.inside.tables new c.self.inside.notes.items c.add_write.new.notes.items c.in-Some.note (with_variables (put at c.args.value old.variables) old) c.args.floor change
+    (subst (λ xs. IsNoted c.add_write.result c.args.floor c.in-Some.note xs c.add_write.new.notes.items) c.in_ok-reserve.ensures.items c.add_write.ensures) state)
 
 pub returns-in-None-clause-absent : goal.returns-in-None-clause-absent
 returns-in-None-clause-absent c _ =

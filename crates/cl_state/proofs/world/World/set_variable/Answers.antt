@@ -5,7 +5,7 @@ use Rattle.cl_maps.specs.Maps.{put}
 use Rattle.cl_events.specs.State.{place, with_variables}
 use Rattle.cl_state.specs.Stack.{with_top}
 use Rattle.cl_state.specs.Rows.{stack_of}
-use Rattle.cl_state.proofs.Layers.{changed_law, removed_or_not}
+use Rattle.cl_state.proofs.Layers.{written_law, removed_or_not}
 use Rattle.cl_state.proofs.world.World.set_variable.Goals as goal
 
 pub returns-clause-done : goal.returns-clause-done
@@ -16,8 +16,7 @@ returns-clause-done c =
     let marks = reverse c.self.inside.marks.items in
     let at = place c.args.at.now.contract c.args.at.now.name in
     IfOk-weaker c.set_variable.result _ _ (λ found done yes.
-    ap (λ q. stack_of q marks es ms) (done yes)
-    ∙ changed_law p (with_variables (put at c.args.value p.state.variables) p.state) marks es ms c.self.invariant
+    written_law p c.set_variable.new.self (with_variables (put at c.args.value p.state.variables) p.state) c.floor_of-floor.result marks es ms (done yes) c.floor_of-floor.ensures c.self.invariant
     ∙ ap (λ s. with_top s.stack (with_variables (put at c.args.value s.stack.top.variables) s.stack.top)) c.self.view_is)
     c.set_variable.ensures.done
 
@@ -29,5 +28,5 @@ pub invariant_of-self : goal.invariant_of-self
 invariant_of-self c =
     let p = c.self.inside.history in
     let at = place c.args.at.now.contract c.args.at.now.name in
-    removed_or_not c.set_variable.result p c.set_variable.new.self (with_variables (put at c.args.value p.state.variables) p.state) (length c.self.inside.events.items) (length c.self.inside.moves.items)
-    (reverse c.self.inside.marks.items) c.set_variable.ensures.done c.set_variable.ensures.absent c.set_variable.ensures.refused c.self.invariant
+    removed_or_not c.set_variable.result p c.set_variable.new.self (with_variables (put at c.args.value p.state.variables) p.state) c.floor_of-floor.result (length c.self.inside.events.items) (length c.self.inside.moves.items)
+    (reverse c.self.inside.marks.items) c.set_variable.ensures.done c.set_variable.ensures.absent c.set_variable.ensures.refused c.floor_of-floor.ensures c.self.invariant
