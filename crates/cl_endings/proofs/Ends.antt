@@ -72,36 +72,6 @@ may_answer common access l (Ok v) q s comes h = response common access v comes.n
 may_answer common access l (Err (Refused abort)) q s comes h = aborts_call common access l abort q comes h
 may_answer common access l (Err OutOfMemory) q s comes h = tt
 
--- ---- aborts
-
--- an abort is the result's
-abort_ends : (common : Common) (access : Access) (node : NodeSeen) (l : Limited Tree) (abort : Abort) (q : Purse) → AbortsCall abort → AbortsBy l abort q → call_ended common access node l ≡ Some (aborted node nothing_told (stop_by abort) (cost_by abort q.spent))
-abort_ends common access node l Overflow q may h = ap (call_ended common access node) h
-abort_ends common access node l Underflow q may h = ap (call_ended common access node) h
-abort_ends common access node l DivideByZero q may h = ap (call_ended common access node) h
-abort_ends common access node l NegativeArgument q may h = ap (call_ended common access node) h
-abort_ends common access node l Panic q may h = ap (call_ended common access node) h
-abort_ends common access node l SupplyOverflow q may h = ap (call_ended common access node) h
-abort_ends common access node l EarlyTop q may h = absurd may
-abort_ends common access node l (CostLimit over) q may h = ap (call_ended common access node) h
-
-pub abort_steps :
-    (common : Common) (access : Access) (node : NodeSeen) (l : Limited Tree) (answer : Result Tree (Fault Abort)) (fault : Fault Abort) (abort : Abort) (q : Purse) (t u : State) (below : List State) (spent : Cost5) (r : TxResult) →
-    answer ≡ Err fault → fault ≡ Refused abort → MayAnswer access answer → Answers l answer q t → q.spent ≡ spent → node.state ∷ [] ≡ below → u ∷ [] ≡ below →
-    r ≡ result_of nothing_told (Aborted (stop_by abort)) (Some (cost_by abort spent)) [] →
-    call_ended common access node l ≡ Some (record { node = record node { state = u }; result = r })
-abort_steps common access node l answer fault abort q t u below spent r err refused may answers cost before undone told =
-    let is : answer ≡ Err (Refused abort) = err ∙ ap Err refused in
-    let fine : AbortsCall abort = subst (MayAnswer access) is may in
-    let h : AbortsBy l abort q = subst (λ (a : Result Tree (Fault Abort)). Answers l a q t) is answers in
-    let same : node.state ∷ [] ≡ u ∷ [] = before ∙ sym undone in
-    let state : node.state ≡ u = cc in
-    let result : result_of nothing_told (Aborted (stop_by abort)) (Some (cost_by abort q.spent)) [] ≡ r =
-    ap (λ (c : Cost5). result_of nothing_told (Aborted (stop_by abort)) (Some (cost_by abort c)) []) cost ∙ sym told in
-    let stepped : Some (aborted node nothing_told (stop_by abort) (cost_by abort q.spent)) ≡ Some (record { node = record node { state = u }; result = r }) =
-    λ i. Some (record { node = record node { state = state i }; result = result i }) in
-    abort_ends common access node l abort q fine h ∙ stepped
-
 -- ---- what a run answers
 
 pub run_answers :

@@ -1,25 +1,54 @@
 //! How a call ends.
-ghost use Rattle.std.specs.Prelude.{◌≡◌, ◌∷◌, [], Some, IfOk, OnErr, length, Result, Ok, Err};
-ghost use Rattle.cl_shapes.specs.Limits.{Purse};
-ghost use Rattle.cl_values.specs.Tree.{Tree, ResponseV};
-ghost use Rattle.cl_events.specs.State.{at_rest};
-ghost use Rattle.cl_meaning.specs.Limits.{Limited};
-ghost use Rattle.cl_frames.specs.Aborts.{Answers};
-ghost use Rattle.cl_tx.specs.Nodes.{NodeSeen, nothing_told, result_of, settled, answered, call_ended};
-ghost use Rattle.cl_endings.specs.Calling.{MayAnswer, IsResponse, stop_by, cost_by};
+ghost use Rattle.std.specs.Prelude.{◌≡◌, ◌≢◌, ◌∷◌, [], Some, None, false, IfOk, OnErr, length, Result, Ok, Err};
+ghost use Rattle.cl_values.specs.Tree.{ResponseV};
+ghost use Rattle.cl_tx.specs.Nodes.{NodeSeen, nothing_told, settled, answered};
+ghost use Rattle.cl_endings.specs.Calling.{JudgedSo, MayAnswer, IsResponse, ended_so, stop_by, cost_by};
 
 use crate::layer;
 use crate::result::{cost_of, result_with, stop_of};
 use cl_frames::Abort;
 use cl_shapes::Cost5;
 use cl_state::World;
-use cl_tx::{Common, Outcome, Stop, TxResult};
+use cl_tx::{Common, EntryRefusal, Outcome, Stop, TxResult};
 use cl_types::{Access, Fault, NoMemory};
 use cl_values::{Kind, Val};
 use std::alloc::Global;
 
+/// What becomes of a call on a layer of its own, what it is charged, and whether the layer is kept.
+#[derive(Drop)]
+pub struct Ended {
+    pub outcome: Outcome,
+    pub cost: Option<Cost5>,
+    pub kept: bool,
+}
+
+impl Ended {
+    /// The end of a call that isn't run.
+    pub fn of_refusal(refusal: EntryRefusal) -> Ended
+        ensures { result
+            ≡ record { outcome = Outcome.Refused refusal; cost = None; kept = false } }
+    {
+        Ended {
+            outcome: Outcome::Refused(refusal),
+            cost: None,
+            kept: false,
+        }
+    }
+
+    /// The end of a call whose changes are undone, and which is charged all the same.
+    fn of_failure(outcome: Outcome, spent: Cost5) -> Ended
+        ensures { result ≡ record { outcome = outcome; cost = Some spent; kept = false } }
+    {
+        Ended {
+            outcome,
+            cost: Some(spent),
+            kept: false,
+        }
+    }
+}
+
 /// A response taken apart: whether it is ok, and what it is ok or err of.
-fn opened(response: Val) -> (bool, Val)
+fn open_response(response: Val) -> (bool, Val)
     requires { IsResponse response }
     ensures { response ≡ ResponseV result.0 result.1 }
 {
@@ -32,83 +61,43 @@ fn opened(response: Val) -> (bool, Val)
     }
 }
 
-/// Makes the layer the base, whose events are handed out.
-fn keep(
-    alloc: Global,
-    world: &mut World,
-    outcome: Outcome,
-    spent: Cost5,
-) -> Result<TxResult, NoMemory>
-    requires { length world.old.stack.below ≡ 1 }
-    ensures told { IfOk result
-        (λ r. r ≡ result_of nothing_told outcome (Some spent) world.old.stack.top.events) }
-    ensures kept { IfOk result (λ r. world.new.stack.top ≡ at_rest world.old.stack.top) }
-    ensures base { world.new.stack.below ≡ [] }
-    ensures refused { OnErr result (world.new.stack.top ∷ [] ≡ world.old.stack.below) }
-{
-    let events = layer::keep(alloc, world)?;
-    Ok(result_with(alloc, outcome, Some(spent), events))
-}
-
-/// Takes the layer off.
-fn undo(alloc: Global, world: &mut World, outcome: Outcome, spent: Cost5) -> TxResult
-    requires { length world.old.stack.below ≡ 1 }
-    ensures told { result ≡ result_of nothing_told outcome (Some spent) [] }
-    ensures base { world.new.stack.below ≡ [] }
-    ensures undone { world.new.stack.top ∷ [] ≡ world.old.stack.below }
-{
-    world.drop_layer();
-    result_with(alloc, outcome, Some(spent), Vec::new(alloc))
-}
-
-/// Ends a call without an err and an abort: where a post-condition fails, it undoes what was done.
-fn settle(
-    alloc: Global,
-    world: &mut World,
-    common: &Common,
-    outcome: Outcome,
-    spent: Cost5,
-) -> Result<TxResult, NoMemory>
-    requires { length world.old.stack.below ≡ 1 }
-    ensures settled { IfOk result (λ r. (node : NodeSeen) → node.state ∷ [] ≡ world.old.stack.below →
-        settled common.now node node nothing_told outcome spent world.old.stack.top
-        ≡ record { node = record node { state = world.new.stack.top }; result = r }) }
-    ensures base { world.new.stack.below ≡ [] }
-    ensures refused { OnErr result (world.new.stack.top ∷ [] ≡ world.old.stack.below) }
+/// The end of a call without an err and an abort: where a post-condition fails, what was done is
+/// undone.
+fn settle(alloc: Global, world: &World, common: &Common, outcome: Outcome, spent: Cost5) -> Ended
+    ensures { (node : NodeSeen) →
+        settled common.now node node nothing_told outcome spent world.now.stack.top
+        ≡ ended_so result node world.now.stack.top }
 {
     match layer::failing(alloc, world, common) {
-        None => keep(alloc, world, outcome, spent),
-        Some(index) => {
-            let stopped = Outcome::Aborted(Stop::PostCondition { index });
-            Ok(undo(alloc, world, stopped, spent))
-        }
+        None => Ended {
+            outcome,
+            cost: Some(spent),
+            kept: true,
+        },
+        Some(index) => Ended::of_failure(Outcome::Aborted(Stop::PostCondition { index }), spent),
     }
 }
 
-/// Ends a call that gave a value: a public function's err undoes what was done.
+/// The end of a call that gave a value: a public function's err undoes what was done.
 fn answer_with(
     alloc: Global,
-    world: &mut World,
+    world: &World,
     common: &Common,
     access: Access,
     value: Val,
     spent: Cost5,
-) -> Result<TxResult, NoMemory>
-    requires response { access ≡ Access.Public → IsResponse value }
-    requires layer { length world.old.stack.below ≡ 1 }
-    ensures ended { IfOk result (λ r. (node : NodeSeen) → node.state ∷ [] ≡ world.old.stack.below →
-        answered common.now access value node spent world.old.stack.top
-        ≡ Some (record { node = record node { state = world.new.stack.top }; result = r })) }
-    ensures base { world.new.stack.below ≡ [] }
-    ensures refused { OnErr result (world.new.stack.top ∷ [] ≡ world.old.stack.below) }
+) -> Ended
+    requires { access ≡ Access.Public → IsResponse value }
+    ensures { (node : NodeSeen) → answered common.now access value node spent world.now.stack.top
+        ≡ Some (ended_so result node world.now.stack.top) }
 {
     match access {
         Access::Public => {
-            let (good, inner) = opened(value);
+            let (good, inner) = open_response(value);
             if good {
                 settle(alloc, world, common, Outcome::Good(inner), spent)
             } else {
-                Ok(undo(alloc, world, Outcome::Bad(inner), spent))
+                Ended::of_failure(Outcome::Bad(inner), spent)
             }
         }
         Access::ReadOnly | Access::Private => settle(
@@ -121,50 +110,76 @@ fn answer_with(
     }
 }
 
-/// Ends a call that aborts.
-fn abort_with(alloc: Global, world: &mut World, abort: Abort, spent: Cost5) -> TxResult
-    requires { length world.old.stack.below ≡ 1 }
-    ensures told { result ≡ result_of nothing_told (Outcome.Aborted (stop_by abort))
-        (Some (cost_by abort spent)) [] }
-    ensures base { world.new.stack.below ≡ [] }
-    ensures undone { world.new.stack.top ∷ [] ≡ world.old.stack.below }
+/// The end of a call that aborts.
+fn abort_with(abort: Abort, spent: Cost5) -> Ended
+    ensures { result ≡ record {
+      outcome = Outcome.Aborted (stop_by abort);
+      cost = Some (cost_by abort spent);
+      kept = false;
+    } }
 {
-    undo(
-        alloc,
-        world,
-        Outcome::Aborted(stop_of(abort)),
-        cost_of(abort, spent),
-    )
+    Ended::of_failure(Outcome::Aborted(stop_of(abort)), cost_of(abort, spent))
 }
 
-/// Ends a call of a function of this access, which answers this on a layer of its own and has spent
-/// so much.
-pub fn finish(
+/// How a call of a function of this access ends, by its answer on a layer of its own and by what it
+/// has spent.
+pub fn judge(
     alloc: Global,
-    world: &mut World,
+    world: &World,
     common: &Common,
     access: Access,
     answer: Result<Val, Fault<Abort>>,
     spent: Cost5,
-) -> Result<TxResult, NoMemory>
+) -> Result<Ended, NoMemory>
     requires fine { MayAnswer access answer }
-    requires layer { length world.old.stack.below ≡ 1 }
-    ensures ended { IfOk result (λ r. (l : Limited Tree) (q : Purse) (node : NodeSeen) →
-        Answers l answer q world.old.stack.top → q.spent ≡ spent →
-        node.state ∷ [] ≡ world.old.stack.below →
-        call_ended common.now access node l
-        ≡ Some (record { node = record node { state = world.new.stack.top }; result = r })) }
+    ensures ended { IfOk result
+        (λ e. JudgedSo common.now access answer spent world.now.stack.top e) }
+    ensures memory { OnErr result (answer ≡ Err Fault.NoMemory) }
+    ensures answered { IfOk result (λ _. answer ≢ Err Fault.NoMemory) }
+{
+    match answer {
+        Ok(value) => Ok(answer_with(alloc, world, common, access, value, spent)),
+        Err(Fault::Refused(abort)) => Ok(abort_with(abort, spent)),
+        Err(Fault::NoMemory) => Err(NoMemory),
+    }
+}
+
+/// Ends the layer of a call: it becomes the base, and its events are handed out, or it is taken off.
+pub fn close(alloc: Global, world: &mut World, ended: Ended) -> Result<TxResult, NoMemory>
+    requires { length world.old.stack.below ≡ 1 }
+    ensures closed { IfOk result (λ r. (node : NodeSeen) →
+        node.state ∷ [] ≡ world.old.stack.below → ended_so ended node world.old.stack.top
+        ≡ record { node = record node { state = world.new.stack.top }; result = r }) }
     ensures base { world.new.stack.below ≡ [] }
     ensures refused { OnErr result (world.new.stack.top ∷ [] ≡ world.old.stack.below) }
 {
-    match answer {
-        Ok(value) => answer_with(alloc, world, common, access, value, spent),
-        Err(fault) => match fault {
-            Fault::Refused(abort) => Ok(abort_with(alloc, world, abort, spent)),
-            Fault::NoMemory => {
-                world.drop_layer();
-                Err(NoMemory)
-            }
-        },
+    let Ended {
+        outcome,
+        cost,
+        kept,
+    } = ended;
+    if kept {
+        let events = layer::keep(world)?;
+        Ok(result_with(alloc, outcome, cost, events))
+    } else {
+        world.drop_layer();
+        Ok(result_with(alloc, outcome, cost, Vec::new(alloc)))
     }
+}
+
+/// The result of a call whose layer is taken off, whatever comes of it.
+pub fn peek(alloc: Global, world: &mut World, ended: Ended) -> Result<TxResult, NoMemory>
+    requires { length world.old.stack.below ≡ 1 }
+    ensures result { IfOk result
+        (λ r. (node : NodeSeen) → (ended_so ended node world.old.stack.top).result ≡ r) }
+    ensures base { world.new.stack.below ≡ [] }
+    ensures undone { world.new.stack.top ∷ [] ≡ world.old.stack.below }
+{
+    let Ended {
+        outcome,
+        cost,
+        kept,
+    } = ended;
+    let events = layer::take_off(alloc, world, kept)?;
+    Ok(result_with(alloc, outcome, cost, events))
 }

@@ -1,5 +1,5 @@
 //! The layer on which an entry is evaluated.
-ghost use Rattle.std.specs.Prelude.{◌≡◌, ◌∷◌, [], length, IfOk, OnOk, OnErr};
+ghost use Rattle.std.specs.Prelude.{◌≡◌, ◌∷◌, [], length, IfOk, IsOk, if◌then◌else◌};
 ghost use Rattle.cl_events.specs.State.{at_rest};
 ghost use Rattle.cl_post.specs.Post.{holds};
 
@@ -10,7 +10,7 @@ use cl_tx::Common;
 use cl_types::NoMemory;
 use std::alloc::Global;
 
-fn copied(alloc: Global, events: &[Event]) -> Result<Vec<Event>, NoMemory>
+fn copy_all(alloc: Global, events: &[Event]) -> Result<Vec<Event>, NoMemory>
     ensures { IfOk result (λ v. v.items ≡ events.now) }
 {
     let mut copies = Vec::new(alloc);
@@ -32,33 +32,37 @@ pub fn failing(alloc: Global, world: &World, common: &Common) -> Option<u32>
     )
 }
 
-/// Makes the one layer the base, and gives its events.
-fn committed(alloc: Global, world: &mut World) -> Result<Vec<Event>, NoMemory>
+/// Makes the one layer the base, and gives its events. Takes no memory, so it is never refused.
+pub fn keep(world: &mut World) -> Result<Vec<Event>, NoMemory>
     requires { length world.old.stack.below ≡ 1 }
+    ensures always { IsOk result }
     ensures events { IfOk result (λ events. events.items ≡ world.old.stack.top.events) }
-    ensures rests { OnOk result (world.new.stack.top ≡ at_rest world.old.stack.top) }
-    ensures base { OnOk result (world.new.stack.below ≡ []) }
-    ensures refused { OnErr result (world.new.stack ≡ world.old.stack) }
+    ensures rests { world.new.stack.top ≡ at_rest world.old.stack.top }
+    ensures base { world.new.stack.below ≡ [] }
 {
-    let events = copied(alloc, world.events())?;
-    world.commit()?;
-    Ok(events)
+    match world.commit_events() {
+        Ok(events) => Ok(events),
+        Err(_error) => unreachable!(),
+    }
 }
 
-/// Makes the one layer the base, and gives its events; where there is no memory for that, takes it
-/// off.
-pub fn keep(alloc: Global, world: &mut World) -> Result<Vec<Event>, NoMemory>
+/// Takes the one layer off, and gives its events where they are asked for.
+pub(crate) fn take_off(
+    alloc: Global,
+    world: &mut World,
+    asked: bool,
+) -> Result<Vec<Event>, NoMemory>
     requires { length world.old.stack.below ≡ 1 }
-    ensures events { IfOk result (λ events. events.items ≡ world.old.stack.top.events) }
-    ensures rests { OnOk result (world.new.stack.top ≡ at_rest world.old.stack.top) }
+    ensures events { IfOk result
+        (λ events. events.items ≡ (if asked then world.old.stack.top.events else [])) }
     ensures base { world.new.stack.below ≡ [] }
-    ensures refused { OnErr result (world.new.stack.top ∷ [] ≡ world.old.stack.below) }
+    ensures undone { world.new.stack.top ∷ [] ≡ world.old.stack.below }
 {
-    match committed(alloc, world) {
-        Ok(events) => Ok(events),
-        Err(error) => {
-            world.drop_layer();
-            Err(error)
-        }
-    }
+    let events = if asked {
+        copy_all(alloc, world.events())
+    } else {
+        Ok(Vec::new(alloc))
+    };
+    world.drop_layer();
+    events
 }

@@ -5,6 +5,6 @@ mod ending;
 mod layer;
 mod result;
 
-pub use ending::finish;
+pub use ending::{Ended, close, judge, peek};
 pub use layer::{failing, keep};
-pub use result::{cost_of, meter_of, moved, refused, stop_of};
+pub use result::{block_begun, cost_of, meter_of, refused, stop_of};

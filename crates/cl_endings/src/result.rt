@@ -6,7 +6,7 @@ ghost use Rattle.cl_endings.specs.Calling.{stop_by, cost_by};
 use cl_events::Event;
 use cl_frames::Abort;
 use cl_shapes::{Cost5, Meter};
-use cl_tx::{Common, EntryRefusal, Outcome, Row, Stop, TxResult};
+use cl_tx::{Common, EntryRefusal, Outcome, Rebound, Row, Stop, TxResult};
 use std::alloc::Global;
 
 /// Nothing is spent of the limit of an entry.
@@ -31,6 +31,7 @@ pub(crate) fn result_with(
         bounds: None,
         types: Row::new(Vec::new(alloc)),
         events: Row::new(events),
+        rebounds: Row::new(Vec::new(alloc)),
     }
 }
 
@@ -41,11 +42,14 @@ pub fn refused(alloc: Global, refusal: EntryRefusal) -> TxResult
     result_with(alloc, Outcome::Refused(refusal), None, Vec::new(alloc))
 }
 
-/// The result of a block.
-pub fn moved(alloc: Global) -> TxResult
-    ensures { result ≡ result_of nothing_told Outcome.Moved None [] }
+/// The result of a block, with these bounds.
+pub fn block_begun(alloc: Global, lines: Vec<Rebound>) -> TxResult
+    ensures { result
+        ≡ record (result_of nothing_told Outcome.Moved None []) { rebounds = lines.items } }
 {
-    result_with(alloc, Outcome::Moved, None, Vec::new(alloc))
+    let mut result = result_with(alloc, Outcome::Moved, None, Vec::new(alloc));
+    result.rebounds = Row::new(lines);
+    result
 }
 
 /// The abort that the result of an entry has.

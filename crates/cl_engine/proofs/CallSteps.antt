@@ -1,20 +1,21 @@
 -- What a call comes to.
-use Rattle.std.proofs.Common.{◌≡◌, ℕ, true, List, length, Option, Some, None, refl, sym, ap, ◌∙◌, arith}
-use Rattle.std.specs.Prelude.{nat_eq, option_and_then}
+use Rattle.std.proofs.Common.{◌≡◌, ℕ, true, List, length, Some, None, refl, sym, ap, ◌∙◌, arith}
+use Rattle.std.specs.Prelude.{nat_eq}
 use Rattle.std.proofs.lemmas.Bool.Decides.{nat_tests}
 use Rattle.cl_types.specs.declared.sized.Access.{Access}
 use Rattle.cl_types.specs.declared.sized.Access.TheVariants.{Public, ReadOnly, Private}
 use Rattle.cl_c32.specs.declared.principal.Principal.{Principal}
+use Rattle.cl_shapes.specs.declared.cost.Dimension.{Dimension}
 use Rattle.cl_values.specs.Tree.{Tree}
-use Rattle.cl_forms.specs.Forms.{Form, FormKind, ConstantForm, VariableForm, MapForm, FungibleForm, NonFungibleForm, FunctionForm, ExpressionForm}
-use Rattle.cl_meaning.specs.Deployed.{Contract, Function, contract_at, as_function, form_of, function_in}
+use Rattle.cl_meaning.specs.Deployed.{Contract, Function, contract_at, function_in}
 use Rattle.cl_meaning.specs.Limits.{Costs, limited}
 use Rattle.cl_meaning.specs.Scope.{Frame}
 use Rattle.cl_meaning.specs.Top.{call_from}
 use Rattle.cl_file.specs.declared.entry.Common.{Common}
-use Rattle.cl_tx.specs.declared.outcome.EntryRefusal.TheVariants.{NoContract, NoFunction}
+use Rattle.cl_tx.specs.Rebounds.{first_over}
+use Rattle.cl_tx.specs.declared.outcome.EntryRefusal.TheVariants.{NoContract, NoFunction, NoBound}
 use Rattle.cl_tx.specs.Nodes.{NodeSeen, Stepped, frame_of, purse_of, refused, call_ended}
-use Rattle.cl_tx.specs.Step.{first_misfit, run_call, if_fitting, if_as_many, if_open, if_function, if_deployed, call_step}
+use Rattle.cl_tx.specs.Step.{first_misfit, run_call, if_bounded, if_fitting, if_as_many, if_open, if_function, if_deployed, call_step}
 use Rattle.cl_endings.specs.Calling.{Comes, MayBeCalled}
 
 -- ---- applications
@@ -31,7 +32,7 @@ module _ (costs : Costs) (node : NodeSeen) (common : Common) (contract : Princip
   fitted : (f.access ≡ Private → ⊥) → length args ≡ length f.params → if_open costs node common contract f args f.access ≡ if_fitting costs node common contract f args (first_misfit 0 f.params args)
   fitted outside e = opened f.access outside ∙ ap (if_as_many costs node common contract f args) (same_count e)
 
-  may_run : MayBeCalled f args → if_open costs node common contract f args f.access ≡ run_call costs node common contract f args
+  may_run : MayBeCalled f args → if_open costs node common contract f args f.access ≡ if_bounded costs node common contract f args (first_over costs node.known contract f.name)
   may_run m = fitted m.not_private m.as_many ∙ ap (if_fitting costs node common contract f args) m.fitting
 
 -- ---- steps
@@ -51,31 +52,19 @@ module _ (costs : Costs) (node : NodeSeen) (common : Common) (contract : Princip
   pub in_function : (c : Contract) (f : Function) → contract_at contract node.contracts ≡ Some c → function_in function c.forms ≡ Some f → call_step costs node common contract function args ≡ if_open costs node common contract f args f.access
   in_function c f there h = in_contract c there ∙ ap (if_function costs node common contract args) h
 
-  pub ended_so : (c : Contract) (f : Function) (F : Frame) → contract_at contract node.contracts ≡ Some c → function_in function c.forms ≡ Some f → MayBeCalled f args → F ≡ frame_of node common.sender contract →
+  -- a function whose bound is above the limit
+  pub no_bound : (c : Contract) (f : Function) (dimension : Dimension) → contract_at contract node.contracts ≡ Some c → function_in function c.forms ≡ Some f → MayBeCalled f args → first_over costs node.known contract f.name ≡ Some dimension →
+      call_step costs node common contract function args ≡ Some (refused node (NoBound dimension))
+  no_bound c f dimension there h may over = in_function c f there h ∙ may_run costs node common contract f args may ∙ ap (if_bounded costs node common contract f args) over
+
+  pub ended_so : (c : Contract) (f : Function) (F : Frame) → contract_at contract node.contracts ≡ Some c → function_in function c.forms ≡ Some f → MayBeCalled f args → first_over costs node.known contract f.name ≡ None → F ≡ frame_of node common.sender contract →
       call_step costs node common contract function args ≡ call_ended common f.access node (limited costs (purse_of common) (call_from node.contracts F f args node.state))
   unfolding run_call
-  ended_so c f F there h may is =
-      in_function c f there h ∙ may_run costs node common contract f args may
+  ended_so c f F there h may within is =
+      in_function c f there h ∙ may_run costs node common contract f args may ∙ ap (if_bounded costs node common contract f args) within
       ∙ ap (λ (G : Frame). call_ended common f.access node (limited costs (purse_of common) (call_from node.contracts G f args node.state))) (sym is)
 
   -- a call that steps comes to something
-  pub comes_so : (c : Contract) (f : Function) (F : Frame) → contract_at contract node.contracts ≡ Some c → function_in function c.forms ≡ Some f → MayBeCalled f args → F ≡ frame_of node common.sender contract →
+  pub comes_so : (c : Contract) (f : Function) (F : Frame) → contract_at contract node.contracts ≡ Some c → function_in function c.forms ≡ Some f → MayBeCalled f args → first_over costs node.known contract f.name ≡ None → F ≡ frame_of node common.sender contract →
       (s : Stepped) × (call_step costs node common contract function args ≡ Some s) → Comes common f.access (limited costs (purse_of common) (call_from node.contracts F f args node.state))
-  comes_so c f F there h may is step = record { node = node; stepped = step.0; ended = sym (ended_so c f F there h may is) ∙ step.1 }
-
--- a function that is found has the name by which it was looked for
-pub named_so : (x : List ℕ) (forms : List Form) (f : Function) → function_in x forms ≡ Some f → f.name ≡ x
-named_so x forms f = by (form_of x forms)
-  where
-    one : (a b : Function) → Some a ≡ Some b → a ≡ b
-    one a b e = cc
-
-    by : (o : Option FormKind) → option_and_then (as_function x) o ≡ Some f → f.name ≡ x
-    by None h = absurd cc
-    by (Some (FunctionForm access params body)) h = sym (ap (λ (g : Function). g.name) (one (record { name = x; access = access; params = params; body = body }) f h))
-    by (Some (ConstantForm e)) h = absurd cc
-    by (Some (VariableForm t e)) h = absurd cc
-    by (Some (MapForm k v)) h = absurd cc
-    by (Some (FungibleForm s)) h = absurd cc
-    by (Some (NonFungibleForm t)) h = absurd cc
-    by (Some (ExpressionForm e)) h = absurd cc
+  comes_so c f F there h may within is step = record { node = node; stepped = step.0; ended = sym (ended_so c f F there h may within is) ∙ step.1 }

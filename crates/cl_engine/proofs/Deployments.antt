@@ -3,9 +3,12 @@ use Rattle.std.proofs.Common.{◌≡◌, inl, inr, ℕ, List, [], ◌∷◌, ◌
 use Rattle.std.proofs.lemmas.List.{map_push}
 use Rattle.cl_c32.specs.declared.principal.Principal.{Principal}
 use Rattle.cl_shapes.specs.declared.cost.Cost5.{Cost5}
-use Rattle.cl_shapes.specs.declared.function.CostFn.{CostFn}
-use Rattle.cl_costs.specs.Tables.{function_of}
 use Rattle.cl_shapes.specs.declared.cost.Dimension.{Dimension}
+use Rattle.cl_shapes.specs.declared.function.CostFn.{CostFn}
+use Rattle.cl_shapes.specs.Limits.{Purse}
+use Rattle.cl_costs.specs.Schedules.{always, costs_at, table_at}
+use Rattle.cl_costs.specs.Tables.{function_of}
+use Rattle.cl_values.specs.Tree.{Tree}
 use Rattle.cl_sexpr.specs.declared.rule.Rule.{Rule}
 use Rattle.cl_sexpr.specs.declared.rule.Rule.TheVariants.{BoundTooLarge}
 use Rattle.cl_sexpr.specs.declared.sexpr.Span.{Span}
@@ -14,9 +17,9 @@ use Rattle.cl_forms.specs.Texts.{Text, text_of}
 use Rattle.cl_forms.specs.Forms.{Form}
 use Rattle.cl_events.specs.State.{State}
 use Rattle.cl_events.specs.declared.event.Event.{Event}
-use Rattle.cl_meaning.specs.Deployed.{Contract}
+use Rattle.cl_meaning.specs.Deployed.{Contract, value_of}
 use Rattle.cl_meaning.specs.Deploying.{deployment, forms_by, forms_at}
-use Rattle.cl_meaning.specs.Limits.{Limited, limited}
+use Rattle.cl_meaning.specs.Limits.{Costs, Limited, Gave, limited}
 use Rattle.cl_meaning.specs.Scope.{Frame}
 use Rattle.cl_rules.specs.Context.{CostTable, Known, known_at}
 use Rattle.cl_rules.specs.FormRules.{Defined, nothing_defined}
@@ -32,7 +35,7 @@ use Rattle.cl_contracts.proofs.Constants.{is_constant}
 use Rattle.cl_frames.specs.Deploys.{contract_with}
 use Rattle.cl_frames.specs.Sound.{IsAcceptedAfter}
 use Rattle.cl_node_sound.specs.Laws.{DeployedHaveConstants}
-use Rattle.cl_node_sound.specs.Sound.{HasParts}
+use Rattle.cl_node_sound.specs.Sound.{HasParts, IsTypedUnder}
 use Rattle.cl_file.specs.declared.entry.Common.{Common}
 use Rattle.cl_file.specs.declared.entry.Entry.{Entry}
 use Rattle.cl_file.specs.declared.entry.Entry.TheVariants.{Deploy}
@@ -46,7 +49,9 @@ use Rattle.cl_tx.specs.Step.{DeploySteps, run_deployment, contract_with as contr
 use Rattle.cl_engine.specs.Seen.{Seen, node_with, seen}
 use Rattle.cl_engine.specs.Known.{AreKnown}
 use Rattle.cl_engine.specs.Sound.{Contracts, contracts_seen, IsSoundWith}
-use Rattle.cl_engine.specs.Deploying.{Constants, IsBounded, IsChecked, IsDone, IsStopped, MakesWith, told_with}
+use Rattle.cl_engine.specs.Asked.{MakesWith}
+use Rattle.cl_engine.specs.Bounded.{IsBounded}
+use Rattle.cl_engine.specs.Deploying.{Constants, IsChecked, IsDone, IsStopped, told_with}
 use Rattle.cl_engine.proofs.Knowing.{known_push, standing_push, types_told}
 
 -- a bound above the limit is the first break
@@ -73,9 +78,17 @@ checked_so es q p text c same principal version size indexed found = record {
       );
 }
 
-module _ (costs : List CostFn) (es : Contracts) (s : State) (height : ℕ) (common : Common) (name source : List ℕ) (version : Version) (known : List Known) (sound : IsSoundWith es (seen s (contracts_seen es) height costs) known) where
+-- what holds under the costs of each schedule holds under a table
+pub under_table : (P : Costs → Type 0) (table : List CostFn) (height : ℕ) → P (costs_at (always table) height) → P (function_of table)
+unfolding table_at
+under_table P table height h = h
+
+module _ (table : List CostFn) (es : Contracts) (s : State) (height : ℕ) (common : Common) (name source : List ℕ) (version : Version) (known : List Known) (sound : IsSoundWith es (seen s (contracts_seen es) height) known) where
+  abbrev costs : Costs
+  costs = function_of table
+
   abbrev before : Seen
-  before = seen s (contracts_seen es) height costs
+  before = seen s (contracts_seen es) height
 
   abbrev node : NodeSeen
   node = node_with known before
@@ -89,54 +102,39 @@ module _ (costs : List CostFn) (es : Contracts) (s : State) (height : ℕ) (comm
   abbrev entry : Entry
   entry = Deploy common name source version
 
-  -- nothing changes
-  stays : (r : TxResult) → DeploySteps (function_of costs) node common p text (record { node = node; result = r }) → MakesWith known before entry r es before
-  stays r steps = record { now = known; trees = sound.trees; forms = sound.forms; steps = steps }
-
-  -- a contract of this name is deployed
-  pub name_is_taken : (k : Known) → known_at p known ≡ Some k → (r : TxResult) → r ≡ result_of nothing_told (Refused NameTaken) None [] → MakesWith known before entry r es before
-  name_is_taken k there r is = stays r (name_taken k there (λ i. record { node = node; result = is i }))
-
-  -- the source breaks a rule
-  pub source_is_refused : (rule : Rule) (span : Span) (names : List (List ℕ)) → known_at p known ≡ None → FirstBreakOf known p (function_of costs) text rule span names →
-      (r : TxResult) → r ≡ result_of nothing_told (Refused (ContractRefused (record { rule = rule; span = span; names = names }))) None [] → MakesWith known before entry r es before
-  source_is_refused rule span names new first r is = stays r (source_refused rule span names new first (λ i. record { node = node; result = is i }))
-
   module _ (c : Checked) (checked : IsChecked es p text c) where
-    abbrev found : (defined : Defined) × TypedAs known p text (forms_of c) c.order.items defined × NoneWrites known p (forms_of c) × StandsAfter known c defined
+    abbrev pub found : (defined : Defined) × TypedAs known p text (forms_of c) c.order.items defined × NoneWrites known p (forms_of c) × StandsAfter known c defined
     found = checked.found known sound.trees
 
-    -- a bound is above the limit
-    pub bound_is_refused : (dimension : Dimension) (rule : Rule) (span : Span) (names : List (List ℕ)) → known_at p known ≡ None → rule ≡ BoundTooLarge dimension → names ≡ [] → IsFirstAboveLimit found.0 (forms_of c) c.order.items (function_of costs) dimension span →
-        (r : TxResult) → r ≡ result_of nothing_told (Refused (ContractRefused (record { rule = rule; span = span; names = names }))) None [] → MakesWith known before entry r es before
-    bound_is_refused dimension rule span names new rule_is no_names above r is =
-        source_is_refused rule span names new (above_breaks known p (function_of costs) text (forms_of c) c.order.items found.0 dimension rule span names found.1 found.2 rule_is no_names above) r is
-
-    module _ (bounds : Bounds) (bounded : IsBounded (function_of costs) es c bounds) where
-      abbrev within : Bounded found.0 (forms_of c) (function_of costs) × ((told_of (function_of costs) found.0 (forms_of c)).bounds ≡ Some bounds)
+    module _ (bounds : Bounds) (bounded : IsBounded costs es c bounds) where
+      abbrev within : Bounded found.0 (forms_of c) costs × ((told_of costs found.0 (forms_of c)).bounds ≡ Some bounds)
       within = bounded.found known sound.trees found.0 found.3
 
-      abbrev accepted : Accepted known p (function_of costs) text
+      abbrev pub accepted : Accepted known p costs text
       accepted = record { forms = forms_of c; order = c.order.items; defined = found.0; typed = found.1; none_writes = found.2; bounded = within.0 }
 
       abbrev told : Told
-      told = told_of (function_of costs) found.0 (forms_of c)
+      told = told_of costs found.0 (forms_of c)
 
       abbrev one : Known
       one = known_of p (length source) found.0
 
       -- what the limit leaves of the deployment
       abbrev left : Limited Contract
-      left = limited (function_of costs) (purse_of common) (deployment (contracts_seen es) (frame_of node common.sender p) (contract_deployed p text (forms_of c)) s)
+      left = limited costs (purse_of common) (deployment (contracts_seen es) (frame_of node common.sender p) (contract_deployed p text (forms_of c)) s)
 
       abbrev left_in : Frame → Limited Contract
-      left_in F = limited (function_of costs) (purse_of common) (deployment (contracts_seen es) F (contract_with c []) s)
+      left_in F = limited costs (purse_of common) (deployment (contracts_seen es) F (contract_with c []) s)
 
       abbrev frame : Principal → Frame
       frame q = record { contract = q; sender = person common.sender; caller = person common.sender; height = height }
 
-      pub same_left : (F : Frame) → F ≡ frame c.principal → left_in F ≡ left
-      same_left F is = λ i. limited (function_of costs) (purse_of common) (deployment (contracts_seen es) ((is ∙ ap frame checked.principal_is) i) (record { principal = checked.principal_is i; version = checked.version i; forms = forms_of c; source_length = checked.size i; constants = [] }) s)
+      -- what the evaluation means
+      pub same_answer : (F : Frame) → F ≡ frame p → deployment (contracts_seen es) F (contract_with c []) s ≡ deployment (contracts_seen es) (frame_of node common.sender p) (contract_deployed p text (forms_of c)) s
+      same_answer F is = λ i. deployment (contracts_seen es) (is i) (record { principal = checked.principal_is i; version = checked.version i; forms = forms_of c; source_length = checked.size i; constants = [] }) s
+
+      pub same_left : (F : Frame) → F ≡ frame p → left_in F ≡ left
+      same_left F is = ap (limited costs (purse_of common)) (same_answer F is)
 
       -- what is told is what the bounds and the typed functions tell
       pub same_told : DefinedAsKept → told ≡ told_with bounds c.definitions.items
@@ -148,7 +146,7 @@ module _ (costs : List CostFn) (es : Contracts) (s : State) (height : ℕ) (comm
       -- the contract is accepted after the deployed ones
       pub is_accepted : known_at p known ≡ None → IsAcceptedAfter (contracts_seen es) s c
       is_accepted new = record {
-        costs = function_of costs;
+        costs = costs;
         known = known;
         node = record { contracts = sound.sound.contracts; kept = sound.sound.kept };
         new = subst (λ q. known_at q known ≡ None) (sym checked.principal_is) new;
@@ -167,21 +165,21 @@ module _ (costs : List CostFn) (es : Contracts) (s : State) (height : ℕ) (comm
         size = checked.size;
       }
 
-      steps_so : (z : Stepped) → known_at p known ≡ None → deployment_ended common node told one left ≡ Some z → DeploySteps (function_of costs) node common p text z
+      steps_so : (z : Stepped) → known_at p known ≡ None → deployment_ended common node told one left ≡ Some z → DeploySteps costs node common p text z
       unfolding run_deployment
       steps_so z new ended = evaluated new accepted ended
 
       -- it stops
       pub makes_stopped : DefinedAsKept → known_at p known ≡ None → (why : Stop) (cost : Cost5) (after : State) (r : TxResult) → IsStopped common left why cost s after →
-          r ≡ result_of (told_with bounds c.definitions.items) (Aborted why) (Some cost) [] → MakesWith known before entry r es (seen after (contracts_seen es) height costs)
+          r ≡ result_of (told_with bounds c.definitions.items) (Aborted why) (Some cost) [] → MakesWith costs known before entry r es (seen after (contracts_seen es) height)
       makes_stopped law new why cost after r stopped is = record {
         now = known;
         trees = sound.trees;
         forms = sound.forms;
-        steps = steps_so (record { node = node_with known (seen after (contracts_seen es) height costs); result = r }) new
+        steps = steps_so (record { node = node_with known (seen after (contracts_seen es) height); result = r }) new
             (stopped.ended node told one
             ∙ (λ i. Some (record {
-              node = node_with known (seen (sym stopped.undone i) (contracts_seen es) height costs);
+              node = node_with known (seen (sym stopped.undone i) (contracts_seen es) height);
               result = (ap (λ t. result_of t (Aborted why) (Some cost) []) (same_told law) ∙ sym is) i;
             })));
       }
@@ -195,18 +193,24 @@ module _ (costs : List CostFn) (es : Contracts) (s : State) (height : ℕ) (comm
       same_known : known_of c.principal c.source_length found.0 ≡ one
       same_known = λ i. known_of (checked.principal_is i) (checked.size i) found.0
 
+      -- what is given under a table
+      abbrev IsGivenTyped : Costs → Type 0
+      IsGivenTyped table = (a : Accepted known p table text) (k : Contract) (t : State) (purse : Purse) →
+          limited table (purse_of common) (deployment (contracts_seen es) (frame_of node common.sender p) (contract_deployed p text a.forms) s) ≡ Gave k t purse →
+          (x : List ℕ) (v : Tree) → value_of x k.constants ≡ Some v → IsTypedUnder a.defined.context.constants x v
+
       -- each value that is given is of the type of its constant
       pub constants_so : DeployedHaveConstants → ConstantsAsKept → HasParts entry → known_at p known ≡ None → (cost : Cost5) (constants : Constants) (events : List Event) (after : State) → IsDone common left c cost constants.entries events after → AreConstants (put constants).1
       constants_so law kept parts new cost constants events after done = record {
         each = λ x v h.
-            let u = law (function_of costs) node common name source version parts sound.sound new accepted (contract_with c constants.entries) done.state done.purse done.gave x v h in
+            let u = under_table IsGivenTyped table height (law (always table) node common name source version parts sound.sound new) accepted (contract_with c constants.entries) done.state done.purse done.gave x v h in
             is_constant x c u.type v (sym (kept known c found.0 checked.indexed found.3 x) ∙ u.there) u.typed.typed;
       }
 
       -- it is done
       pub makes_done : DefinedAsKept → known_at p known ≡ None → (cost : Cost5) (constants : Constants) (events : List Event) (after : State) (r : TxResult) → IsDone common left c cost constants.entries events after →
           r ≡ result_of (told_with bounds c.definitions.items) Done (Some cost) events →
-          MakesWith known before entry r (es ++ put constants ∷ []) (seen after (contracts_seen (es ++ put constants ∷ [])) height costs)
+          MakesWith costs known before entry r (es ++ put constants ∷ []) (seen after (contracts_seen (es ++ put constants ∷ [])) height)
       makes_done law new cost constants events after r done is = record {
         now = known ++ one ∷ [];
         trees = subst (λ k. AreStanding [] (es ++ put constants ∷ []) (known ++ k ∷ [])) same_known
@@ -216,7 +220,7 @@ module _ (costs : List CostFn) (es : Contracts) (s : State) (height : ℕ) (comm
             (known_push [] (contracts_seen es) known (contract_with c constants.entries) (forms_at (forms_of c) c.order.items) found.0 sound.forms
             (ap (forms_by (forms_of c)) found.1.is_ordered.order_is)
             (subst (λ (n : Principal × (Version × ℕ)). FormsTyped (nothing_defined known n.0 n.1.0 n.1.1) (forms_at (forms_of c) c.order.items) found.0) (λ i. (sym checked.principal_is i, (sym checked.version i, sym checked.size i))) found.1.are_typed)));
-        steps = steps_so (record { node = node_with (known ++ one ∷ []) (seen after (contracts_seen (es ++ put constants ∷ [])) height costs); result = r }) new
+        steps = steps_so (record { node = node_with (known ++ one ∷ []) (seen after (contracts_seen (es ++ put constants ∷ [])) height); result = r }) new
             (ap (deployment_ended common node told one) done.gave
             ∙ (λ i. Some (settled_by (done.passes i) node (with_contract node (contract_with c constants.entries) one) told Done done.purse.spent done.state))
             ∙ (λ i. Some (record {

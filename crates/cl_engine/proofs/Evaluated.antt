@@ -1,8 +1,9 @@
 -- What a limit leaves of a deployment, by how its evaluation ended.
 use Rattle.std.proofs.Common.{◌≡◌, ℕ, [], ◌∷◌, Some, None, sym, ap, subst, ◌∙◌}
-use Rattle.std.specs.Prelude.{Option, Result, Ok, Err}
+use Rattle.std.specs.Prelude.{IfOk, Option, Result, Ok, Err}
 use Rattle.cl_types.specs.declared.fault.Fault.{Fault}
 use Rattle.cl_types.specs.declared.fault.Fault.TheVariants.{Refused, NoMemory as OutOfMemory}
+use Rattle.cl_types.specs.declared.fault.NoMemory.{NoMemory as NoMemoryError}
 use Rattle.cl_shapes.specs.declared.cost.Cost5.{Cost5}
 use Rattle.cl_shapes.specs.Limits.{Purse}
 use Rattle.cl_events.specs.State.{State}
@@ -22,7 +23,11 @@ use Rattle.cl_post.specs.Post.{holds}
 use Rattle.cl_file.specs.declared.entry.Common.{Common}
 use Rattle.cl_tx.specs.Nodes.{NodeSeen, Told, deployment_ended, settled_by, with_contract, aborted}
 use Rattle.cl_endings.specs.Calling.{stop_by, cost_by}
+use Rattle.cl_frames.specs.Watching.{Tells}
+use Rattle.cl_frames.specs.Watching as watching
+use Rattle.cl_engine.specs.Traces.{SeesAll, Trace}
 use Rattle.cl_engine.specs.Deploying.{Constants, EndsAs, Runs}
+use Rattle.cl_engine.proofs.Tracing.{start_all}
 use Rattle.cl_engine.specs.declared.deployment.Ran.{Ran}
 use Rattle.cl_engine.specs.declared.deployment.Ran.TheVariants.{Done, Stopped}
 
@@ -80,3 +85,15 @@ runs common l c s q layer (Err OutOfMemory) failing ran after spent below is fir
 pub shown : (costs : Costs) (purse full : Purse) (a : State → Answer Contract) (c : Checked) (t s : State) (ended : Result Constants (Fault Abort)) (q : Purse) (top : State) →
     purse ≡ full → t ≡ s → Deploys (limited costs purse (a t)) c ended q top → Deploys (limited costs full (a s)) c ended q top
 shown costs purse full a c t s ended q top unspent is defines = subst (λ (l : Limited Contract). Deploys l c ended q top) (λ i. limited costs (unspent i) (a (is i))) defines
+
+-- ---- what is seen of it
+
+-- what a watch has seen of an evaluation, by how the deployment ran
+pub tells_ran : (ended : Result Constants (Fault Abort)) (failing : Option ℕ) (spent : Cost5) (layer : Stack) (after : State) (result : Result Ran NoMemoryError) (seen now : watching.Seen) (all : Trace) →
+    Tells seen now all ended → IfOk result (λ ran. EndsAs ended failing spent ran layer after) → SeesAll seen now all result
+tells_ran (Ok given) failing spent layer after (Ok ran) seen now all tells ends = tells
+tells_ran (Err (Refused why)) failing spent layer after (Ok ran) seen now all tells ends = tells
+tells_ran (Err OutOfMemory) failing spent layer after (Ok ran) seen now all tells ends = absurd ends
+tells_ran (Ok given) failing spent layer after (Err e) seen now all tells ends = start_all seen now all tells
+tells_ran (Err (Refused why)) failing spent layer after (Err e) seen now all tells ends = start_all seen now all tells
+tells_ran (Err OutOfMemory) failing spent layer after (Err e) seen now all tells ends = tells

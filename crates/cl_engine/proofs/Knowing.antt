@@ -139,3 +139,7 @@ some_copied (Some b) e = (b.now, refl)
 pub none_copied : {A : Type 0} (o : Option (Bor A)) → is_some o ≡ false → option_copied o ≡ None
 none_copied None e = refl
 none_copied (Some b) e = absurd cc
+
+pub none_mapped : {A B : Type 0} (f : Bor A → B) (o : Option (Bor A)) → is_some o ≡ false → option_map f o ≡ None
+none_mapped f None e = refl
+none_mapped f (Some b) e = absurd cc

@@ -1,123 +1,134 @@
--- Nodes stay sound, and what an entry makes of them.
+-- What an entry makes of a sound node, and what is promised of it.
 use Rattle.std.specs.Prelude.{IfOk, OnErr}
-use Rattle.std.proofs.Common.{◌≡◌, ℕ, List, [], Some, None, Result, Ok, Err, refl, sym, subst}
+use Rattle.std.proofs.Common.{◌≡◌, ℕ, List, [], Some, None, Result, Ok, Err, refl, sym, ap, subst, ◌∙◌}
 use Rattle.cl_types.specs.declared.fault.NoMemory.{NoMemory}
-use Rattle.cl_c32.specs.declared.principal.Principal.{Principal}
-use Rattle.cl_shapes.specs.declared.function.CostFn.{CostFn}
-use Rattle.cl_costs.specs.Tables.{function_of}
-use Rattle.cl_values.specs.Tree.{Tree}
-use Rattle.cl_events.specs.State.{State}
+use Rattle.cl_forms.specs.Texts.{text_of}
+use Rattle.cl_costs.specs.Schedules.{ScheduleSeen, costs_at}
+use Rattle.cl_meaning.specs.Limits.{Costs}
 use Rattle.cl_rules.specs.Context.{Known}
+use Rattle.cl_contracts.specs.Standings.{AreStanding}
 use Rattle.cl_node_sound.specs.Sound.{HasParts}
-use Rattle.cl_node_sound.specs.Laws.{SoundStay}
-use Rattle.cl_file.specs.declared.entry.Common.{Common}
+use Rattle.cl_node_sound.specs.Laws.{SoundStay, CallsStayWithin, DeploymentsStayWithin, CallsAreTyped}
+use Rattle.cl_file.specs.Entries.{height_after}
 use Rattle.cl_file.specs.declared.entry.Entry.{Entry}
-use Rattle.cl_file.specs.declared.entry.Entry.TheVariants.{Call, Block}
-use Rattle.cl_tx.specs.declared.outcome.Outcome.TheVariants.{Moved}
+use Rattle.cl_file.specs.declared.entry.Entry.TheVariants.{Deploy, Call, Block}
 use Rattle.cl_tx.specs.declared.outcome.TxResult.{TxResult}
 use Rattle.cl_tx.specs.Laws.{FailedChangeNothing, IsKept}
-use Rattle.cl_tx.specs.Nodes.{nothing_told, result_of}
-use Rattle.cl_tx.specs.Step.{call_step}
+use Rattle.cl_tx.specs.Nodes.{NodeSeen, Stepped, contract_of}
+use Rattle.cl_tx.specs.Step.{DeploySteps, Steps, call_step}
+use Rattle.cl_events.specs.State.{State}
+use Rattle.cl_state.specs.Stack.{Seen as World}
+use Rattle.cl_contracts.specs.declared.deployed.Deployed.{Deployed}
+use Rattle.cl_contracts.specs.Seen.{deployed_seen}
+use Rattle.cl_engine.specs.declared.contracts.Contracts.{Contracts as ContractsOfCode}
+use Rattle.cl_engine.specs.Bounded.{entries_of}
 use Rattle.cl_engine.specs.Seen.{Seen, node_with, seen}
-use Rattle.cl_engine.specs.Sound.{Contracts, contracts_seen, IsSound}
-use Rattle.cl_engine.specs.Deploying.{MakesSound}
-use Rattle.cl_engine.specs.Steps.{Makes}
+use Rattle.cl_engine.specs.Known.{AreKnown}
+use Rattle.cl_engine.specs.Sound.{Contracts, IsSound, IsSoundWith, contracts_seen}
+use Rattle.cl_engine.specs.declared.asked.Invocation.{Invocation}
+use Rattle.cl_engine.specs.Asked.{IsUnchanged, MakesSound, call_entry}
+use Rattle.cl_engine.specs.Calling.{steps_of}
+use Rattle.cl_engine.specs.Steps.{Gives, Makes, MakesSafely, StepsUnder}
+use Rattle.cl_engine.proofs.Within.{charged_by, typed_by}
+
+-- ---- the costs of a height
+
+steps_up : (schedule : ScheduleSeen) (costs : Costs) (node : NodeSeen) (entry : Entry) (s : Stepped) → costs ≡ costs_at schedule node.height → StepsUnder costs node entry s → Steps schedule node entry s
+steps_up schedule costs node (Deploy common name source version) s is x = subst (λ c. DeploySteps c node common (contract_of common.sender name) (text_of source version) s) is x
+steps_up schedule costs node (Call common contract function args) s is x = subst (λ c. call_step c node common contract function args ≡ Some s) is x
+steps_up schedule costs node (Block height) s is x = absurd x
+
+pub steps_down : (schedule : ScheduleSeen) (costs : Costs) (node : NodeSeen) (entry : Entry) (s : Stepped) → costs ≡ costs_at schedule node.height → ((height : ℕ) → entry ≡ Block height → ⊥) → Steps schedule node entry s → StepsUnder costs node entry s
+steps_down schedule costs node (Deploy common name source version) s is none x = subst (λ c. DeploySteps c node common (contract_of common.sender name) (text_of source version) s) (sym is) x
+steps_down schedule costs node (Call common contract function args) s is none x = subst (λ c. call_step c node common contract function args ≡ Some s) (sym is) x
+steps_down schedule costs node (Block height) s is none x = absurd (none height refl)
 
 -- ---- one step
 
-module _ (costs : List CostFn) (es fs : Contracts) (s t : State) (height later : ℕ) (entry : Entry) (r : TxResult) where
-  abbrev before : Seen
-  before = seen s (contracts_seen es) height costs
+-- what an entry makes under a schedule, and what callers know then
+pub record MadeAt (schedule : ScheduleSeen) (known : List Known) (before : Seen) (entry : Entry) (result : TxResult) (contracts : Contracts) (after : Seen) : Type 0 where
+  pub now : List Known
+  pub trees : AreStanding [] contracts now
+  pub forms : AreKnown [] after.contracts now
+  pub steps : Steps schedule (node_with known before) entry (record { node = node_with now after; result = result })
 
-  abbrev after : Seen
-  after = seen t (contracts_seen fs) later costs
+module _ (schedule : ScheduleSeen) (es fs : Contracts) (before after : Seen) (entry : Entry) where
+  module _ (r : TxResult) (sound : IsSound es before) (made : MadeAt schedule sound.known before entry r fs after) where
+    pub makes : Makes schedule before entry r after
+    makes = record {
+      from = node_with sound.known before;
+      to = node_with made.now after;
+      is_from = record { known = sound.is_sound.forms; is = refl };
+      is_to = record { known = made.forms; is = refl };
+      steps = made.steps;
+    }
 
-  pub makes : IsSound es before → MakesSound es before entry r fs after → Makes before entry r after
-  makes sound steps =
-      let m = steps sound.known sound.is_sound in
-      record {
+    pub sound_after : SoundStay → HasParts entry → IsSound fs after
+    sound_after stay parts = record {
+      known = made.now;
+      is_sound = record {
+        trees = made.trees;
+        forms = made.forms;
+        sound = stay schedule (node_with sound.known before) entry (record { node = node_with made.now after; result = r }) parts sound.is_sound.sound made.steps;
+      };
+    }
+
+    undone : FailedChangeNothing → (IsKept r.outcome → ⊥) → after ≡ before
+    undone failed lost =
+        let same = (failed schedule (node_with sound.known before) entry (record { node = node_with made.now after; result = r }) made.steps lost).0 in
+        λ i. record { state = (same i).state; contracts = (same i).contracts; height = (same i).height }
+
+    pub safely : FailedChangeNothing → CallsStayWithin → DeploymentsStayWithin → CallsAreTyped → HasParts entry → after.height ≡ height_after before.height entry → MakesSafely schedule before entry r after
+    safely failed calls deployments typed parts height = record {
+      makes = makes;
+      undone = undone failed;
+      height = height;
+      charged = charged_by schedule before sound.known sound.is_sound.forms sound.is_sound.sound (record { node = node_with made.now after; result = r }) calls deployments entry parts made.steps;
+      typed = typed_by schedule before sound.known sound.is_sound.forms sound.is_sound.sound (record { node = node_with made.now after; result = r }) typed entry parts made.steps;
+    }
+
+  -- after an entry that may want memory
+  module _ (costs : Costs) (is : costs ≡ costs_at schedule before.height) (sound : IsSound es before) (parts : HasParts entry) where
+    made_at : (r : TxResult) → MakesSound costs es before entry r fs after → MadeAt schedule sound.known before entry r fs after
+    made_at r steps =
+        let m = steps sound.known sound.is_sound in
+        record { now = m.now; trees = m.trees; forms = m.forms; steps = steps_up schedule costs (node_with sound.known before) entry (record { node = node_with m.now after; result = r }) is m.steps }
+
+    pub all_safely : FailedChangeNothing → CallsStayWithin → DeploymentsStayWithin → CallsAreTyped → after.height ≡ height_after before.height entry → (result : Result TxResult NoMemory) →
+        IfOk result (λ r. MakesSound costs es before entry r fs after) → IfOk result (λ r. MakesSafely schedule before entry r after)
+    all_safely failed calls deployments typed height (Ok r) steps = safely r sound (made_at r steps) failed calls deployments typed parts height
+    all_safely failed calls deployments typed height (Err e) steps = tt
+
+    pub sound_still : SoundStay → (result : Result TxResult NoMemory) → IfOk result (λ r. MakesSound costs es before entry r fs after) → OnErr result ((after ≡ before) × (fs ≡ es)) → IsSound fs after
+    sound_still stay (Ok r) steps same = sound_after r sound (made_at r steps) stay parts
+    sound_still stay (Err e) steps same = subst (λ (n : Contracts × Seen). IsSound n.0 n.1) (λ i. (sym same.1 i, sym same.0 i)) sound
+
+-- ---- what stays where memory ran out
+
+pub still_so : (result : Result TxResult NoMemory) (s t : State) (d : Deployed) (height : ℕ) → OnErr result (t ≡ s) → OnErr result ((seen t (deployed_seen d) height ≡ seen s (deployed_seen d) height) × (d.contracts.entries ≡ d.contracts.entries))
+still_so (Ok r) s t d height same = tt
+still_so (Err e) s t d height same = (ap (λ (u : State). seen u (deployed_seen d) height) same, refl)
+
+pub unchanged_so : (result : Result TxResult NoMemory) (w v : World) (cs ds : ContractsOfCode) (height : ℕ) → OnErr result (IsUnchanged w cs v ds) →
+    OnErr result ((seen v.stack.top (deployed_seen ds.deployed) height ≡ seen w.stack.top (deployed_seen cs.deployed) height) × (entries_of ds ≡ entries_of cs))
+unchanged_so (Ok r) w v cs ds height same = tt
+unchanged_so (Err e) w v cs ds height same = (λ i. seen (same.state i) (contracts_seen (same.contracts_are i)) height, same.contracts_are)
+
+-- ---- the result of a call that is tried
+
+pub tried_gives : (schedule : ScheduleSeen) (i : Invocation) (costs : Costs) (es : Contracts) (before : Seen) → costs ≡ costs_at schedule before.height → IsSound es before → (result : Result TxResult NoMemory) →
+    IfOk result (λ r. (known : List Known) → IsSoundWith es before known → (after : State) × steps_of costs (node_with known before) i (record { node = record (node_with known before) { state = after }; result = r })) →
+    IfOk result (λ r. Gives schedule before (call_entry i) r)
+tried_gives schedule i costs es before is sound (Ok r) gives =
+    let g = gives sound.known sound.is_sound in
+    record {
+      after = record before { state = g.0 };
+      makes = record {
         from = node_with sound.known before;
-        to = node_with m.now after;
+        to = record (node_with sound.known before) { state = g.0 };
         is_from = record { known = sound.is_sound.forms; is = refl };
-        is_to = record { known = m.forms; is = refl };
-        steps = m.steps;
-      }
-
-  pub sound_after : SoundStay → HasParts entry → IsSound es before → MakesSound es before entry r fs after → IsSound fs after
-  sound_after stay parts sound steps =
-      let m = steps sound.known sound.is_sound in
-      record {
-        known = m.now;
-        is_sound = record {
-          trees = m.trees;
-          forms = m.forms;
-          sound = stay (function_of costs) (node_with sound.known before) entry (record { node = node_with m.now after; result = r }) parts sound.is_sound.sound m.steps;
-        };
-      }
-
-  pub undone : FailedChangeNothing → IsSound es before → MakesSound es before entry r fs after → (IsKept r.outcome → ⊥) → after ≡ before
-  undone failed sound steps lost =
-      let m = steps sound.known sound.is_sound in
-      let same = (failed (function_of costs) (node_with sound.known before) entry (record { node = node_with m.now after; result = r }) m.steps lost).0 in
-      λ i. record { state = (same i).state; contracts = (same i).contracts; height = (same i).height; costs = costs }
-
--- ---- a call
-
-pub call_makes : (costs : List CostFn) (es : Contracts) (s t : State) (height : ℕ) (common : Common) (contract : Principal) (function : List ℕ) (args : List Tree) (r : TxResult) →
-    ((known : List Known) → call_step (function_of costs) (node_with known (seen s (contracts_seen es) height costs)) common contract function args ≡ Some (record { node = node_with known (seen t (contracts_seen es) height costs); result = r })) →
-    MakesSound es (seen s (contracts_seen es) height costs) (Call common contract function args) r es (seen t (contracts_seen es) height costs)
-call_makes costs es s t height common contract function args r steps known sound = record { now = known; trees = sound.trees; forms = sound.forms; steps = steps known }
-
--- ---- a block
-
-module _ (costs : List CostFn) (es : Contracts) (s : State) (height later : ℕ) (r : TxResult) where
-  pub block_makes : r ≡ result_of nothing_told Moved None [] → MakesSound es (seen s (contracts_seen es) height costs) (Block later) r es (seen s (contracts_seen es) later costs)
-  block_makes is known sound = record {
-    now = known;
-    trees = sound.trees;
-    forms = sound.forms;
-    steps = λ i. record { node = node_with known (seen s (contracts_seen es) later costs); result = is i };
-  }
-
--- ---- after a call that may want memory
-
-module _ (costs : List CostFn) (es fs : Contracts) (s t : State) (height : ℕ) (entry : Entry) (result : Result TxResult NoMemory) where
-  abbrev first : Seen
-  first = seen s (contracts_seen es) height costs
-
-  abbrev last : Seen
-  last = seen t (contracts_seen fs) height costs
-
-  pub sound_still : SoundStay → HasParts entry → IsSound es first → IfOk result (λ r. MakesSound es first entry r fs last) → OnErr result ((t ≡ s) × (fs ≡ es)) → IsSound fs last
-  sound_still stay parts sound = by result
-    where
-      by : (result : Result TxResult NoMemory) → IfOk result (λ r. MakesSound es first entry r fs last) → OnErr result ((t ≡ s) × (fs ≡ es)) → IsSound fs last
-      by (Ok r) steps same = sound_after costs es fs s t height height entry r stay parts sound steps
-      by (Err e) steps same =
-          subst (λ (n : Contracts × State). IsSound n.0 (seen n.1 (contracts_seen n.0) height costs)) (λ i. (sym same.1 i, sym same.0 i)) sound
-
-  pub makes_still : IsSound es first → IfOk result (λ r. MakesSound es first entry r fs last) → IfOk result (λ r. Makes first entry r last)
-  makes_still sound = by result
-    where
-      by : (result : Result TxResult NoMemory) → IfOk result (λ r. MakesSound es first entry r fs last) → IfOk result (λ r. Makes first entry r last)
-      by (Ok r) steps = makes costs es fs s t height height entry r sound steps
-      by (Err e) steps = tt
-
-  pub undone_still : FailedChangeNothing → IsSound es first → IfOk result (λ r. MakesSound es first entry r fs last) → IfOk result (λ r. (IsKept r.outcome → ⊥) → last ≡ first)
-  undone_still failed sound = by result
-    where
-      by : (result : Result TxResult NoMemory) → IfOk result (λ r. MakesSound es first entry r fs last) → IfOk result (λ r. (IsKept r.outcome → ⊥) → last ≡ first)
-      by (Ok r) steps = undone costs es fs s t height height entry r failed sound steps
-      by (Err e) steps = tt
-
--- a call
-module _ (costs : List CostFn) (es : Contracts) (s t : State) (height : ℕ) (common : Common) (contract : Principal) (function : List ℕ) (args : List Tree) where
-  pub call_steps : (result : Result TxResult NoMemory) →
-      IfOk result (λ r. (known : List Known) → call_step (function_of costs) (node_with known (seen s (contracts_seen es) height costs)) common contract function args ≡ Some (record { node = node_with known (seen t (contracts_seen es) height costs); result = r })) →
-      IfOk result (λ r. MakesSound es (seen s (contracts_seen es) height costs) (Call common contract function args) r es (seen t (contracts_seen es) height costs))
-  call_steps (Ok r) steps = call_makes costs es s t height common contract function args r steps
-  call_steps (Err e) steps = tt
-
-  pub call_refused : (result : Result TxResult NoMemory) → OnErr result (t ≡ s) → OnErr result ((t ≡ s) × (es ≡ es))
-  call_refused (Ok r) same = tt
-  call_refused (Err e) same = (same, refl)
+        is_to = record { known = sound.is_sound.forms; is = refl };
+        steps = steps_up schedule costs (node_with sound.known before) (call_entry i) (record { node = record (node_with sound.known before) { state = g.0 }; result = r }) is g.1;
+      };
+    }
+tried_gives schedule i costs es before is sound (Err e) gives = tt

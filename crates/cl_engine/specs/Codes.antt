@@ -2,8 +2,6 @@
 use Rattle.std.specs.Prelude.{◌≡◌, ℕ, zero, suc, List, refl}
 use Rattle.std.specs.Coded.{Coded, code_by, coded×, coded_ℕ, coded_list}
 use Rattle.cl_c32.specs.declared.principal.Principal.{Principal}
-use Rattle.cl_shapes.specs.declared.function.CostFn.{CostFn}
-use Rattle.cl_shapes.specs.contracts.function.CostFn as function
 use Rattle.cl_values.specs.Tree.{Tree}
 use Rattle.cl_values.specs.TreeCode.{tree_code}
 use Rattle.cl_forms.specs.declared.version.Version.{Version}
@@ -40,7 +38,7 @@ contract_code =
 
 abbrev pub seen_code : Coded Seen
 seen_code =
-    code_by (State × (List Contract × (ℕ × List CostFn))) (coded× state_code (coded× (coded_list contract_code) (coded× coded_ℕ (coded_list function.the_row.coded))))
-    (λ n. (n.state, (n.contracts, (n.height, n.costs))))
-    (λ p. record { state = p.0; contracts = p.1.0; height = p.1.1.0; costs = p.1.1.1 })
+    code_by (State × (List Contract × ℕ)) (coded× state_code (coded× (coded_list contract_code) coded_ℕ))
+    (λ n. (n.state, (n.contracts, n.height)))
+    (λ p. record { state = p.0; contracts = p.1.0; height = p.1.1 })
     (λ _. refl)

@@ -1,9 +1,13 @@
 pub mod Seen
 pub mod Codes
 pub mod Known
+pub mod Within
 pub mod Steps
+pub mod Traces
 pub mod Laws
 pub mod Sound
-pub mod Within
+pub mod Bounded
+pub mod Asked
+pub mod Calling
 pub mod Deploying
-pub mod Contents
+pub mod Trials

@@ -7,7 +7,7 @@ use Rattle.cl_contracts.specs.Seen.{contract_seen}
 use Rattle.cl_contracts.specs.Standings.{AreStanding}
 use Rattle.cl_node_sound.specs.Sound.{IsSoundNode}
 use Rattle.cl_rules.specs.Context.{Known}
-use Rattle.cl_engine.specs.Seen.{Seen, costs_of, node_with}
+use Rattle.cl_engine.specs.Seen.{Seen, node_with}
 use Rattle.cl_engine.specs.Known.{AreKnown}
 
 -- the deployed contracts with their principals, in the order of their deployments
@@ -21,7 +21,7 @@ contracts_seen contracts = map contract_seen contracts
 pub record IsSoundWith (contracts : Contracts) (n : Seen) (known : List Known) : Type 0 where
   pub trees : AreStanding [] contracts known
   pub forms : AreKnown [] n.contracts known
-  pub sound : IsSoundNode (costs_of n) (node_with known n)
+  pub sound : IsSoundNode (node_with known n)
 
 -- callers know something of them
 pub record IsSound (contracts : Contracts) (n : Seen) : Type 0 where

@@ -1,41 +1,63 @@
 //! Calls.
-ghost use Rattle.std.specs.Prelude.{◌≡◌, ◌<◌, ◌^◌, [], ℕ, List, Some, length, map, IfOk, OnErr};
-ghost use Rattle.cl_costs.specs.Tables.{function_of};
-ghost use Rattle.cl_meaning.specs.Deployed.{contract_at, function_of as function_under};
+ghost use Rattle.std.specs.Prelude.{◌≡◌, ◌∷◌, ◌<◌, ◌^◌, [], length, map, Some, IfOk, IfErr, OnErr};
 ghost use Rattle.cl_meaning.specs.Limits.{limited};
-ghost use Rattle.cl_meaning.specs.Top.{call_from};
-ghost use Rattle.cl_contracts.specs.Seen.{AreIndexed, deployed_seen, function_seen};
-ghost use Rattle.cl_frames.specs.Homes.{frame_seen};
+ghost use Rattle.cl_contracts.specs.Seen.{AreIndexed, deployed_seen};
 ghost use Rattle.cl_frames.specs.Sound.{IsKeptWorld};
-ghost use Rattle.cl_types.specs.Types.{PlainType};
+ghost use Rattle.cl_frames.specs.Watching.{trace};
 ghost use Rattle.cl_values.specs.Typed.{AreOf};
-ghost use Rattle.cl_rules.specs.Context.{Known};
 ghost use Rattle.cl_node_sound.specs.Sound.{HasParts};
-ghost use Rattle.cl_file.specs.declared.entry.Entry.TheVariants.{Call};
 ghost use Rattle.cl_tx.specs.Nodes.{NodeSeen, call_ended, purse_of};
-ghost use Rattle.cl_tx.specs.Step.{call_step};
-ghost use Rattle.cl_engine.specs.Seen.{node_with, seen};
-ghost use Rattle.cl_engine.specs.Sound.{IsSound};
-ghost use Rattle.cl_endings.specs.Calling.{Comes};
+ghost use Rattle.cl_runs.specs.Called.{IsCalled, call_of, costs_of, types_of};
+ghost use Rattle.cl_endings.specs.Calling.{Comes, ended_so};
+ghost use Rattle.cl_engine.specs.Asked.{Calls, IsCallable, IsReady, SeesCall, call_entry};
+ghost use Rattle.cl_engine.specs.Calling.{AreAccepted, EndsCall, GivesCall, IsCallRefusal, IsFound, SeesEnded};
+ghost use Rattle.cl_engine.specs.Traces.{SeesAll};
 
+use crate::asked::{Invocation, Moment};
+use crate::contracts::BoundedContracts;
 use crate::frame::frame_of;
 use crate::lookup::{function_named, refusal_of};
-use cl_c32::Principal;
-use cl_code::Function;
+use cl_code::{Function, Silent, Watch};
 use cl_contract_sound::functions_are_named;
-use cl_contracts::Deployed;
-use cl_costs::CostTable;
-use cl_endings::{finish, meter_of, refused};
-use cl_frames::Frame;
+use cl_contracts::{Contract, Deployed};
+use cl_endings::{Ended, close, judge, meter_of, peek};
 use cl_node_sound::entries_come_to_something;
-use cl_runs::run;
+use cl_runs::{Called, run_found};
 use cl_state::World;
-use cl_tx::{Common, EntryRefusal, TxResult};
+use cl_tx::{EntryRefusal, TxResult};
 use cl_types::NoMemory;
 use cl_values::Val;
 use std::alloc::Global;
 
-fn copied(alloc: Global, args: &[Val]) -> Result<Vec<Val>, NoMemory>
+/// A function that is called, with its contract.
+#[derive(Clone, Copy)]
+pub(crate) struct Found<'a> {
+    pub(crate) contract: &'a Contract,
+    pub(crate) function: &'a Function,
+}
+
+/// The function that a call names, where it may be called with these values, or why not.
+fn find<'a>(deployed: &'a Deployed, invocation: &Invocation) -> Result<Found<'a>, EntryRefusal>
+    requires indexed { AreIndexed deployed.now }
+    requires accepted { AreAccepted deployed.now }
+    requires parts { HasParts (call_entry invocation.now) }
+    ensures found { IfOk result (λ f. IsFound invocation.now deployed.now f) }
+    ensures refused { IfErr result (λ r. IsCallRefusal invocation.now deployed.now r) }
+{
+    functions_are_named();
+    let Some(contract) = deployed.find(invocation.contract) else {
+        return Err(EntryRefusal::NoContract);
+    };
+    let Some(function) = function_named(contract, invocation.function) else {
+        return Err(EntryRefusal::NoFunction);
+    };
+    match refusal_of(function, invocation.args) {
+        Some(refusal) => Err(refusal),
+        None => Ok(Found { contract, function }),
+    }
+}
+
+fn copy_all(alloc: Global, args: &[Val]) -> Result<Vec<Val>, NoMemory>
     ensures { IfOk result (λ v. v.items ≡ args.now) }
 {
     let mut copies = Vec::new(alloc);
@@ -45,79 +67,137 @@ fn copied(alloc: Global, args: &[Val]) -> Result<Vec<Val>, NoMemory>
     Ok(copies)
 }
 
-/// Applies a function to arguments, on a layer of its own and under the limit of the entry.
-fn apply(
+/// Applies a function to the values of a call, on the top layer and under the limit of the entry.
+fn apply<W: Watch>(
+    called: &Called,
+    invocation: &Invocation,
+    world: &mut World,
+    watch: &mut W,
+) -> Result<Ended, NoMemory>
+    requires called { IsCalled called.now }
+    requires few { length invocation.now.args.now < 2 ^ 32 }
+    requires kept { IsKeptWorld (deployed_seen called.now.deployed.now) world.old.stack.top }
+    requires fitting { AreOf invocation.now.args.now (types_of called.now) }
+    requires comes { Comes invocation.now.common.now called.now.function.now.access
+        (limited (costs_of called.now) (purse_of invocation.now.common.now)
+        (call_of called.now invocation.now.args.now world.old)) }
+    ensures ended { IfOk result (λ e. (node : NodeSeen) →
+        call_ended invocation.now.common.now called.now.function.now.access node
+        (limited (costs_of called.now) (purse_of invocation.now.common.now)
+        (call_of called.now invocation.now.args.now world.old))
+        ≡ Some (ended_so e node world.new.stack.top)) }
+    ensures below { world.new.stack.below ≡ world.old.stack.below }
+    ensures seen { SeesAll (W.seen watch.old) (W.seen watch.new)
+        (trace (costs_of called.now) (purse_of invocation.now.common.now)
+        (call_of called.now invocation.now.args.now world.old)) result }
+{
+    let args = copy_all(called.alloc, invocation.args)?;
+    let mut meter = meter_of(invocation.common);
+    let answer = run_found(called, args, world, &mut meter, watch);
+    judge(
+        called.alloc,
+        world,
+        invocation.common,
+        called.function.access,
+        answer,
+        meter.spent(),
+    )
+}
+
+/// Evaluates a call on the top layer.
+fn evaluate<W: Watch>(
     alloc: Global,
     world: &mut World,
-    deployed: &Deployed,
-    common: &Common,
-    frame: &Frame,
-    function: &Function,
-    args: &[Val],
-    costs: &CostTable,
-) -> Result<TxResult, NoMemory>
-    requires base { world.old.stack.below ≡ [] }
-    requires indexed { AreIndexed deployed.now }
-    requires there { function_under function.now.name (contract_at frame.now.contract (deployed_seen deployed.now)) ≡ Some (function_seen function.now) }
-    requires few { length args.now < 2 ^ 32 }
-    requires kept { IsKeptWorld (deployed_seen deployed.now) world.old.stack.top }
-    requires fitting { AreOf args.now (map (λ (param : List ℕ × PlainType). param.1) function.now.params.items) }
-    requires comes { Comes common.now function.now.access (limited (function_of costs.now) (purse_of common.now) (call_from (deployed_seen deployed.now) (frame_seen frame.now) (function_seen function.now) args.now world.old.stack.top)) }
-    ensures ended { IfOk result (λ r. (node : NodeSeen) → node.state ≡ world.old.stack.top →
-        call_ended common.now function.now.access node (limited (function_of costs.now) (purse_of common.now) (call_from (deployed_seen deployed.now) (frame_seen frame.now) (function_seen function.now) args.now world.old.stack.top))
-        ≡ Some (record { node = record node { state = world.new.stack.top }; result = r })) }
-    ensures base { world.new.stack.below ≡ [] }
-    ensures refused { OnErr result (world.new.stack.top ≡ world.old.stack.top) }
+    contracts: &BoundedContracts,
+    moment: &Moment,
+    invocation: &Invocation,
+    watch: &mut W,
+) -> Result<Ended, NoMemory>
+    requires callable { IsCallable contracts.now moment.now }
+    requires ready { IsReady world.old contracts.now.deployed.now moment.now
+        (call_entry invocation.now) }
+    ensures ended { IfOk result
+        (λ e. EndsCall invocation.now moment.now contracts.now world.old e world.new) }
+    ensures below { world.new.stack.below ≡ world.old.stack.below }
+    ensures seen { SeesEnded invocation.now moment.now contracts.now world.old result
+        (W.seen watch.old) (W.seen watch.new) }
 {
-    let copies = copied(alloc, args)?;
-    world.push_layer()?;
-    let mut meter = meter_of(common);
-    let answer = run(
+    entries_come_to_something();
+    let found = match find(contracts.deployed, invocation) {
+        Ok(found) => found,
+        Err(refusal) => return Ok(Ended::of_refusal(refusal)),
+    };
+    let over = contracts
+        .bounds
+        .over(invocation.contract, &found.function.name);
+    if let Some(dimension) = over {
+        return Ok(Ended::of_refusal(EntryRefusal::NoBound(dimension)));
+    }
+    let frame = frame_of(invocation.common, invocation.contract, moment.height);
+    let called = Called {
         alloc,
-        world,
-        deployed,
-        frame,
-        &function.name,
-        copies,
-        costs,
-        &mut meter,
-    );
-    finish(alloc, world, common, function.access, answer, meter.spent())
+        deployed: contracts.deployed,
+        contract: found.contract,
+        function: found.function,
+        frame: &frame,
+        costs: moment.costs,
+    };
+    apply(&called, invocation, world, watch)
 }
 
 /// Calls a function of a deployed contract with these values, or says why not.
-pub(crate) fn call(
+pub(crate) fn call<W: Watch>(
     alloc: Global,
     world: &mut World,
-    deployed: &Deployed,
-    height: u64,
-    costs: &CostTable,
-    common: &Common,
-    contract: &Principal,
-    function: &[u8],
-    args: &[Val],
+    contracts: &BoundedContracts,
+    moment: &Moment,
+    invocation: &Invocation,
+    watch: &mut W,
 ) -> Result<TxResult, NoMemory>
     requires base { world.old.stack.below ≡ [] }
-    requires indexed { AreIndexed deployed.now }
-    requires sound { IsSound deployed.now.contracts.entries (seen world.old.stack.top (deployed_seen deployed.now) height costs.now) }
-    requires parts { HasParts (Call common.now contract.now function.now args.now) }
-    ensures steps { IfOk result (λ r. (known : List Known) →
-        call_step (function_of costs.now) (node_with known (seen world.old.stack.top (deployed_seen deployed.now) height costs.now)) common.now contract.now function.now args.now
-        ≡ Some (record { node = node_with known (seen world.new.stack.top (deployed_seen deployed.now) height costs.now); result = r })) }
+    requires callable { IsCallable contracts.now moment.now }
+    requires ready { IsReady world.old contracts.now.deployed.now moment.now
+        (call_entry invocation.now) }
+    ensures steps { IfOk result
+        (λ r. Calls invocation.now moment.now contracts.now world.old r world.new) }
     ensures base { world.new.stack.below ≡ [] }
     ensures refused { OnErr result (world.new.stack.top ≡ world.old.stack.top) }
+    ensures seen { SeesCall invocation.now moment.now contracts.now world.old result
+        (W.seen watch.old) (W.seen watch.new) }
 {
-    functions_are_named();
-    entries_come_to_something();
-    let Some(found) = deployed.find(contract) else {
-        return Ok(refused(alloc, EntryRefusal::NoContract));
-    };
-    let Some(called) = function_named(found, function) else {
-        return Ok(refused(alloc, EntryRefusal::NoFunction));
-    };
-    if let Some(refusal) = refusal_of(called, args) {
-        return Ok(refused(alloc, refusal));
+    world.push_layer()?;
+    match evaluate(alloc, world, contracts, moment, invocation, watch) {
+        Ok(ended) => close(alloc, world, ended),
+        Err(NoMemory) => {
+            world.drop_layer();
+            Err(NoMemory)
+        }
     }
-    let frame = frame_of(common, contract, height);
-    apply(alloc, world, deployed, common, &frame, called, args, costs)
+}
+
+/// The result of a call. What it changes is undone.
+pub(crate) fn try_call(
+    alloc: Global,
+    world: &mut World,
+    contracts: &BoundedContracts,
+    moment: &Moment,
+    invocation: &Invocation,
+) -> Result<TxResult, NoMemory>
+    requires base { world.old.stack.below ≡ [] }
+    requires callable { IsCallable contracts.now moment.now }
+    requires ready { IsReady world.old contracts.now.deployed.now moment.now
+        (call_entry invocation.now) }
+    ensures gives { IfOk result
+        (λ r. GivesCall invocation.now moment.now contracts.now world.old r) }
+    ensures same { world.new.stack ≡ world.old.stack }
+{
+    let mut nobody = Silent;
+    world.push_layer()?;
+    match evaluate(alloc, world, contracts, moment, invocation, &mut nobody) {
+        Ok(ended) => peek(alloc, world, ended),
+        Err(NoMemory) => {
+            world.drop_layer();
+            Err(NoMemory)
+        }
+    }
 }

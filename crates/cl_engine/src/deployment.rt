@@ -1,22 +1,23 @@
 //! The evaluation of deployments.
 ghost use Rattle.std.specs.Prelude.{◌≡◌, ◌∷◌, [], Ok, length, IfOk, OnErr};
-ghost use Rattle.cl_costs.specs.Tables.{function_of};
-ghost use Rattle.cl_meaning.specs.Deploying.{deployment};
 ghost use Rattle.cl_meaning.specs.Limits.{limited};
-ghost use Rattle.cl_contracts.specs.Seen.{AreIndexed, IsIndexed, deployed_seen};
-ghost use Rattle.cl_frames.specs.Homes.{frame_seen};
-ghost use Rattle.cl_frames.specs.Deploys.{HasNoTokens, contract_with};
+ghost use Rattle.cl_contracts.specs.Seen.{IsIndexed, deployed_seen};
+ghost use Rattle.cl_frames.specs.Deploys.{HasNoTokens};
 ghost use Rattle.cl_frames.specs.Sound.{IsAcceptedAfter};
+ghost use Rattle.cl_frames.specs.Watching.{trace};
 ghost use Rattle.cl_post.specs.Post.{holds};
 ghost use Rattle.cl_tx.specs.Nodes.{purse_of};
-ghost use Rattle.cl_engine.specs.Deploying.{EndsAs, Runs};
+ghost use Rattle.cl_engine.specs.Bounded.{IsWhole, costs_of};
+ghost use Rattle.cl_engine.specs.Traces.{SeesAll};
+ghost use Rattle.cl_engine.specs.Deploying.{EndsAs, Runs, evaluation_of};
 
-use cl_contracts::{Checked, Deployed};
-use cl_costs::CostTable;
+use crate::accept::Accepted;
+use crate::contracts::Contracts;
+use cl_code::Watch;
 use cl_endings::{cost_of, failing, keep, meter_of, stop_of};
 use cl_events::Event;
-use cl_frames::{Abort, Frame};
-use cl_runs::run_top;
+use cl_frames::Abort;
+use cl_runs::run_top_watched;
 use cl_shapes::Cost5;
 use cl_state::World;
 use cl_tx::{Common, Stop};
@@ -54,7 +55,7 @@ fn settle(
 {
     match failing(alloc, world, common) {
         None => {
-            let events = keep(alloc, world)?;
+            let events = keep(world)?;
             Ok(Ran::Done {
                 cost: spent,
                 constants,
@@ -68,7 +69,7 @@ fn settle(
     }
 }
 
-/// Ends a deployment that was evaluated on a layer of its own and has spent so much. The layer
+/// Ends a deployment that was evaluated on a layer of its own, and what it has spent. The layer
 /// becomes the base where the deployment is done, and is dropped where it stops.
 fn finish(
     alloc: Global,
@@ -99,31 +100,42 @@ fn finish(
 
 /// Evaluates the deployment of an accepted contract, on a layer of its own and under the limit of
 /// the entry.
-pub(crate) fn run(
+pub(crate) fn run<W: Watch>(
     alloc: Global,
     world: &mut World,
-    deployed: &Deployed,
+    contracts: &Contracts,
     common: &Common,
-    checked: &Checked,
-    frame: &Frame,
-    costs: &CostTable,
+    accepted: &Accepted,
+    watch: &mut W,
 ) -> Result<Ran, NoMemory>
     requires base { world.old.stack.below ≡ [] }
-    requires indexed { AreIndexed deployed.now }
-    requires own { IsIndexed checked.now }
-    requires accepted { IsAcceptedAfter (deployed_seen deployed.now) world.old.stack.top checked.now }
-    requires home { checked.now.principal ≡ frame.now.contract }
-    requires tokens { HasNoTokens frame.now.contract world.old.stack.top }
-    ensures runs { IfOk result
-        (λ ran. Runs common.now (limited (function_of costs.now) (purse_of common.now)
-        (deployment (deployed_seen deployed.now) (frame_seen frame.now)
-        (contract_with checked.now []) world.old.stack.top))
-        checked.now ran world.old.stack.top world.new.stack.top) }
+    requires whole { IsWhole contracts.now }
+    requires names { IsIndexed accepted.now.checked }
+    requires accepted { IsAcceptedAfter (deployed_seen contracts.now.deployed)
+        world.old.stack.top accepted.now.checked }
+    requires home { accepted.now.checked.principal ≡ accepted.now.frame.contract }
+    requires tokens { HasNoTokens accepted.now.frame.contract world.old.stack.top }
+    ensures runs { IfOk result (λ ran. Runs common.now
+        (limited (costs_of contracts.now) (purse_of common.now)
+        (evaluation_of contracts.now accepted.now world.old))
+        accepted.now.checked ran world.old.stack.top world.new.stack.top) }
     ensures base { world.new.stack.below ≡ [] }
     ensures refused { OnErr result (world.new.stack.top ≡ world.old.stack.top) }
+    ensures seen { SeesAll (W.seen watch.old) (W.seen watch.new)
+        (trace (costs_of contracts.now) (purse_of common.now)
+        (evaluation_of contracts.now accepted.now world.old)) result }
 {
     world.push_layer()?;
     let mut meter = meter_of(common);
-    let ended = run_top(alloc, world, deployed, checked, frame, costs, &mut meter);
+    let ended = run_top_watched(
+        alloc,
+        world,
+        &contracts.deployed,
+        &accepted.checked,
+        &accepted.frame,
+        &contracts.table,
+        &mut meter,
+        watch,
+    );
     finish(alloc, world, common, ended, meter.spent())
 }

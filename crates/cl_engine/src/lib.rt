@@ -1,8 +1,10 @@
 //! A node: what an entry of a transaction file makes of it.
 #![tactic(auto)]
 
+mod accept;
+mod asked;
 mod call;
-mod contents;
+mod contracts;
 mod deploy;
 mod deployment;
 mod frame;
@@ -10,9 +12,10 @@ mod laws;
 mod lookup;
 mod node;
 mod parts;
-mod request;
 mod told;
+mod trial;
 
 pub use laws::nodes_are_known_in_one_way;
 pub use node::Node;
 pub use told::types_of;
+pub use trial::Trial;

@@ -1,9 +1,10 @@
 //! What an entry names, and whether it may be called.
-ghost use Rattle.std.specs.Prelude.{◌≡◌, ◌<◌, ◌^◌, length, Some, IfSome, IfNone, option_map};
+ghost use Rattle.std.specs.Prelude.{◌≡◌, ◌<◌, ◌^◌, length, true, Some, IfSome, IfNone, option_map};
 ghost use Rattle.cl_types.specs.Name.{IsName};
 ghost use Rattle.cl_c32.specs.declared.principal.Principal.{Principal};
 ghost use Rattle.cl_meaning.specs.Deployed.{Function as FunctionSeen, function_in};
 ghost use Rattle.cl_meaning.specs.Limits.{Costs};
+ghost use Rattle.cl_code.specs.Typed.{goes_by};
 ghost use Rattle.cl_contracts.specs.Seen.{IsIndexed, forms_of, function_seen};
 ghost use Rattle.cl_file.specs.declared.entry.Common.{Common};
 ghost use Rattle.cl_tx.specs.Nodes.{NodeSeen, refused};
@@ -21,8 +22,10 @@ pub(crate) fn function_named<'a>(contract: &'a Contract, name: &[u8]) -> Option<
     requires indexed { IsIndexed contract.now.checked }
     requires named { (f : FunctionSeen) →
         function_in name.now (forms_of contract.now.checked) ≡ Some f → IsName name.now }
-    ensures { option_map (λ f. function_seen f.now) result
+    ensures seen { option_map (λ f. function_seen f.now) result
         ≡ function_in name.now (forms_of contract.now.checked) }
+    ensures goes { IfSome result
+        (λ f. goes_by contract.now.checked.version f.now.body ≡ true) }
 {
     match Name::make(name) {
         Some(name) => contract.function(&name),

@@ -1,6 +1,6 @@
 //! What is told of an accepted contract.
 ghost use Rattle.std.specs.Prelude.{◌≡◌, filter_map, IfOk};
-ghost use Rattle.cl_engine.specs.Deploying.{told_seen, told_with, type_returned, with_type};
+ghost use Rattle.cl_engine.specs.Deploying.{type_returned, with_type};
 
 use cl_code::Definition;
 use cl_tx::{Bounds, Row};
@@ -56,7 +56,8 @@ pub(crate) fn told_of(
     definitions: &[Definition],
     bounds: Bounds,
 ) -> Result<Told, NoMemory>
-    ensures { IfOk result (λ t. told_seen t ≡ told_with bounds definitions.now) }
+    ensures bounds { IfOk result (λ t. t.bounds ≡ bounds) }
+    ensures types { IfOk result (λ t. t.types ≡ filter_map type_returned definitions.now) }
 {
     let types = types_of(alloc, definitions)?;
     Ok(Told {

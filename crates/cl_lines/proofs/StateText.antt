@@ -10,7 +10,7 @@ use Rattle.cl_tokens.specs.Table.{is_key}
 use Rattle.cl_events.specs.State.{State}
 use Rattle.cl_tables.specs.declared.row.StateRow.{StateRow}
 use Rattle.cl_tables.specs.StateRows.{IsRow, AreRows}
-use Rattle.cl_lines.specs.StateLines.{IsLine, IsStateText, ended}
+use Rattle.cl_lines.specs.StateLines.{IsLine, IsStateText, with_line_feeds}
 use Rattle.cl_lines.specs.RowLines.{row_line}
 use Rattle.cl_lines.specs.LineSets.{IsSetOf}
 use Rattle.cl_lines.proofs.LineOrder.{listed, stands, one_list}
@@ -19,7 +19,7 @@ pub one_text : (s : State) (a b : List ℕ) → IsStateText s a → IsStateText 
 one_text s a b first second =
     let same : first.lines ≡ second.lines = one_list first.lines second.lines first.rising second.rising
     (λ line there. second.whole line (first.sound line there)) (λ line there. first.whole line (second.sound line there)) in
-    first.ends ∙ ap ended same ∙ sym second.ends
+    first.ends ∙ ap with_line_feeds same ∙ sym second.ends
 
 -- ------------------------------------------------------------ lines and rows
 
@@ -41,7 +41,7 @@ line_listed : (s : State) (rows : List StateRow) → AreRows rows s → (line : 
 line_listed s rows are line is = row_listed rows is.0 line (are.whole is.0 is.1) is.2
 
 -- a set of the lines of all rows, each followed by an LF, is the text
-pub text_of_rows : (s : State) (rows : List StateRow) (lines : List (List ℕ)) → AreRows rows s → IsSetOf (map row_line rows) lines → IsStateText s (ended lines)
+pub text_of_rows : (s : State) (rows : List StateRow) (lines : List (List ℕ)) → AreRows rows s → IsSetOf (map row_line rows) lines → IsStateText s (with_line_feeds lines)
 text_of_rows s rows lines are set = record {
   lines = lines;
   rising = set.rising;

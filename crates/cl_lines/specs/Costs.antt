@@ -20,9 +20,13 @@ cost_line (Some cost) = codes "  cost " ++ (cost_text cost ++ codes "\n")
 abbrev pub deployment_line : Cost5 → List ℕ
 deployment_line bound = codes "  deploy-bound " ++ (cost_text bound ++ codes "\n")
 
+-- a bound and the type that its function returns, each behind a space
+unfoldable pub bound_text : Cost5 → PlainType → List ℕ
+bound_text bound type = codes " " ++ (cost_text bound ++ (codes " " ++ printed_type type))
+
 -- the line of a function with its bound and its return type
 unfoldable pub bound_line : List ℕ → Cost5 → PlainType → List ℕ
-bound_line name bound type = codes "  bound " ++ (name ++ (codes " " ++ (cost_text bound ++ (codes " " ++ (printed_type type ++ codes "\n")))))
+bound_line name bound type = codes "  bound " ++ (name ++ (bound_text bound type ++ codes "\n"))
 
 -- a line for each function
 abbrev pub bound_lines : List (List ℕ × Cost5) → List PlainType → List ℕ

@@ -4,4 +4,5 @@ pub mod Events
 pub mod StateLines
 pub mod LineSets
 pub mod RowLines
+pub mod Rebounds
 pub mod Checks

@@ -9,7 +9,7 @@ use Rattle.cl_tx.specs.Seen.{SourceBreak}
 use Rattle.cl_tx.specs.declared.outcome.Stop.{Stop}
 use Rattle.cl_tx.specs.declared.outcome.Stop.TheVariants.{Overflow, Underflow, DivideByZero, NegativeArgument, Panic, SupplyOverflow, EarlyTop, CostLimit, PostCondition}
 use Rattle.cl_tx.specs.declared.outcome.EntryRefusal.{EntryRefusal}
-use Rattle.cl_tx.specs.declared.outcome.EntryRefusal.TheVariants.{NoContract, NoFunction, NotPublic, ArgumentCount, Argument, NameTaken, ContractRefused}
+use Rattle.cl_tx.specs.declared.outcome.EntryRefusal.TheVariants.{NoContract, NoFunction, NotPublic, ArgumentCount, Argument, NameTaken, ContractRefused, NoBound}
 
 -- names, each behind a space
 abbrev pub names_text : List (List ℕ) → List ℕ
@@ -51,3 +51,4 @@ entry_refusal_text ArgumentCount = codes "E4 ArgumentCount"
 entry_refusal_text (Argument index) = codes "E5 Argument " ++ decimal index
 entry_refusal_text NameTaken = codes "E6 NameTaken"
 entry_refusal_text (ContractRefused r) = codes "E7 ContractRefused " ++ refusal_text r
+entry_refusal_text (NoBound d) = codes "E8 NoBound " ++ dimension_name d

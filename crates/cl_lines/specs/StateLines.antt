@@ -13,8 +13,8 @@ abbrev pub IsLine : State → List ℕ → Type 0
 IsLine s line = (row : StateRow) × IsRow s row × (line ≡ row_line row)
 
 -- lines, each followed by an LF
-abbrev pub ended : List (List ℕ) → List ℕ
-ended lines = flat_map (λ line. line ++ codes "\n") lines
+abbrev pub with_line_feeds : List (List ℕ) → List ℕ
+with_line_feeds lines = flat_map (λ line. line ++ codes "\n") lines
 
 -- the text of a state: just its lines, rising bytewise, each followed by an LF
 pub record IsStateText (s : State) (text : List ℕ) : Type 0 where
@@ -22,4 +22,4 @@ pub record IsStateText (s : State) (text : List ℕ) : Type 0 where
   pub rising : IsStrictlySortedBy key_cmp lines
   pub sound : (line : List ℕ) → Contains lines line → IsLine s line
   pub whole : (line : List ℕ) → IsLine s line → Contains lines line
-  pub ends : text ≡ ended lines
+  pub ends : text ≡ with_line_feeds lines

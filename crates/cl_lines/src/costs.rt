@@ -1,6 +1,6 @@
 //! How costs and bounds print.
 ghost use Rattle.std.specs.Prelude.{◌≡◌, ◌++◌, IfOk, codes, decimal};
-ghost use Rattle.cl_lines.specs.Costs.{cost_text, cost_line, deployment_line, bound_line, bound_lines, bounds_lines};
+ghost use Rattle.cl_lines.specs.Costs.{cost_text, cost_line, deployment_line, bound_text, bound_line, bound_lines, bounds_lines};
 
 use cl_shapes::Cost5;
 use cl_text::print_type;
@@ -50,23 +50,21 @@ fn write_deployment(out: &mut Vec<u8>, bound: &Cost5) -> Result<(), NoMemory>
     Ok(())
 }
 
-// The line of a function whose return type has this text.
-fn write_line(
+/// Writes a bound and the type that its function returns, each behind a space.
+#[tactic(auto, unfolding(crate::specs::Costs::bound_text))]
+pub(crate) fn write_bound_text(
     out: &mut Vec<u8>,
-    name: &Name,
+    alloc: Global,
     bound: &Cost5,
-    type_text: &[u8],
+    returns: &SizedTy,
 ) -> Result<(), NoMemory>
-    ensures { IfOk result (λ _. out.new.items
-        ≡ out.old.items ++ (codes "  bound " ++ (name.now ++ (codes " " ++ (cost_text bound.now ++ (codes " " ++ (type_text.now ++ codes "\n"))))))) }
+    ensures { IfOk result (λ _. out.new.items ≡ out.old.items ++ bound_text bound.now returns.now) }
 {
-    out.extend_from_slice(b"  bound ")?;
-    out.extend_from_slice(name.bytes())?;
+    let type_text = print_type(alloc, returns)?;
     out.extend_from_slice(b" ")?;
     write_numbers(out, bound)?;
     out.extend_from_slice(b" ")?;
-    out.extend_from_slice(type_text)?;
-    out.extend_from_slice(b"\n")?;
+    out.extend_from_slice(&type_text)?;
     Ok(())
 }
 
@@ -81,8 +79,11 @@ fn write_bound(
     ensures { IfOk result (λ _. out.new.items
         ≡ out.old.items ++ bound_line name.now bound.now returns.now) }
 {
-    let type_text = print_type(alloc, returns)?;
-    write_line(out, name, bound, &type_text)
+    out.extend_from_slice(b"  bound ")?;
+    out.extend_from_slice(name.bytes())?;
+    write_bound_text(out, alloc, bound, returns)?;
+    out.extend_from_slice(b"\n")?;
+    Ok(())
 }
 
 fn write_functions(
@@ -91,7 +92,8 @@ fn write_functions(
     functions: &[(Name, Cost5)],
     types: &[SizedTy],
 ) -> Result<(), NoMemory>
-    ensures { IfOk result (λ _. out.new.items ≡ out.old.items ++ bound_lines functions.now types.now) }
+    ensures { IfOk result (λ _. out.new.items
+        ≡ out.old.items ++ bound_lines functions.now types.now) }
 {
     for (i, (name, bound)) in functions.iter().enumerate() {
         match types.get(i) {
@@ -109,7 +111,8 @@ pub fn write_bounds(
     bounds: &Option<Bounds>,
     types: &[SizedTy],
 ) -> Result<(), NoMemory>
-    ensures { IfOk result (λ _. out.new.items ≡ out.old.items ++ bounds_lines bounds.now types.now) }
+    ensures { IfOk result (λ _. out.new.items
+        ≡ out.old.items ++ bounds_lines bounds.now types.now) }
 {
     match bounds {
         Some(bounds) => {

@@ -1,9 +1,10 @@
 //! How aborts and refusals print.
 ghost use Rattle.std.specs.Prelude.{◌≡◌, ◌++◌, ◌∷◌, [], IfOk, codes, string_bytes};
+ghost use Rattle.cl_shapes.specs.Costs.{dimension_name};
 ghost use Rattle.cl_lines.specs.Refusals.{names_text, dimension_text, span_text, refusal_text, stop_text, entry_refusal_text};
 
 use cl_sexpr::{Rule, Span};
-use cl_shapes::Over;
+use cl_shapes::{Dimension, Over};
 use cl_tx::{EntryRefusal, SourceRefusal, Stop};
 use cl_types::{Name, NoMemory};
 use std::alloc::{AllocError, Global};
@@ -112,6 +113,15 @@ fn write_contract_refused(
     write_refusal(out, alloc, refusal)
 }
 
+fn write_no_bound(out: &mut Vec<u8>, dimension: Dimension) -> Result<(), NoMemory>
+    ensures { IfOk result (λ _. out.new.items
+        ≡ out.old.items ++ (codes "E8 NoBound " ++ dimension_name dimension)) }
+{
+    out.extend_from_slice(b"E8 NoBound ")?;
+    out.extend_from_slice(dimension.name().as_bytes())?;
+    Ok(())
+}
+
 /// Writes why an entry isn't run.
 #[tactic(auto, unfolding(crate::specs::Refusals::entry_refusal_text))]
 pub fn write_entry_refusal(
@@ -129,6 +139,7 @@ pub fn write_entry_refusal(
         EntryRefusal::Argument { index } => write_argument(out, alloc, *index)?,
         EntryRefusal::NameTaken => out.extend_from_slice(b"E6 NameTaken")?,
         EntryRefusal::ContractRefused(refusal) => write_contract_refused(out, alloc, refusal)?,
+        EntryRefusal::NoBound(dimension) => write_no_bound(out, *dimension)?,
     }
     Ok(())
 }

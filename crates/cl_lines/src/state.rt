@@ -1,6 +1,6 @@
 //! The lines of a state.
 ghost use Rattle.std.specs.Prelude.{◌≡◌, ◌++◌, IfOk, codes, map};
-ghost use Rattle.cl_lines.specs.StateLines.{IsStateText, ended};
+ghost use Rattle.cl_lines.specs.StateLines.{IsStateText, with_line_feeds};
 ghost use Rattle.cl_lines.specs.RowLines.{row_word, contract_part, name_part, key_part, row_line};
 ghost use Rattle.cl_lines.specs.LineSets.{IsSetOf};
 
@@ -74,7 +74,7 @@ fn row_line(
     Ok(line)
 }
 
-fn row_lines(
+fn lines_with(
     alloc: Global,
     addresses: &mut AddressCache,
     rows: &[StateRow],
@@ -90,6 +90,15 @@ fn row_lines(
     Ok(lines)
 }
 
+/// The lines of rows, in their order, without their LFs.
+pub fn row_lines(alloc: Global, rows: &[StateRow]) -> Result<Vec<Vec<u8>>, NoMemory>
+    ensures { IfOk result (λ lines. map (λ line. line.items) lines.items
+        ≡ map (λ r. row_line r) rows.now) }
+{
+    let mut addresses = AddressCache::new(alloc)?;
+    lines_with(alloc, &mut addresses, rows)
+}
+
 /// The lines rising, each once.
 fn rising(mut lines: Vec<Vec<u8>>) -> Result<Vec<Vec<u8>>, NoMemory>
     ensures { IfOk result (λ set. IsSetOf (map (λ line. line.items) lines.items)
@@ -100,8 +109,9 @@ fn rising(mut lines: Vec<Vec<u8>>) -> Result<Vec<Vec<u8>>, NoMemory>
     Ok(lines)
 }
 
-fn ended(alloc: Global, lines: &[Vec<u8>]) -> Result<Vec<u8>, NoMemory>
-    ensures { IfOk result (λ text. text.items ≡ ended (map (λ line. line.items) lines.now)) }
+fn with_line_feeds(alloc: Global, lines: &[Vec<u8>]) -> Result<Vec<u8>, NoMemory>
+    ensures { IfOk result (λ text. text.items
+        ≡ with_line_feeds (map (λ line. line.items) lines.now)) }
 {
     let mut text = Vec::new(alloc);
     for line in lines {
@@ -115,7 +125,7 @@ fn ended(alloc: Global, lines: &[Vec<u8>]) -> Result<Vec<u8>, NoMemory>
 pub fn state_line(alloc: Global, row: &StateRow) -> Result<Vec<u8>, NoMemory>
     ensures { IfOk result (λ line. line.items ≡ row_line row.now ++ codes "\n") }
 {
-    let mut addresses = AddressCache::new(alloc)?;
+    let mut addresses = AddressCache::without_slots(alloc);
     let mut line = row_line(alloc, &mut addresses, row)?;
     line.push(b'\n')?;
     Ok(line)
@@ -126,8 +136,7 @@ pub fn state_lines(alloc: Global, world: &World) -> Result<Vec<u8>, NoMemory>
     ensures { IfOk result (λ text. IsStateText world.now.stack.top text.items) }
 {
     let rows = world.rows()?;
-    let mut addresses = AddressCache::new(alloc)?;
-    let lines = row_lines(alloc, &mut addresses, &rows)?;
+    let lines = row_lines(alloc, &rows)?;
     let set = rising(lines)?;
-    ended(alloc, &set)
+    with_line_feeds(alloc, &set)
 }

@@ -11,7 +11,7 @@ use Rattle.cl_c32.specs.Digits.{digits_within, digits_in, regrouped_digits}
 use Rattle.cl_c32.specs.Codec.{checksum_of, address_text}
 use Rattle.cl_c32.specs.declared.principal.Principal.{Principal}
 use Rattle.cl_shapes.specs.Costs.{cost5}
-use Rattle.cl_shapes.specs.declared.cost.Dimension.TheVariants.{ReadCount, WriteLength}
+use Rattle.cl_shapes.specs.declared.cost.Dimension.TheVariants.{Runtime, ReadCount, WriteCount, WriteLength}
 use Rattle.cl_sexpr.specs.declared.rule.Rule.{Rule}
 use Rattle.cl_sexpr.specs.declared.rule.Rule.TheVariants.{Cycle, BoundTooLarge, BadType}
 use Rattle.cl_values.specs.Tree.{BoolV, UintV, AsciiV, ResponseV}
@@ -27,11 +27,13 @@ use Rattle.cl_file.specs.Entries.{no_limit}
 use Rattle.cl_tx.specs.declared.outcome.Outcome.{Outcome}
 use Rattle.cl_tx.specs.declared.outcome.Outcome.TheVariants.{Moved, Done, Good, Bad, Plain, Aborted, Refused}
 use Rattle.cl_tx.specs.declared.outcome.Stop.TheVariants.{Overflow, Underflow, DivideByZero, NegativeArgument, Panic, SupplyOverflow, EarlyTop, CostLimit, PostCondition}
-use Rattle.cl_tx.specs.declared.outcome.EntryRefusal.TheVariants.{NoContract, NoFunction, NotPublic, ArgumentCount, Argument, NameTaken, ContractRefused}
+use Rattle.cl_tx.specs.declared.outcome.EntryRefusal.TheVariants.{NoContract, NoFunction, NotPublic, ArgumentCount, Argument, NameTaken, ContractRefused, NoBound}
+use Rattle.cl_tx.specs.declared.outcome.Reach.TheVariants.{Bound, Over}
 use Rattle.cl_tx.specs.declared.outcome.TxResult.{TxResult}
-use Rattle.cl_lines.specs.Costs.{cost_text, bound_line}
+use Rattle.cl_lines.specs.Costs.{cost_text, bound_text, bound_line}
 use Rattle.cl_lines.specs.Refusals.{span_text, refusal_text, stop_text, entry_refusal_text}
 use Rattle.cl_lines.specs.Events.{amount_text, word_of, details, event_line}
+use Rattle.cl_lines.specs.Rebounds.{reach_text, rebound_line}
 use Rattle.cl_report.specs.Lines.{outcome_text, entry_text, entry_line, lines_of}
 
 outcomes : map outcome_text (
@@ -45,8 +47,8 @@ outcomes : map outcome_text (
 unfolding digits outcome_text stop_text
 outcomes = refl
 
-refusals : map entry_refusal_text (NoContract ∷ NoFunction ∷ NotPublic ∷ ArgumentCount ∷ Argument 2 ∷ NameTaken ∷ []) ≡
-    codes "E1 NoContract" ∷ codes "E2 NoFunction" ∷ codes "E3 NotPublic" ∷ codes "E4 ArgumentCount" ∷ codes "E5 Argument 2" ∷ codes "E6 NameTaken" ∷ []
+refusals : map entry_refusal_text (NoContract ∷ NoFunction ∷ NotPublic ∷ ArgumentCount ∷ Argument 2 ∷ NameTaken ∷ NoBound WriteCount ∷ []) ≡
+    codes "E1 NoContract" ∷ codes "E2 NoFunction" ∷ codes "E3 NotPublic" ∷ codes "E4 ArgumentCount" ∷ codes "E5 Argument 2" ∷ codes "E6 NameTaken" ∷ codes "E8 NoBound write_count" ∷ []
 unfolding digits entry_refusal_text
 refusals = refl
 
@@ -106,7 +108,7 @@ abbrev call : List ℕ → Entry
 call function = Call common home function []
 
 abbrev result : Outcome → List Event → TxResult
-result outcome events = record { outcome = outcome; cost = Some (cost5 1 0 1 2 2); bounds = None; types = []; events = events }
+result outcome events = record { outcome = outcome; cost = Some (cost5 1 0 1 2 2); bounds = None; types = []; events = events; rebounds = [] }
 
 -- the events stand behind the cost of what was committed
 committed : lines_of 100000 (call (codes "go now")) (result (Plain (UintV 1)) events) ≡ codes "100000 call 'SP000000000000000000002Q6VF78.c go now value u1\n  cost 1 0 1 2 2\n" ++ flat_map (λ line. line) lines_of_events
@@ -127,15 +129,31 @@ with_its_bounds : lines_of 0 deployment (record {
   bounds = Some (record { deploy = cost5 6 0 1 2 165; functions = (codes "put", cost5 9 0 1 2 17) ∷ (codes "no", cost5 7 0 1 2 0) ∷ [] });
   types = IntType ∷ BuffType 34 ∷ [];
   events = [];
+  rebounds = [];
 }) ≡ codes "0 deploy 'SP000000000000000000002Q6VF78.c done\n  cost 5 0 1 2 164\n  deploy-bound 6 0 1 2 165\n  bound put 9 0 1 2 17 int\n  bound no 7 0 1 2 0 (buff 34)\n"
-unfolding digits lines_of entry_line entry_text outcome_text cost_text bound_line address_text alphabet checksum_of regrouped_digits digits_in digits_within sha256 first_words schedule rounds compress hash_after digest_bytes
+unfolding digits lines_of entry_line entry_text outcome_text cost_text bound_text bound_line address_text alphabet checksum_of regrouped_digits digits_in digits_within sha256 first_words schedule rounds compress hash_after digest_bytes
 with_its_bounds = refl
 
-refused : lines_of 7 deployment (record { outcome = Refused NameTaken; cost = None; bounds = None; types = []; events = [] }) ≡ codes "7 deploy 'SP000000000000000000002Q6VF78.c refused E6 NameTaken\n"
+refused : lines_of 7 deployment (record { outcome = Refused NameTaken; cost = None; bounds = None; types = []; events = []; rebounds = [] }) ≡ codes "7 deploy 'SP000000000000000000002Q6VF78.c refused E6 NameTaken\n"
 unfolding digits lines_of entry_line entry_text outcome_text entry_refusal_text address_text alphabet checksum_of regrouped_digits digits_in digits_within sha256 first_words schedule rounds compress hash_after digest_bytes
 refused = refl
 
--- a block has one line
-moved : lines_of 3 (Block 18446744073709551615) (record { outcome = Moved; cost = None; bounds = None; types = []; events = [] }) ≡ codes "3 block 18446744073709551615\n"
+-- a block without a change of bounds has one line
+moved : lines_of 3 (Block 18446744073709551615) (record { outcome = Moved; cost = None; bounds = None; types = []; events = []; rebounds = [] }) ≡ codes "3 block 18446744073709551615\n"
 unfolding digits lines_of entry_line entry_text outcome_text
 moved = refl
+
+-- and behind it stand the bounds that change with it, each with its type, or the dimension in which it is above the limit
+begun : lines_of 2 (Block 10) (record {
+  outcome = Moved;
+  cost = None;
+  bounds = None;
+  types = [];
+  events = [];
+  rebounds =
+      record { contract = home; name = codes "add1"; reach = Bound (cost5 9 0 0 0 0); returns = IntType }
+      ∷ record { contract = home; name = codes "g"; reach = Over Runtime; returns = BuffType 34 }
+      ∷ [];
+}) ≡ codes "2 block 10\n  rebound 'SP000000000000000000002Q6VF78.c add1 9 0 0 0 0 int\n  rebound 'SP000000000000000000002Q6VF78.c g over runtime\n"
+unfolding digits lines_of entry_line entry_text outcome_text cost_text bound_text reach_text rebound_line address_text alphabet checksum_of regrouped_digits digits_in digits_within sha256 first_words schedule rounds compress hash_after digest_bytes
+begun = refl

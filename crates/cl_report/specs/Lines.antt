@@ -13,6 +13,7 @@ use Rattle.cl_tx.specs.Step.{if_committed}
 use Rattle.cl_lines.specs.Costs.{cost_line, bounds_lines}
 use Rattle.cl_lines.specs.Refusals.{stop_text, entry_refusal_text}
 use Rattle.cl_lines.specs.Events.{event_line}
+use Rattle.cl_lines.specs.Rebounds.{rebound_lines}
 
 -- what became of an entry; of a block there is nothing to say
 unfoldable pub outcome_text : Outcome → List ℕ
@@ -38,11 +39,14 @@ entry_line number entry outcome = decimal number ++ (entry_text entry ++ (outcom
 abbrev pub event_lines : Outcome → List Event → List ℕ
 event_lines outcome events = flat_map event_line (if_committed outcome events)
 
--- the lines of an entry with its result
+-- The lines of an entry with its result. Only a block has rebounds, and it has neither cost nor bounds nor events.
 unfoldable pub lines_of : ℕ → Entry → TxResult → List ℕ
 lines_of number entry result =
     entry_line number entry result.outcome
-    ++ (cost_line result.cost ++ (bounds_lines result.bounds result.types ++ event_lines result.outcome result.events))
+    ++ (cost_line result.cost
+    ++ (bounds_lines result.bounds result.types
+    ++ (event_lines result.outcome result.events
+    ++ rebound_lines result.rebounds)))
 
 -- the lines of entries with their results, numbered from this on
 abbrev pub report_from : ℕ → List Entry → List TxResult → List ℕ

@@ -9,6 +9,7 @@ use cl_c32::Principal;
 use cl_events::Event;
 use cl_lines::{
     AddressCache, stop_text, write_bounds, write_cost, write_entry_refusal, write_event,
+    write_rebounds,
 };
 use cl_text::print_value;
 use cl_tx::{Entry, Outcome, TxResult};
@@ -51,7 +52,8 @@ fn write_outcome(out: &mut Vec<u8>, alloc: Global, outcome: &Outcome) -> Result<
 }
 
 fn write_height(out: &mut Vec<u8>, height: u64) -> Result<(), NoMemory>
-    ensures { IfOk result (λ _. out.new.items ≡ out.old.items ++ (codes " block " ++ decimal height)) }
+    ensures { IfOk result (λ _. out.new.items
+        ≡ out.old.items ++ (codes " block " ++ decimal height)) }
 {
     out.extend_from_slice(b" block ")?;
     out.extend_from_slice(Buffer::new().format(height).as_bytes())?;
@@ -134,7 +136,8 @@ fn write_events(
     outcome: &Outcome,
     events: &[Event],
 ) -> Result<(), NoMemory>
-    ensures { IfOk result (λ _. out.new.items ≡ out.old.items ++ event_lines outcome.now events.now) }
+    ensures { IfOk result (λ _. out.new.items
+        ≡ out.old.items ++ event_lines outcome.now events.now) }
 {
     match outcome {
         Outcome::Done | Outcome::Good(_) | Outcome::Plain(_) => {
@@ -146,7 +149,7 @@ fn write_events(
 
 /// The lines of an entry with its number, counted from 0, and its result: what became of it, what
 /// it cost, the bounds of a contract that was accepted, and the events of what was committed; of a
-/// block the height alone. Each line ends with LF.
+/// block the height, and the bounds that change with it. Each line ends with LF.
 pub fn lines(
     alloc: Global,
     number: u32,
@@ -184,5 +187,6 @@ pub fn lines_with(
         &given.outcome,
         given.events.as_slice(),
     )?;
+    write_rebounds(&mut out, alloc, addresses, given.rebounds.as_slice())?;
     Ok(out)
 }

@@ -5,5 +5,5 @@ mod call;
 mod definitions;
 mod top;
 
-pub use call::{run, run_watched};
+pub use call::{Called, run, run_found, run_watched};
 pub use top::{run_top, run_top_watched};

@@ -1,52 +1,51 @@
-use Rattle.std.proofs.Common.{[], ◌∷◌, ◌<◌, List, length, sym, ap, subst, ◌∙◌}
-use Rattle.cl_costs.specs.Tables.{function_of}
+use Rattle.std.specs.Prelude.{Ok, Err}
+use Rattle.std.proofs.Common.{◌≡◌, ◌<◌, List, length, sym, subst, ◌∙◌}
 use Rattle.cl_values.specs.Tree.{Tree}
-use Rattle.cl_events.specs.State.{State}
+use Rattle.cl_values.specs.Typed.{AreOf}
+use Rattle.cl_shapes.specs.Limits.{Purse}
 use Rattle.cl_meaning.specs.Limits.{Limited, limited}
-use Rattle.cl_meaning.specs.Top.{call_from}
-use Rattle.cl_contracts.specs.Seen.{deployed_seen, function_seen}
 use Rattle.cl_frames.specs.Aborts.{Answers}
-use Rattle.cl_frames.specs.Homes.{frame_seen}
-use Rattle.cl_frames.specs.Sound.{IsFittingCall, IsKeptWorld}
-use Rattle.cl_state.specs.Stack.{Stack}
+use Rattle.cl_frames.specs.Watching.{Tells, trace}
 use Rattle.cl_tx.specs.Nodes.{purse_of}
-use Rattle.cl_endings.proofs.Ends.{may_answer, run_answers, ok_also}
+use Rattle.cl_runs.specs.Called.{call_of, costs_of, types_of}
+use Rattle.cl_endings.proofs.Ends.{may_answer, ok_also}
+use Rattle.cl_engine.proofs.Calling.{tells_all}
 use Rattle.cl_engine.proofs.call.apply.Goals as goal
 
-pub run-answer-requires-clause-few : goal.run-answer-requires-clause-few
-run-answer-requires-clause-few c = subst (λ (vs : List Tree). length vs < 4294967296) (sym c.in_ok-copies.ensures) c.requires.few
+pub run_found-answer-requires-clause-few : goal.run_found-answer-requires-clause-few
+run_found-answer-requires-clause-few g c = subst (λ (vs : List Tree). length vs < 4294967296) (sym c.in_ok-args.ensures) c.requires.few
 
-pub run-answer-requires-clause-kept : goal.run-answer-requires-clause-kept
-run-answer-requires-clause-kept c = subst (IsKeptWorld (deployed_seen c.args.deployed.now)) (sym (ap (λ (k : Stack). k.top) c.in_ok-push_layer.ensures.done)) c.requires.kept
+pub run_found-answer-requires-clause-fitting : goal.run_found-answer-requires-clause-fitting
+run_found-answer-requires-clause-fitting g c = subst (λ (vs : List Tree). AreOf vs (types_of c.args.called.now)) (sym c.in_ok-args.ensures) c.requires.fitting
 
-pub run-answer-requires-clause-called : goal.run-answer-requires-clause-called
-run-answer-requires-clause-called c =
-    let W = deployed_seen c.args.deployed.now in
-    let fitting : IsFittingCall W c.args.frame.now.contract c.args.function.now.name c.args.args.now = record { function = function_seen c.args.function.now; there = c.requires.there; fitting = c.requires.fitting } in
-    subst (IsFittingCall W c.args.frame.now.contract c.args.function.now.name) (sym c.in_ok-copies.ensures) fitting
-
-pub finish-requires-clause-fine : goal.finish-requires-clause-fine
-finish-requires-clause-fine c =
-    let W = deployed_seen c.args.deployed.now in
-    let F = frame_seen c.args.frame.now in
-    let f = function_seen c.args.function.now in
-    let l : Limited Tree = limited (function_of c.args.costs.now) (purse_of c.args.common.now) (call_from W F f c.args.args.now c.args.world.now.stack.top) in
-    let answers : Answers l c.run-answer.result c.run-answer.new.meter c.run-answer.new.world.stack.top =
-    run_answers (function_of c.args.costs.now) c.meter_of-meter.result (purse_of c.args.common.now) W F c.args.function.now.name f c.args.args.now c.in_ok-copies.copies.items c.args.world.now.stack.top c.push_layer.new.self.stack.top c.run-answer.result c.run-answer.new.meter c.run-answer.new.world.stack.top
-    c.meter_of-meter.ensures c.requires.there c.in_ok-copies.ensures (ap (λ (k : Stack). k.top) c.in_ok-push_layer.ensures.done) c.run-answer.ensures.meant in
-    may_answer c.args.common.now c.args.function.now.access l c.run-answer.result c.run-answer.new.meter c.run-answer.new.world.stack.top c.requires.comes answers
+pub judge-requires : goal.judge-requires
+judge-requires g c =
+    let called = c.args.called.now in
+    let common = c.args.invocation.now.common.now in
+    let args : List Tree = c.args.invocation.now.args.now in
+    let l : Limited Tree = limited (costs_of called) (purse_of common) (call_of called args c.args.world.now) in
+    let answers : Answers l c.run_found-answer.result c.run_found-answer.new.meter c.run_found-answer.new.world.stack.top =
+    subst (λ (n : Purse × List Tree). Answers (limited (costs_of called) n.0 (call_of called n.1 c.args.world.now)) c.run_found-answer.result c.run_found-answer.new.meter c.run_found-answer.new.world.stack.top)
+    (λ i. (c.meter_of-meter.ensures i, c.in_ok-args.ensures i)) c.run_found-answer.ensures.meant in
+    record { fine = may_answer common called.function.now.access l c.run_found-answer.result c.run_found-answer.new.meter c.run_found-answer.new.world.stack.top c.requires.comes answers }
 
 pub returns-clause-ended : goal.returns-clause-ended
-returns-clause-ended c =
-    let W = deployed_seen c.args.deployed.now in
-    let F = frame_seen c.args.frame.now in
-    let f = function_seen c.args.function.now in
-    let l : Limited Tree = limited (function_of c.args.costs.now) (purse_of c.args.common.now) (call_from W F f c.args.args.now c.args.world.now.stack.top) in
-    let answers : Answers l c.run-answer.result c.run-answer.new.meter c.run-answer.new.world.stack.top =
-    run_answers (function_of c.args.costs.now) c.meter_of-meter.result (purse_of c.args.common.now) W F c.args.function.now.name f c.args.args.now c.in_ok-copies.copies.items c.args.world.now.stack.top c.push_layer.new.self.stack.top c.run-answer.result c.run-answer.new.meter c.run-answer.new.world.stack.top
-    c.meter_of-meter.ensures c.requires.there c.in_ok-copies.ensures (ap (λ (k : Stack). k.top) c.in_ok-push_layer.ensures.done) c.run-answer.ensures.meant in
-    ok_also c.finish.result _ _
-    (λ r ended node at.
-    ended l c.run-answer.new.meter node answers (sym c.spent.ensures.value)
-    (ap (λ (t : State). t ∷ []) at ∙ sym (c.run-answer.ensures.below ∙ ap (λ (k : Stack). k.below) c.in_ok-push_layer.ensures.done ∙ ap (λ (b : List State). c.args.world.now.stack.top ∷ b) c.requires.base)))
-    c.finish.ensures.ended
+returns-clause-ended g c =
+    let called = c.args.called.now in
+    let common = c.args.invocation.now.common.now in
+    let args : List Tree = c.args.invocation.now.args.now in
+    let l : Limited Tree = limited (costs_of called) (purse_of common) (call_of called args c.args.world.now) in
+    let answers : Answers l c.run_found-answer.result c.run_found-answer.new.meter c.run_found-answer.new.world.stack.top =
+    subst (λ (n : Purse × List Tree). Answers (limited (costs_of called) n.0 (call_of called n.1 c.args.world.now)) c.run_found-answer.result c.run_found-answer.new.meter c.run_found-answer.new.world.stack.top)
+    (λ i. (c.meter_of-meter.ensures i, c.in_ok-args.ensures i)) c.run_found-answer.ensures.meant in
+    ok_also c.judge.result _ _ (λ e ended node. ended l c.run_found-answer.new.meter node answers (sym c.spent.ensures.value)) c.judge.ensures.ended
+
+pub returns-clause-seen : goal.returns-clause-seen
+returns-clause-seen g c =
+    let called = c.args.called.now in
+    let common = c.args.invocation.now.common.now in
+    let args : List Tree = c.args.invocation.now.args.now in
+    tells_all c.run_found-answer.result c.judge.result (g.W.Watch.seen c.args.watch.now) (g.W.Watch.seen c.run_found-answer.new.watch) (trace (costs_of called) (purse_of common) (call_of called args c.args.world.now))
+    (subst (λ (n : Purse × List Tree). Tells (g.W.Watch.seen c.args.watch.now) (g.W.Watch.seen c.run_found-answer.new.watch) (trace (costs_of called) n.0 (call_of called n.1 c.args.world.now)) c.run_found-answer.result)
+    (λ i. (c.meter_of-meter.ensures i, c.in_ok-args.ensures i)) c.run_found-answer.ensures.seen)
+    c.judge.ensures.memory c.judge.ensures.answered

@@ -1,38 +1,71 @@
-use Rattle.std.proofs.Common.{sym, ap, subst, ◌∙◌}
+use Rattle.std.proofs.Common.{◌≡◌, List, [], Some, None, sym, ap, subst, ◌∙◌}
+use Rattle.cl_shapes.specs.declared.function.CostFn.{CostFn}
 use Rattle.cl_costs.specs.Tables.{function_of}
 use Rattle.cl_types.specs.Fault.{IsRefusal}
-use Rattle.cl_contracts.specs.Seen.{contract_under}
-use Rattle.cl_rules.specs.Acceptance.{FirstBreakOf, before_bounds}
-use Rattle.cl_check.specs.Checking.{IsFirstBreak}
-use Rattle.cl_tx.specs.Nodes.{contract_of}
-use Rattle.cl_engine.specs.Contents.{text_in}
-use Rattle.cl_engine.proofs.Knowing.{is_known, unknown, some_copied, none_copied}
-use Rattle.cl_engine.proofs.Deployments.{checked_so, name_is_taken, source_is_refused}
+use Rattle.cl_meaning.specs.Scope.{Frame}
+use Rattle.cl_frames.specs.Deploys.{HasNoTokens}
+use Rattle.cl_tx.specs.declared.outcome.TxResult.{TxResult}
+use Rattle.cl_tx.specs.Nodes.{NodeSeen}
+use Rattle.cl_tx.specs.Step.{DeploySteps}
+use Rattle.cl_engine.specs.Seen.{node_with, seen}
+use Rattle.cl_engine.specs.Sound.{contracts_seen}
+use Rattle.cl_engine.specs.Asked.{MakesSound, SeesPartUnder, SeesTraceUnder, deployment_entry, principal_of, seen_at, text_in}
+use Rattle.cl_engine.specs.Bounded.{entries_of}
+use Rattle.cl_engine.specs.Deploying.{IsDeployRefusal}
+use Rattle.cl_engine.proofs.Ran.{addable, after_accepted, makes, no_tokens, sees, sees_part}
+use Rattle.cl_engine.proofs.Tracing.{sees_refused}
 use Rattle.cl_engine.proofs.deploy.deploy_in_room.Goals as goal
 
-pub returns-then-is_some-clause-steps : goal.returns-then-is_some-clause-steps
-returns-then-is_some-clause-steps c = λ known sound.
-    let es = c.args.contents.now.deployed.contracts.entries in
-    let there = some_copied c.find.result (sym c.is_some.ensures ∙ c.if-is_some.true) in
-    let under = ap (λ q. contract_under q es) (sym c.principal_of-principal.ensures) ∙ sym c.find.ensures.there ∙ there.1 in
-    let k = is_known c.args.contents.now.deployed c.what_callers_know.ensures.known c.requires.indexed known sound.trees (contract_of c.args.request.now.common.now.sender c.args.request.now.name.now) there.0 under in
-    name_is_taken c.args.request.now.costs.now es c.args.contents.now.world.stack.top c.args.request.now.height c.args.request.now.common.now c.args.request.now.name.now c.args.request.now.source.now c.args.request.now.version known sound k.0 k.1 c.refused.result c.refused.ensures
-
-pub check-requires-clause-known : goal.check-requires-clause-known
-check-requires-clause-known c = record { known = c.requires.sound.known; knows = c.requires.sound.is_sound.trees }
-
-pub deploy_checked-requires-clause-checked : goal.deploy_checked-requires-clause-checked
-deploy_checked-requires-clause-checked c =
-    checked_so c.args.contents.now.deployed.contracts.entries c.principal_of-principal.result (contract_of c.args.request.now.common.now.sender c.args.request.now.name.now) (text_in c.args.request.now) c.in-Ok.checked c.principal_of-principal.ensures c.in-Ok.ensures.principal c.in-Ok.ensures.version c.in-Ok.ensures.length c.in-Ok.ensures.indexed c.in-Ok.ensures.found
-
 pub returns-in-Err-Refused-clause-steps : goal.returns-in-Err-Refused-clause-steps
-returns-in-Err-Refused-clause-steps c = λ known sound.
-    let es = c.args.contents.now.deployed.contracts.entries in
-    let q = c.in-Err-Refused.refusal in
-    let p = contract_of c.args.request.now.common.now.sender c.args.request.now.name.now in
-    let none = ap (λ r. contract_under r es) (sym c.principal_of-principal.ensures) ∙ sym c.find.ensures.there ∙ none_copied c.find.result (sym c.is_some.ensures ∙ c.if-is_some.false) in
-    let new = unknown c.args.contents.now.deployed c.what_callers_know.ensures.known c.requires.indexed known sound.trees p none in
-    let broken = subst (λ f. IsRefusal f (IsFirstBreak c.args.contents.now.deployed c.principal_of-principal.result (text_in c.args.request.now))) c.in-Err-Refused.field-0-is c.in-Err-Refused.ensures.broken in
-    source_is_refused c.args.request.now.costs.now es c.args.contents.now.world.stack.top c.args.request.now.height c.args.request.now.common.now c.args.request.now.name.now c.args.request.now.source.now c.args.request.now.version known sound q.rule q.span q.names.items new
-    (subst (λ r. FirstBreakOf known r (function_of c.args.request.now.costs.now) (text_in c.args.request.now) q.rule q.span q.names.items) c.principal_of-principal.ensures (before_bounds (broken known sound.trees)))
-    c.source_refused.result c.source_refused.ensures
+returns-in-Err-Refused-clause-steps g c = λ known sound.
+    let d = c.args.deployment.now in
+    let cs = c.args.contracts.now in
+    let node : NodeSeen = node_with known (seen_at c.args.world.now cs.deployed c.args.moment.now) in
+    let refusal = subst (λ f. IsRefusal f (IsDeployRefusal d cs)) c.in-Err-Refused.field-0-is c.in-Err-Refused.ensures.refused in
+    record {
+      now = known;
+      trees = sound.trees;
+      forms = sound.forms;
+      steps = subst (λ (n : List CostFn × TxResult). DeploySteps (function_of n.0) node d.common.now (principal_of d) (text_in d) (record { node = node; result = n.1 })) (λ i. (c.requires.table i, sym c.refused.ensures i)) (refusal node sound.trees);
+    }
+
+pub run-requires-clause-accepted : goal.run-requires-clause-accepted
+run-requires-clause-accepted g c =
+    after_accepted c.args.deployment.now c.args.moment.now c.args.contracts.now c.args.world.now c.in-Ok.accepted c.in-Ok.ensures.accepted c.requires.ready.sound.known c.requires.ready.sound.is_sound
+
+pub run-requires-clause-tokens : goal.run-requires-clause-tokens
+run-requires-clause-tokens g c =
+    subst (λ q. HasNoTokens q c.args.world.now.stack.top) (sym (ap (λ (F : Frame). F.contract) c.in-Ok.ensures.accepted.frame))
+    (no_tokens c.args.deployment.now c.args.moment.now c.args.contracts.now c.args.world.now c.in-Ok.accepted c.in-Ok.ensures.accepted c.requires.ready.sound c.new_contracts_have_no_tokens.ensures c.requires.ready.parts)
+
+pub returns-in_err-ran-clause-seen : goal.returns-in_err-ran-clause-seen
+returns-in_err-ran-clause-seen g c =
+    let d = c.args.deployment.now in
+    let cs = c.args.contracts.now in
+    let now = g.W.Watch.seen c.run.new.watch in
+    sees_refused _ (function_of c.args.moment.now.costs.now) (entries_of cs) (seen_at c.args.world.now cs.deployed c.args.moment.now) (deployment_entry d) c.from_residual.result (g.W.Watch.seen c.args.watch.now) now c.from_residual.ensures.1
+    (subst (λ (t : List CostFn). SeesPartUnder (function_of t) (entries_of cs) (seen_at c.args.world.now cs.deployed c.args.moment.now) (deployment_entry d) (g.W.Watch.seen c.args.watch.now) now) c.requires.table
+    (sees_part d c.args.moment.now cs c.args.world.now c.in-Ok.accepted c.in-Ok.ensures.accepted c.texts_have_one_answer.ensures.clean c.texts_have_one_order.ensures.order (g.W.Watch.seen c.args.watch.now) now c.in_err-ran.ensures.seen))
+
+pub finish-requires-clause-addable : goal.finish-requires-clause-addable
+finish-requires-clause-addable g c =
+    addable c.args.deployment.now c.args.moment.now c.args.contracts.now c.args.world.now c.in-Ok.accepted c.in-Ok.ensures.accepted c.requires.ready.sound c.constants_have_their_types.ensures c.what_callers_know.ensures.constants c.requires.ready.parts c.in_ok-ran.ran c.run.new.world.stack.top c.in_ok-ran.ensures.runs
+
+pub returns-clause-steps : goal.returns-clause-steps
+returns-clause-steps g c =
+    let d = c.args.deployment.now in
+    let m = c.args.moment.now in
+    let cs = c.args.contracts.now in
+    let fs = c.finish.new.contracts.deployed.contracts.entries in
+    let after = c.run.new.world.stack.top in
+    subst (λ (t : List CostFn). MakesSound (function_of t) (entries_of cs) (seen_at c.args.world.now cs.deployed m) (deployment_entry d) c.finish.result fs (seen after (contracts_seen fs) m.height)) c.requires.table
+    (makes d m cs c.args.world.now c.in-Ok.accepted c.in-Ok.ensures.accepted c.what_callers_know.ensures.defined c.in_ok-ran.ran after c.in_ok-ran.ensures.runs c.finish.result c.finish.ensures.result fs c.finish.ensures.added)
+
+pub returns-clause-seen : goal.returns-clause-seen
+returns-clause-seen g c =
+    let d = c.args.deployment.now in
+    let m = c.args.moment.now in
+    let cs = c.args.contracts.now in
+    let now = g.W.Watch.seen c.run.new.watch in
+    subst (λ (t : List CostFn). SeesTraceUnder (function_of t) (entries_of cs) (seen_at c.args.world.now cs.deployed m) (deployment_entry d) c.finish.result.outcome (g.W.Watch.seen c.args.watch.now) now) c.requires.table
+    (sees d m cs c.args.world.now c.in-Ok.accepted c.in-Ok.ensures.accepted c.in_ok-ran.ran c.finish.result.outcome (ap (λ (r : TxResult). r.outcome) c.finish.ensures.result) (g.W.Watch.seen c.args.watch.now) now c.in_ok-ran.ensures.seen)

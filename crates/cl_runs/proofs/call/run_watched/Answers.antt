@@ -1,79 +1,88 @@
-use Rattle.std.proofs.Common.{sym, subst, ◌∙◌}
-use Rattle.std.specs.Prelude.{Ok, Err}
+use Rattle.std.proofs.Common.{◌≡◌, ℕ, List, Some, None, map, sym, ap, subst, ◌∙◌}
+use Rattle.std.specs.Prelude.{IfOk}
 use Rattle.cl_costs.specs.Tables.{function_of as cost_function}
-use Rattle.cl_contracts.specs.Seen.{deployed_seen}
-use Rattle.cl_meaning.specs.Deployed.{Deployed}
-use Rattle.cl_meaning.specs.Scope.{Frame}
+use Rattle.cl_values.specs.Tree.{Tree}
+use Rattle.cl_values.specs.Typed.{AreOf}
+use Rattle.cl_types.specs.Types.{PlainType}
+use Rattle.cl_contracts.specs.Seen.{contract_seen, deployed_seen, forms_of, function_seen}
+use Rattle.cl_meaning.specs.Answers.{Answer}
+use Rattle.cl_meaning.specs.Deployed.{Function, contract_at, function_in, function_of}
+use Rattle.cl_meaning.specs.Limits.{limited}
+use Rattle.cl_meaning.specs.Top.{call_from}
+use Rattle.cl_frames.specs.Aborts.{Answers}
 use Rattle.cl_frames.specs.Homes.{frame_seen}
-use Rattle.cl_shapes.specs.Costs.{IsAtMost}
-use Rattle.cl_shapes.specs.Limits.{Purse}
-use Rattle.cl_frames.proofs.AbortLaws.{aborts, given_spends, memory_spends_nothing, no_fault, same_fault, stopped_spends}
-use Rattle.cl_frames.proofs.NeverStuck.{IsValidFrame, call_fine, call_is_not_early, call_keeps, call_not_stuck, call_spends, call_stops, returned_typed}
-use Rattle.cl_frames.proofs.Telling.{run_ends, tells_given, tells_stopped}
+use Rattle.cl_frames.specs.Sound.{IsReturnOf, SpendsWithin}
+use Rattle.cl_frames.specs.Watching.{Tells, trace}
+use Rattle.cl_runs.proofs.Calls.{by_function, named_so, no_function, one_function}
 use Rattle.cl_runs.proofs.call.run_watched.Goals as goal
 
-pub fault-requires : goal.fault-requires
-fault-requires g c =
-    let W : Deployed = deployed_seen c.args.deployed.now in
-    let F : Frame = frame_seen c.args.frame.now in
-    let valid : IsValidFrame (frame_seen c.args.frame.now) = record { contract = c.is_valid.ensures.contract; sender = c.is_valid.ensures.sender; caller = c.is_valid.ensures.caller; height = c.is_valid.ensures.height } in
-    let fine = call_fine c.functions_are_sound.ensures.sound c.limits_leave_sound_answers.ensures.sound W F valid c.args.function.now c.args.args.items c.requires.called (cost_function c.args.costs.now) c.args.meter.now c.args.world.now.stack.top c.functions_are_sound.ensures.signed c.requires.kept in
-    call_not_stuck c.in-Err.stop (call_stops fine.0 _ _ c.in-Err.stop _ _ fine.1 (run_ends _ _ _ _ _ _ (Err _) _ c.in-Err.ensures.meant))
+pub unreachable-requires-in_default-function : goal.unreachable-requires-in_default-function
+unreachable-requires-in_default-function g c =
+    let x = c.args.function.now in
+    let p = c.args.frame.now.contract in
+    let there : contract_at p (deployed_seen c.args.deployed.now) ≡ Some (contract_seen (p, c.in-Some.contract.now)) = sym (c.in-Some.ensures.seen c.requires.indexed) in
+    let none : function_of x (Some (contract_seen (p, c.in-Some.contract.now))) ≡ None = sym (c.in_default-function.ensures.seen (c.in-Some.ensures.entry c.requires.indexed).indexed p) in
+    no_function (function_of x (contract_at p (deployed_seen c.args.deployed.now))) c.requires.called.function (ap (function_of x) there ∙ none) c.requires.called.there
 
-pub returns-in-Ok-clause-meant : goal.returns-in-Ok-clause-meant
-returns-in-Ok-clause-meant g c = run_ends _ _ _ _ _ _ (Ok _) _ c.in-Ok.ensures.meant
+pub run_found-requires-clause-called : goal.run_found-requires-clause-called
+run_found-requires-clause-called g c =
+    let x = c.args.function.now in
+    let p = c.args.frame.now.contract in
+    let f = c.in-Some-function.found.now in
+    let forms = forms_of c.in-Some.contract.now.checked in
+    let entry = c.in-Some.ensures.entry c.requires.indexed in
+    let found : function_in x forms ≡ Some (function_seen f) = sym (c.in-Some-function.ensures.seen entry.indexed p) in
+    record {
+      indexed = c.requires.indexed;
+      there = sym (c.in-Some.ensures.seen c.requires.indexed);
+      entry = entry;
+      function = subst (λ y. function_in y forms ≡ Some (function_seen f)) (sym (named_so x forms (function_seen f) found)) found;
+      goes = c.in-Some-function.ensures.goes entry.indexed;
+    }
 
-pub returns-in-Ok-clause-typed : goal.returns-in-Ok-clause-typed
-returns-in-Ok-clause-typed g c =
-    let W : Deployed = deployed_seen c.args.deployed.now in
-    let F : Frame = frame_seen c.args.frame.now in
-    let valid : IsValidFrame (frame_seen c.args.frame.now) = record { contract = c.is_valid.ensures.contract; sender = c.is_valid.ensures.sender; caller = c.is_valid.ensures.caller; height = c.is_valid.ensures.height } in
-    returned_typed c.functions_are_sound.ensures.sound c.limits_leave_sound_answers.ensures.sound W F valid c.args.function.now c.args.args.items c.requires.called (cost_function c.args.costs.now) c.args.meter.now c.args.world.now.stack.top c.requires.kept _ _ _ (run_ends _ _ _ _ _ _ (Ok _) _ c.in-Ok.ensures.meant)
+pub run_found-requires-clause-fitting : goal.run_found-requires-clause-fitting
+run_found-requires-clause-fitting g c =
+    let x = c.args.function.now in
+    let p = c.args.frame.now.contract in
+    let there : contract_at p (deployed_seen c.args.deployed.now) ≡ Some (contract_seen (p, c.in-Some.contract.now)) = sym (c.in-Some.ensures.seen c.requires.indexed) in
+    let found : function_of x (contract_at p (deployed_seen c.args.deployed.now)) ≡ Some (function_seen c.in-Some-function.found.now) = ap (function_of x) there ∙ sym (c.in-Some-function.ensures.seen (c.in-Some.ensures.entry c.requires.indexed).indexed p) in
+    let same = one_function c.requires.called.function (function_seen c.in-Some-function.found.now) (sym c.requires.called.there ∙ found) in
+    subst (λ (f : Function). AreOf c.args.args.items (map (λ (param : List ℕ × PlainType). param.1) f.params)) same c.requires.called.fitting
 
-pub returns-in-Ok-clause-kept : goal.returns-in-Ok-clause-kept
-returns-in-Ok-clause-kept g c =
-    let W : Deployed = deployed_seen c.args.deployed.now in
-    let F : Frame = frame_seen c.args.frame.now in
-    let valid : IsValidFrame (frame_seen c.args.frame.now) = record { contract = c.is_valid.ensures.contract; sender = c.is_valid.ensures.sender; caller = c.is_valid.ensures.caller; height = c.is_valid.ensures.height } in
-    call_keeps c.functions_are_sound.ensures.sound c.limits_leave_sound_answers.ensures.sound W F valid c.args.function.now c.args.args.items c.requires.called (cost_function c.args.costs.now) c.args.meter.now c.args.world.now.stack.top c.functions_are_sound.ensures.signed c.requires.kept _ _ _ (run_ends _ _ _ _ _ _ (Ok _) _ c.in-Ok.ensures.meant)
+pub returns-clause-meant : goal.returns-clause-meant
+returns-clause-meant g c =
+    let x = c.args.function.now in
+    let p = c.args.frame.now.contract in
+    let W = deployed_seen c.args.deployed.now in
+    let F = frame_seen c.args.frame.now in
+    let there : contract_at p W ≡ Some (contract_seen (p, c.in-Some.contract.now)) = sym (c.in-Some.ensures.seen c.requires.indexed) in
+    let found : function_of x (contract_at p W) ≡ Some (function_seen c.in-Some-function.found.now) = ap (function_of x) there ∙ sym (c.in-Some-function.ensures.seen (c.in-Some.ensures.entry c.requires.indexed).indexed p) in
+    subst (λ (a : Answer Tree). Answers (limited (cost_function c.args.costs.now) c.args.meter.now a) c.run_found.result c.run_found.new.meter c.run_found.new.world.stack.top)
+    (sym (by_function (function_of x (contract_at p W)) (function_seen c.in-Some-function.found.now) (λ f. call_from W F f c.args.args.items) c.args.world.now.stack.top found)) c.run_found.ensures.meant
 
-pub returns-in-Ok-clause-seen : goal.returns-in-Ok-clause-seen
-returns-in-Ok-clause-seen g c = tells_given _ _ _ _ _ _ _ _ c.in-Ok.ensures.meant
+pub returns-clause-seen : goal.returns-clause-seen
+returns-clause-seen g c =
+    let x = c.args.function.now in
+    let p = c.args.frame.now.contract in
+    let W = deployed_seen c.args.deployed.now in
+    let F = frame_seen c.args.frame.now in
+    let there : contract_at p W ≡ Some (contract_seen (p, c.in-Some.contract.now)) = sym (c.in-Some.ensures.seen c.requires.indexed) in
+    let found : function_of x (contract_at p W) ≡ Some (function_seen c.in-Some-function.found.now) = ap (function_of x) there ∙ sym (c.in-Some-function.ensures.seen (c.in-Some.ensures.entry c.requires.indexed).indexed p) in
+    subst (λ (a : Answer Tree). Tells (g.W.Watch.seen c.args.watch.now) (g.W.Watch.seen c.run_found.new.watch) (trace (cost_function c.args.costs.now) c.args.meter.now a) c.run_found.result)
+    (sym (by_function (function_of x (contract_at p W)) (function_seen c.in-Some-function.found.now) (λ f. call_from W F f c.args.args.items) c.args.world.now.stack.top found)) c.run_found.ensures.seen
 
-pub returns-in-Err-clause-meant : goal.returns-in-Err-clause-meant
-returns-in-Err-clause-meant g c =
-    aborts _ _ _ _ _ _ _ c.fault.ensures.fault c.fault.ensures.meter (run_ends _ _ _ _ _ _ (Err _) _ c.in-Err.ensures.meant)
+pub returns-clause-typed : goal.returns-clause-typed
+returns-clause-typed g c =
+    let x = c.args.function.now in
+    let p = c.args.frame.now.contract in
+    let f = c.in-Some-function.found.now in
+    let name = named_so x (forms_of c.in-Some.contract.now.checked) (function_seen f) (sym (c.in-Some-function.ensures.seen (c.in-Some.ensures.entry c.requires.indexed).indexed p)) in
+    subst (λ y. IfOk c.run_found.result (λ value. IsReturnOf (deployed_seen c.args.deployed.now) p y value)) name c.run_found.ensures.typed
 
-pub returns-in-Err-clause-returned : goal.returns-in-Err-clause-returned
-returns-in-Err-clause-returned g c =
-    let W : Deployed = deployed_seen c.args.deployed.now in
-    let F : Frame = frame_seen c.args.frame.now in
-    let valid : IsValidFrame (frame_seen c.args.frame.now) = record { contract = c.is_valid.ensures.contract; sender = c.is_valid.ensures.sender; caller = c.is_valid.ensures.caller; height = c.is_valid.ensures.height } in
-    let fine = call_fine c.functions_are_sound.ensures.sound c.limits_leave_sound_answers.ensures.sound W F valid c.args.function.now c.args.args.items c.requires.called (cost_function c.args.costs.now) c.args.meter.now c.args.world.now.stack.top c.functions_are_sound.ensures.signed c.requires.kept in
-    call_is_not_early c.in-Err.stop c.fault.result (call_stops fine.0 _ _ c.in-Err.stop _ _ fine.1 (run_ends _ _ _ _ _ _ (Err _) _ c.in-Err.ensures.meant)) c.fault.ensures.fault
-
-pub returns-in-Err-clause-seen : goal.returns-in-Err-clause-seen
-returns-in-Err-clause-seen g c = tells_stopped _ _ _ _ _ _ _ _ _ c.fault.ensures.fault c.in-Err.ensures.grew c.in-Err.ensures.meant
-
-pub returns-in-Ok-clause-within : goal.returns-in-Ok-clause-within
-returns-in-Ok-clause-within g c =
-    let W : Deployed = deployed_seen c.args.deployed.now in
-    let F : Frame = frame_seen c.args.frame.now in
-    let valid : IsValidFrame (frame_seen c.args.frame.now) = record { contract = c.is_valid.ensures.contract; sender = c.is_valid.ensures.sender; caller = c.is_valid.ensures.caller; height = c.is_valid.ensures.height } in
-    call_spends c.functions_are_sound.ensures.sound c.limits_leave_sound_answers.ensures.sound W F valid c.args.function.now c.args.args.items c.requires.called (cost_function c.args.costs.now) c.args.meter.now c.args.world.now.stack.top
-    c.charges_stay_within_bounds.ensures.calls c.requires.kept c.call_named.new.meter (λ most low least. given_spends _ _ _ _ most (run_ends _ _ _ _ _ _ (Ok _) _ c.in-Ok.ensures.meant) low)
-
-pub returns-in-Ok-clause-memory : goal.returns-in-Ok-clause-memory
-returns-in-Ok-clause-memory g c = λ e. no_fault _ _ _ e
-
-pub returns-in-Err-clause-within : goal.returns-in-Err-clause-within
-returns-in-Err-clause-within g c =
-    let W : Deployed = deployed_seen c.args.deployed.now in
-    let F : Frame = frame_seen c.args.frame.now in
-    let valid : IsValidFrame (frame_seen c.args.frame.now) = record { contract = c.is_valid.ensures.contract; sender = c.is_valid.ensures.sender; caller = c.is_valid.ensures.caller; height = c.is_valid.ensures.height } in
-    call_spends c.functions_are_sound.ensures.sound c.limits_leave_sound_answers.ensures.sound W F valid c.args.function.now c.args.args.items c.requires.called (cost_function c.args.costs.now) c.args.meter.now c.args.world.now.stack.top
-    c.charges_stay_within_bounds.ensures.calls c.requires.kept c.fault.new.meter
-    (λ most low least. subst (λ (q : Purse). IsAtMost q.spent most) (sym c.fault.ensures.meter) (stopped_spends _ c.in-Err.stop _ _ _ most (run_ends _ _ _ _ _ _ (Err _) _ c.in-Err.ensures.meant) low (subst (λ (q : Purse). IsAtMost q.spent most) (sym c.copy-before.ensures) least)))
-
-pub returns-in-Err-clause-memory : goal.returns-in-Err-clause-memory
-returns-in-Err-clause-memory g c = λ e. memory_spends_nothing c.in-Err.stop c.fault.result _ _ _ c.fault.ensures.fault c.fault.ensures.meter (same_fault _ _ e) ∙ c.copy-before.ensures
+pub returns-clause-within : goal.returns-clause-within
+returns-clause-within g c =
+    let x = c.args.function.now in
+    let p = c.args.frame.now.contract in
+    let f = c.in-Some-function.found.now in
+    let name = named_so x (forms_of c.in-Some.contract.now.checked) (function_seen f) (sym (c.in-Some-function.ensures.seen (c.in-Some.ensures.entry c.requires.indexed).indexed p)) in
+    subst (λ y. SpendsWithin (cost_function c.args.costs.now) (deployed_seen c.args.deployed.now) p y c.args.meter.now c.run_found.new.meter) name c.run_found.ensures.within

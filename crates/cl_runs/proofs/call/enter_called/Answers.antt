@@ -1,0 +1,13 @@
+use Rattle.std.proofs.Common.{[], ap}
+use Rattle.cl_frames.specs.Watching.{watched}
+use Rattle.cl_frames.proofs.WatchSteps.{ends_so}
+use Rattle.cl_frames.proofs.HomeLaws
+use Rattle.cl_frames.proofs.Forms.{called_at}
+use Rattle.cl_runs.proofs.call.enter_called.Goals as goal
+
+pub returns-clause-meant : goal.returns-clause-meant
+returns-clause-meant g c =
+    ends_so _ _ _ _ _ _ (ap (watched _ _ _) (called_at _ _ _ _ _)) (c.enter.ensures.meant [] (HomeLaws.fits_called _ _ _ c.requires.called.there c.requires.called.entry.principal c.requires.called.entry.indexed c.requires.called.indexed))
+
+pub enter-requires-clause-goes : goal.enter-requires-clause-goes
+enter-requires-clause-goes g c = λ fits. c.requires.called.goes
