@@ -1,0 +1,4 @@
+pub mod NodeUses
+pub mod Gathering
+pub mod Going
+pub mod Named

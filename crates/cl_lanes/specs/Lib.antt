@@ -1,0 +1,7 @@
+pub mod Lanes
+pub mod Same
+pub mod Laws
+pub mod Held
+pub mod Ready
+pub mod Progress
+pub mod Committing
