@@ -1,5 +1,11 @@
-pub mod Completed
-pub mod Heard
-pub mod Stopped
+pub mod Done
 pub mod Once
-mod Alone
+pub mod Read
+pub mod Sources
+pub mod Ends
+pub mod Stepping
+pub mod Results
+pub mod EachScript
+pub mod Commands
+pub mod Acts
+pub mod InTurn

@@ -2,7 +2,12 @@
 //! are written and the status.
 #![tactic(auto)]
 
-mod reply;
+mod files;
+mod inputs;
+mod laws;
+mod steps;
 mod top;
 
+pub use inputs::read_inputs;
+pub use laws::{each_command_has_a_script, scripts_are_done_in_order, scripts_are_one};
 pub use top::clarity;

@@ -1,3 +1,3 @@
 pub mod Reached
-pub mod Telling
-pub mod Results
+pub mod Scripts
+pub mod Running

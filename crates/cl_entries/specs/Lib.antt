@@ -1,3 +1,2 @@
+pub mod Scripts
 pub mod Entries
-pub mod Reply
-pub mod Streams

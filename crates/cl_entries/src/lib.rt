@@ -1,8 +1,13 @@
-//! Entries one after another, each with its events and its lines; what a reply is, and why there is none.
+//! Transaction files entry by entry: the step of each, with its events and its lines; and what a reply is, how a command ends and why
+//! it stops.
 #![tactic(auto)]
 
 mod entries;
-mod pieces;
+mod laws;
+mod run;
+mod status;
 
-pub use entries::{End, Ended, next, run_entries};
-pub use pieces::{Reply, Stop, fixed_line, joined, one_piece, two_pieces, whole_piece};
+pub use entries::{End, Ended, end_entry};
+pub use laws::{a_file_has_one_script, runs_are_sound};
+pub use run::{EntrySteps, first_node, schedule_of};
+pub use status::{Reply, Status, Step, Stop, bytes_reply, concat_bytes, end_number, text_reply};

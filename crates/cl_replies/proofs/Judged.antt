@@ -1,7 +1,6 @@
 -- What is found of sources, one after another.
-use Rattle.std.proofs.Common.{◌≡◌, inl, inr, ℕ, ◌+◌, ◌<◌, Bool, true, false, List, Vec, Global, [], ◌∷◌, ◌++◌, map, length, drop, get_or, not, Option, Some, None, refl, sym, ap, subst, ◌∙◌, append_assoc, append-nil}
+use Rattle.std.proofs.Common.{◌≡◌, inl, inr, ℕ, ◌+◌, ◌<◌, Bool, true, false, List, [], ◌∷◌, ◌++◌, map, length, drop, get_or, not, Option, Some, None, refl, sym, ap, subst, ◌∙◌, append_assoc, append-nil}
 use Rattle.std.proofs.lemmas.List.{drop_more}
-use Rattle.std.proofs.lemmas.Grind.{flat_map-append}
 use Rattle.std.specs.Prelude.{filter_map, if◌then◌else◌, ◌&&◌, ◌||◌, nat_eq}
 use Rattle.std.specs.List.{list_all, list_any}
 use Rattle.std.specs.Cmp.Lexicographic.{pointwise}
@@ -29,9 +28,9 @@ use Rattle.cl_tx.specs.Seen.{SourceBreak}
 use Rattle.cl_tx.specs.Step.{told_of, return_of}
 use Rattle.cl_lines.specs.Checks.{accepted_lines, refused_line}
 use Rattle.cl_words.specs.declared.sources.Source.{Source}
-use Rattle.cl_replies.specs.Checked.{IsReport, accepted_answer, all_checked, refused_answer}
-use Rattle.cl_replies.specs.Checking.{Contracts, IsAccepted, IsBounded, IsChecked, IsKept, IsRefused, AcceptedSoFar, AreApart, AreNew, AreOthers}
-use Rattle.cl_entries.specs.Reply.{bytes_of}
+use Rattle.cl_replies.specs.Checked.{IsReport, accepted_reply, all_checked, refused_source_reply}
+use Rattle.cl_replies.specs.Kept.{Contracts, IsAccepted, IsBounded, IsChecked, IsKept, IsRefused, AcceptedSoFar, AreApart, AreNew, AreOthers}
+use Rattle.cl_entries.specs.declared.status.Status.TheVariants.{Done, Refused}
 use Rattle.cl_words.specs.Seen.{text_in}
 use Rattle.cl_words.specs.Sources.{are_sources, contract_at, has_name, have_one_name, names_differ, source_name}
 use Rattle.cl_engine.specs.Deploying.{type_returned}
@@ -134,7 +133,7 @@ pub accepted_first : (table : CostTable) (sources : List Source) (es : Contracts
 accepted_first table sources es apart none = record {
   known = [];
   stand = subst (λ (cs : Contracts). AreStanding [] cs []) (sym none) refl;
-  report = λ answer h. h;
+  report = λ reply h. h;
   new = subst (AreNew sources) (sym none) (none_stands sources);
   apart = apart;
 }
@@ -151,25 +150,25 @@ accepted_next table sources rest more source text lines es after so_far e one =
     record {
       known = so_far.known ++ known_of source.principal (length source.text) f.0.defined ∷ [];
       stand = f.2;
-      report = λ answer h.
-          let joined : text ++ (accepted_lines source.principal told.bounds told.types ++ answer.bytes) ≡ (text ++ lines) ++ answer.bytes =
-          ap (λ (t : List ℕ). text ++ (t ++ answer.bytes)) (sym f.1) ∙ sym (append_assoc text lines answer.bytes)
+      report = λ reply h.
+          let joined : text ++ (accepted_lines source.principal told.bounds told.types ++ reply.text) ≡ (text ++ lines) ++ reply.text =
+          ap (λ (t : List ℕ). text ++ (t ++ reply.text)) (sym f.1) ∙ sym (append_assoc text lines reply.text)
           in
-          subst (λ (bytes : List ℕ). IsReport table [] sources (record { bytes = bytes; status = answer.status })) joined
-          (so_far.report (accepted_answer source told answer) (subst (λ (ss : List Source). IsReport table so_far.known ss (accepted_answer source told answer)) (sym e) (inl (f.0, answer, h, refl))));
+          subst (λ (all : List ℕ). IsReport table [] sources (record { text = all; status = reply.status })) joined
+          (so_far.report (accepted_reply source told reply) (subst (λ (ss : List Source). IsReport table so_far.known ss (accepted_reply source told reply)) (sym e) (inl (f.0, reply, h, refl))));
       new = subst (AreNew more) (sym one.behind) (all_still_new more es source.principal one.contract new.1 apart.0);
       apart = apart.1;
     }
 
-pub refused_next : (table : CostTable) (sources rest more : List Source) (source : Source) (text line : List ℕ) (es : Contracts) → AcceptedSoFar table sources rest text es → rest ≡ source ∷ more → IsRefused table es source line → IsReport table [] sources (record { bytes = text ++ line; status = 6 })
+pub refused_next : (table : CostTable) (sources rest more : List Source) (source : Source) (text line : List ℕ) (es : Contracts) → AcceptedSoFar table sources rest text es → rest ≡ source ∷ more → IsRefused table es source line → IsReport table [] sources (record { text = text ++ line; status = Refused })
 refused_next table sources rest more source text line es so_far e one =
-    subst (λ (l : List ℕ). IsReport table [] sources (record { bytes = text ++ l; status = 6 })) (sym one.line)
-    (so_far.report (refused_answer source one.broken)
-    (subst (λ (ss : List Source). IsReport table so_far.known ss (refused_answer source one.broken)) (sym e) (inr (one.broken, one.first so_far.known so_far.stand, refl))))
+    subst (λ (l : List ℕ). IsReport table [] sources (record { text = text ++ l; status = Refused })) (sym one.line)
+    (so_far.report (refused_source_reply source one.broken)
+    (subst (λ (ss : List Source). IsReport table so_far.known ss (refused_source_reply source one.broken)) (sym e) (inr (one.broken, one.first so_far.known so_far.stand, refl))))
 
-pub accepted_all : (table : CostTable) (sources rest : List Source) (text : List ℕ) (es : Contracts) → AcceptedSoFar table sources rest text es → rest ≡ [] → IsReport table [] sources (record { bytes = text; status = 0 })
+pub accepted_all : (table : CostTable) (sources rest : List Source) (text : List ℕ) (es : Contracts) → AcceptedSoFar table sources rest text es → rest ≡ [] → IsReport table [] sources (record { text = text; status = Done })
 accepted_all table sources rest text es so_far e =
-    subst (λ (t : List ℕ). IsReport table [] sources (record { bytes = t; status = 0 })) (append-nil text)
+    subst (λ (t : List ℕ). IsReport table [] sources (record { text = t; status = Done })) (append-nil text)
     (so_far.report all_checked (subst (λ (ss : List Source). IsReport table so_far.known ss all_checked) (sym e) refl))
 
 -- ---- paths whose names differ are of contracts of their own
@@ -233,6 +232,3 @@ break_is_refused table before source text broken line same first is = record {
 
 pub source_in_front : (sources : List Source) (i : ℕ) (source : Source) → i < length sources → source ≡ get_or sources i source → drop i sources ≡ source ∷ drop (i + 1) sources
 source_in_front sources i source h e = drop_more sources i source h ∙ ap (λ (s : Source). s ∷ drop (i + 1) sources) (sym e)
-
-pub one_more_piece : (pieces : List (Vec ℕ Global)) (piece : Vec ℕ Global) → bytes_of (pieces ++ piece ∷ []) ≡ bytes_of pieces ++ piece.items
-one_more_piece pieces piece = flat_map-append (λ (p : Vec ℕ Global). p.items) pieces (piece ∷ []) ∙ ap (λ (b : List ℕ). bytes_of pieces ++ b) (append-nil piece.items)

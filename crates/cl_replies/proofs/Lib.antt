@@ -1,9 +1,8 @@
-pub mod Both
 pub mod Counted
 pub mod Called
 pub mod Judged
-pub mod ReadSo
-pub mod HeardSo
-pub mod Replied
-pub mod RunSo
 pub mod Spellings
+pub mod Rooted
+pub mod Verified
+pub mod NumberedRows
+pub mod SteppedFiles

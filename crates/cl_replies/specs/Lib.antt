@@ -1,14 +1,5 @@
-pub mod Generated
+pub mod Inputs
 pub mod Spelling
-pub mod FileAnswers
 pub mod Checked
-pub mod Called
-pub mod Both
-pub mod Ran
-pub mod Heard
-pub mod Stops
-pub mod Answer
-pub mod Checking
-pub mod Reading
-pub mod CheckReply
-pub mod RunReply
+pub mod Reports
+pub mod Kept

@@ -1,20 +1,18 @@
 //! The reply to `call` for a source: it is deployed, and then one of its functions is called.
-ghost use Rattle.std.specs.Prelude.{◌≡◌, ◌≢◌, ◌∷◌, [], codes, IfOk};
+ghost use Rattle.std.specs.Prelude.{◌≡◌, ◌∷◌, [], codes, IfOk};
+ghost use Rattle.cl_costs.specs.Schedules.{always};
 ghost use Rattle.cl_costs.specs.Tables.{unit_table};
 ghost use Rattle.cl_forms.specs.Texts.{text_of};
-ghost use Rattle.cl_replies.specs.Called.{sent_from_home, deployment, call, call_status, status_of, lines_by, IsReportOf, IsCalled};
 ghost use Rattle.cl_file.specs.Entries.{NeverFall};
 ghost use Rattle.cl_entries.specs.Entries.{IsFirst};
-ghost use Rattle.cl_replies.specs.Both.{AreBoth};
-ghost use Rattle.cl_entries.specs.Reply.{answer_of};
-ghost use Rattle.cl_replies.specs.Answer.{IsOwnStatus};
+ghost use Rattle.cl_replies.specs.Reports.{sent_from_home, deployment, call, call_status, status_of, lines_by, IsReportOf, IsCalled};
+ghost use Rattle.cl_replies.specs.Kept.{AreBoth};
 
 use cl_c32::{Address, ContractName, Principal};
-use cl_costs::CostTable;
+use cl_costs::{CostTable, Schedule};
 use cl_engine::{Node, nodes_are_known_in_one_way};
-use cl_entries::{End, Ended, Reply, next, two_pieces, whole_piece};
+use cl_entries::{End, Ended, Reply, Status, bytes_reply, concat_bytes, end_entry, runs_are_sound};
 use cl_forms::Version;
-use cl_node_sound::costs_stay_within_bounds;
 use cl_post::Mode;
 use cl_tx::{Common, Conditions, Entry, Row, heights_are_those_of_the_file};
 use cl_types::NoMemory;
@@ -42,20 +40,20 @@ fn sent_from_home(alloc: Global) -> Common
 }
 
 /// The deployment of a source of this version.
-fn deployment(alloc: Global, source: Vec<u8>, version: Version) -> Entry
-    ensures { result ≡ deployment (text_of source.items version) }
+fn deployment(alloc: Global, source: Row<u8>, version: Version) -> Entry
+    ensures { result ≡ deployment (text_of source version) }
 {
     Entry::Deploy {
         common: sent_from_home(alloc),
         name: main_name(),
-        source: Row::new(source),
+        source,
         version,
     }
 }
 
 /// The call of a function of the contract.
-fn call(alloc: Global, function: Vec<u8>, args: Vec<Val>) -> Entry
-    ensures { result ≡ call function.items args.items }
+fn call(alloc: Global, function: Vec<u8>, args: Row<Val>) -> Entry
+    ensures { result ≡ call function.items args }
 {
     let common = sent_from_home(alloc);
     let contract = Principal {
@@ -66,8 +64,15 @@ fn call(alloc: Global, function: Vec<u8>, args: Vec<Val>) -> Entry
         common,
         contract,
         function: Row::new(function),
-        args: Row::new(args),
+        args,
     }
+}
+
+/// The unit table, at all heights.
+pub(crate) fn unit_schedule(alloc: Global) -> Schedule
+    ensures { result ≡ always unit_table }
+{
+    Schedule::new(CostTable::builtin(), Vec::new(alloc))
 }
 
 /// How the two entries ended.
@@ -78,92 +83,97 @@ pub(crate) struct Both {
 }
 
 /// Does what the two entries ask for. Where the deployment is refused, the call finds no contract.
-fn run_both(alloc: Global, node: &mut Node, first: &Entry, second: &Entry) -> Result<Both, NoMemory>
-    requires first { IsFirst unit_table [] node.now }
+fn run_both(
+    alloc: Global,
+    node: &mut Node,
+    costs: &Schedule,
+    first: &Entry,
+    second: &Entry,
+) -> Result<Both, NoMemory>
+    requires first { IsFirst [] node.now }
     requires rising { NeverFall 0 (first.now ∷ second.now ∷ []) }
-    ensures { IfOk result (AreBoth first.now second.now) }
+    ensures { IfOk result (AreBoth costs.now first.now second.now) }
 {
     nodes_are_known_in_one_way();
     heights_are_those_of_the_file();
-    CostTable::functions_by_name();
-    costs_stay_within_bounds();
-    let deployed = next(alloc, node, 0, first)?;
-    let called = next(alloc, node, 1, second)?;
+    let deployed = end_entry(alloc, node, costs, 0, first)?;
+    let called = end_entry(alloc, node, costs, 1, second)?;
     Ok(Both { deployed, called })
 }
 
-fn call_status(end: End) -> u8
-    ensures value { result ≡ call_status end }
-    ensures own { IsOwnStatus result × (result ≢ 2) }
+fn call_status(end: End) -> Status
+    ensures { result ≡ call_status end }
 {
     match end {
-        End::Good => 0,
-        End::Bad | End::Aborted | End::Refused => 7,
+        End::Good => Status::Done,
+        End::Bad | End::Aborted | End::Refused => Status::NotGood,
     }
 }
 
-fn status_of(deployed: End, called: End) -> u8
-    ensures value { result ≡ status_of deployed called }
-    ensures own { IsOwnStatus result × (result ≢ 2) }
+fn status_of(deployed: End, called: End) -> Status
+    ensures { result ≡ status_of deployed called }
 {
     match deployed {
-        End::Refused => 6,
-        End::Aborted => 7,
+        End::Refused => Status::Refused,
+        End::Aborted => Status::NotGood,
         End::Good | End::Bad => call_status(called),
     }
 }
 
-/// The report of the two entries.
-fn report(alloc: Global, both: Both) -> Result<Reply, AllocError>
-    ensures answer { IfOk result (λ reply. answer_of reply ≡ record {
-      bytes = lines_by both.deployed.end both.deployed.text.items both.called.text.items;
-      status = status_of both.deployed.end both.called.end;
-    }) }
-    ensures status { IfOk result (λ reply. IsOwnStatus reply.status × (reply.status ≢ 2)) }
+/// The lines of the deployment, and behind them those of the call unless the deployment is refused.
+fn lines_by(end: End, front: Vec<u8>, back: &[u8]) -> Result<Vec<u8>, AllocError>
+    ensures { IfOk result (λ text. text.items ≡ lines_by end front.items back.now) }
 {
-    let Both { deployed, called } = both;
-    let status = status_of(deployed.end, called.end);
-    match deployed.end {
-        End::Refused => whole_piece(alloc, deployed.text, status),
-        End::Good | End::Bad | End::Aborted => {
-            two_pieces(alloc, deployed.text, called.text, status)
-        }
+    match end {
+        End::Refused => Ok(front),
+        End::Good | End::Bad | End::Aborted => concat_bytes(front, back, b""),
     }
 }
 
+/// The report of the two entries.
+fn report(both: Both) -> Result<Reply, AllocError>
+    ensures { IfOk result (λ reply. reply ≡ record {
+      text = lines_by both.deployed.end both.deployed.text.items both.called.text.items;
+      status = status_of both.deployed.end both.called.end;
+    }) }
+{
+    let Both { deployed, called } = both;
+    let status = status_of(deployed.end, called.end);
+    let text = lines_by(deployed.end, deployed.text, called.text.as_slice())?;
+    Ok(bytes_reply(text, status))
+}
+
 /// The report of the two entries from the first node on.
-fn report_of(
+fn report_on(
     alloc: Global,
     node: &mut Node,
     first: &Entry,
     second: &Entry,
 ) -> Result<Reply, NoMemory>
-    requires first { IsFirst unit_table [] node.now }
+    requires first { IsFirst [] node.now }
     requires rising { NeverFall 0 (first.now ∷ second.now ∷ []) }
-    ensures answer { IfOk result (λ reply. IsReportOf first.now second.now (answer_of reply)) }
-    ensures status { IfOk result (λ reply. IsOwnStatus reply.status × (reply.status ≢ 2)) }
+    ensures { IfOk result (IsReportOf first.now second.now) }
 {
-    let both = run_both(alloc, node, first, second)?;
-    Ok(report(alloc, both)?)
+    runs_are_sound();
+    let costs = unit_schedule(alloc);
+    let both = run_both(alloc, node, &costs, first, second)?;
+    Ok(report(both)?)
 }
 
 /// The report of the two entries.
-fn report_from_genesis(alloc: Global, first: &Entry, second: &Entry) -> Result<Reply, NoMemory>
+fn report_of(alloc: Global, first: &Entry, second: &Entry) -> Result<Reply, NoMemory>
     requires { NeverFall 0 (first.now ∷ second.now ∷ []) }
-    ensures answer { IfOk result (λ reply. IsReportOf first.now second.now (answer_of reply)) }
-    ensures status { IfOk result (λ reply. IsOwnStatus reply.status × (reply.status ≢ 2)) }
+    ensures { IfOk result (IsReportOf first.now second.now) }
 {
-    let holders = Vec::new(alloc);
-    let costs = CostTable::builtin();
-    let mut node = Node::genesis(alloc, holders, &costs)?;
-    let reply = report_of(alloc, &mut node, first, second);
+    let mut node = Node::genesis(alloc, Vec::new(alloc))?;
+    let reply = report_on(alloc, &mut node, first, second);
     drop(node);
     reply
 }
 
 /// The call of a function of the contract, by its name.
-fn call_by(alloc: Global, function: &str, args: Vec<Val>) -> Result<Entry, AllocError>
-    ensures { IfOk result (λ entry. entry ≡ call function.now args.items) }
+fn call_by(alloc: Global, function: &str, args: Row<Val>) -> Result<Entry, AllocError>
+    ensures { IfOk result (λ entry. entry ≡ call function.now args) }
 {
     let function = Vec::from_slice(alloc, function.as_bytes())?;
     Ok(call(alloc, function, args))
@@ -172,32 +182,26 @@ fn call_by(alloc: Global, function: &str, args: Vec<Val>) -> Result<Entry, Alloc
 /// The reply for the deployment of this source, and this call.
 fn reply_for(
     alloc: Global,
-    source: Vec<u8>,
+    source: Row<u8>,
     version: Version,
     second: &Entry,
 ) -> Result<Reply, NoMemory>
-    requires { NeverFall 0 (deployment (text_of source.items version) ∷ second.now ∷ []) }
-    ensures answer { IfOk result
-        (λ reply. IsReportOf (deployment (text_of source.items version)) second.now
-        (answer_of reply)) }
-    ensures status { IfOk result (λ reply. IsOwnStatus reply.status × (reply.status ≢ 2)) }
+    requires { NeverFall 0 (deployment (text_of source version) ∷ second.now ∷ []) }
+    ensures { IfOk result (IsReportOf (deployment (text_of source version)) second.now) }
 {
     let first = deployment(alloc, source, version);
-    report_from_genesis(alloc, &first, second)
+    report_of(alloc, &first, second)
 }
 
 /// The reply to `call` for a source of this version, the name of a function and its arguments.
 pub fn call_reply(
     alloc: Global,
-    source: Vec<u8>,
+    source: Row<u8>,
     version: Version,
     function: &str,
-    args: Vec<Val>,
+    args: Row<Val>,
 ) -> Result<Reply, NoMemory>
-    ensures answer { IfOk result
-        (λ reply. IsCalled (text_of source.items version) function.now args.items
-        (answer_of reply)) }
-    ensures status { IfOk result (λ reply. IsOwnStatus reply.status × (reply.status ≢ 2)) }
+    ensures { IfOk result (IsCalled (text_of source version) function.now args) }
 {
     let second = call_by(alloc, function, args)?;
     reply_for(alloc, source, version, &second)

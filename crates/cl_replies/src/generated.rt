@@ -1,17 +1,18 @@
 //! The reply to `gen`: a workload is run entry by entry, and none of its entries and results is
 //! kept.
-ghost use Rattle.std.specs.Prelude.{◌≡◌, ◌≢◌, ◌<◌, ◌+◌, ◌^◌, ℕ, [], codes, IfOk, string_bytes};
+ghost use Rattle.std.specs.Prelude.{◌≡◌, ◌<◌, ◌+◌, ◌^◌, ℕ, [], codes, IfOk, string_bytes};
+ghost use Rattle.cl_costs.specs.Schedules.{always};
 ghost use Rattle.cl_costs.specs.Tables.{unit_table};
 ghost use Rattle.cl_meaning.specs.Samples.{of_P0};
 ghost use Rattle.cl_workload.specs.Summary.{counts_of, coins, supply_of, balance_of, IsSummary};
 ghost use Rattle.cl_entries.specs.Entries.{IsFirst};
-ghost use Rattle.cl_replies.specs.Generated.{IsGenerated, IsCounted};
-ghost use Rattle.cl_entries.specs.Reply.{answer_of};
-ghost use Rattle.cl_replies.specs.Answer.{IsOwnStatus};
+ghost use Rattle.cl_replies.specs.Kept.{IsCounted};
+ghost use Rattle.cl_replies.specs.Reports.{IsGenerated};
 
-use cl_costs::CostTable;
+use crate::call::unit_schedule;
+use cl_costs::Schedule;
 use cl_engine::{Node, nodes_are_known_in_one_way};
-use cl_entries::{Reply, one_piece};
+use cl_entries::{Reply, Status, text_reply};
 use cl_events::Asset;
 use cl_state::World;
 use cl_tables::Place;
@@ -20,16 +21,21 @@ use cl_workload::{Draws, Tally, deployment, receiver, summary, token, workloads_
 use std::alloc::Global;
 
 /// Runs the deployment.
-fn deploy(alloc: Global, node: &mut Node, tally: &mut Tally) -> Result<(), NoMemory>
-    requires first { IsFirst unit_table [] node.now }
+fn deploy(
+    alloc: Global,
+    node: &mut Node,
+    costs: &Schedule,
+    tally: &mut Tally,
+) -> Result<(), NoMemory>
+    requires costs { costs.now ≡ always unit_table }
+    requires first { IsFirst [] node.now }
     requires none { tally.now ≡ counts_of [] }
     ensures { IfOk result (λ _. (seed : ℕ) → IsCounted seed 0 tally.new seed node.new) }
 {
     nodes_are_known_in_one_way();
     workloads_are_small();
-    CostTable::functions_by_name();
     let entry = deployment(alloc)?;
-    let given = node.step(alloc, &entry)?;
+    let given = node.step(alloc, &entry, costs)?;
     tally.add(&given);
     Ok(())
 }
@@ -38,18 +44,19 @@ fn deploy(alloc: Global, node: &mut Node, tally: &mut Tally) -> Result<(), NoMem
 fn run_call(
     alloc: Global,
     node: &mut Node,
+    costs: &Schedule,
     draws: &mut Draws,
     tally: &mut Tally,
 ) -> Result<(), NoMemory>
+    requires { costs.now ≡ always unit_table }
     ensures { IfOk result (λ _. (seed n : ℕ) → n + 1 < 2 ^ 32 →
         IsCounted seed n tally.old draws.old node.old →
         IsCounted seed (n + 1) tally.new draws.new node.new) }
 {
     nodes_are_known_in_one_way();
     workloads_are_small();
-    CostTable::functions_by_name();
     let entry = draws.next_call(alloc)?;
-    let given = node.step(alloc, &entry)?;
+    let given = node.step(alloc, &entry, costs)?;
     tally.add(&given);
     Ok(())
 }
@@ -83,24 +90,24 @@ fn balance(world: &World) -> Result<u128, NoMemory>
 
 /// Runs a workload on a first node, and counts.
 fn run_workload(alloc: Global, node: &mut Node, seed: u64, count: u32) -> Result<Tally, NoMemory>
-    requires { IsFirst unit_table [] node.now }
+    requires { IsFirst [] node.now }
     ensures { IfOk result (λ tally. (number : ℕ) × IsCounted seed count tally number node.new) }
 {
+    let costs = unit_schedule(alloc);
     let mut tally = Tally::new();
-    deploy(alloc, node, &mut tally)?;
+    deploy(alloc, node, &costs, &mut tally)?;
     let mut draws = Draws::new(seed);
     for _ in 0..count {
-        run_call(alloc, node, &mut draws, &mut tally)?;
+        run_call(alloc, node, &costs, &mut draws, &mut tally)?;
     }
     Ok(tally)
 }
 
 /// The line of a workload that is run on a first node.
 fn workload_line(alloc: Global, node: &mut Node, seed: u64, count: u32) -> Result<String, NoMemory>
-    requires { IsFirst unit_table [] node.now }
+    requires { IsFirst [] node.now }
     ensures { IfOk result (λ line. IsSummary seed count (string_bytes line)) }
 {
-    CostTable::functions_by_name();
     let tally = run_workload(alloc, node, seed, count)?;
     let world = node.world();
     let held = balance(world)?;
@@ -109,13 +116,10 @@ fn workload_line(alloc: Global, node: &mut Node, seed: u64, count: u32) -> Resul
 
 /// The reply to `gen` for a seed and a number of calls.
 pub fn gen_reply(alloc: Global, seed: u64, count: u32) -> Result<Reply, NoMemory>
-    ensures answer { IfOk result (λ reply. IsGenerated seed count (answer_of reply)) }
-    ensures status { IfOk result (λ reply. IsOwnStatus reply.status × (reply.status ≢ 2)) }
+    ensures { IfOk result (IsGenerated seed count) }
 {
-    let holders = Vec::new(alloc);
-    let costs = CostTable::builtin();
-    let mut node = Node::genesis(alloc, holders, &costs)?;
+    let mut node = Node::genesis(alloc, Vec::new(alloc))?;
     let line = workload_line(alloc, &mut node, seed, count);
     drop(node);
-    Ok(one_piece(alloc, line?, 0)?)
+    Ok(text_reply(line?, Status::Done))
 }

@@ -1,5 +1,5 @@
 //! Sources one after another, each after those before it that were accepted.
-ghost use Rattle.std.specs.Prelude.{◌≡◌, ◌≢◌, [], None, Some, IfOk, filter_map};
+ghost use Rattle.std.specs.Prelude.{◌≡◌, ◌++◌, [], None, Some, IfOk, filter_map};
 ghost use Rattle.cl_costs.specs.Tables.{function_of};
 ghost use Rattle.cl_contracts.specs.Seen.{AreIndexed, IsIndexed, contract_under};
 ghost use Rattle.cl_rules.specs.Context.{CostTable as Table};
@@ -8,16 +8,14 @@ ghost use Rattle.cl_check.specs.Checking.{IsKnown};
 ghost use Rattle.cl_lines.specs.Checks.{accepted_lines, refused_line};
 ghost use Rattle.cl_replies.specs.Checked.{IsReport};
 ghost use Rattle.cl_engine.specs.Deploying.{type_returned};
-ghost use Rattle.cl_replies.specs.Checking.{AreApart, IsBounded, IsChecked, IsKept, Judges};
-ghost use Rattle.cl_entries.specs.Reply.{answer_of, bytes_of};
-ghost use Rattle.cl_replies.specs.Answer.{IsOwnStatus};
+ghost use Rattle.cl_replies.specs.Kept.{AreApart, AreOfPaths, IsBounded, IsChecked, IsKept, Judges, Stand};
 
 use cl_bound::{ContractBounds, KnownBounds, Priced, bound};
 use cl_check::check;
 use cl_contracts::{Checked, Contract, Deployed, what_callers_know};
 use cl_costs::CostTable;
 use cl_engine::types_of;
-use cl_entries::Reply;
+use cl_entries::{Reply, Status, bytes_reply};
 use cl_lines::{accepted_lines, refused_line};
 use cl_sexpr::Refusal;
 use cl_tx::{Bounds, SourceRefusal};
@@ -25,6 +23,13 @@ use cl_types::{Fault, NoMemory};
 use cl_words::Source;
 use indexmap::IndexMap;
 use std::alloc::Global;
+
+/// The contracts that were accepted, with their bounds.
+#[derive(Drop)]
+pub(crate) struct Accepted {
+    deployed: Deployed,
+    known: KnownBounds,
+}
 
 /// What becomes of a source, with its lines.
 #[derive(Drop)]
@@ -55,85 +60,81 @@ fn refused_text(alloc: Global, source: &Source, refusal: Refusal) -> Result<Vec<
 /// Puts a contract behind the others. No constant has a value here: nothing is evaluated.
 fn keep(
     alloc: Global,
-    deployed: &mut Deployed,
-    known: &mut KnownBounds,
+    accepted: &mut Accepted,
     checked: Checked,
     contract: ContractBounds,
 ) -> Result<(), NoMemory>
-    requires indexed { AreIndexed deployed.old }
+    requires indexed { AreIndexed accepted.old.deployed }
     requires names { IsIndexed checked }
-    requires new { contract_under checked.principal deployed.old.contracts.entries ≡ None }
+    requires new { contract_under checked.principal accepted.old.deployed.contracts.entries
+        ≡ None }
     ensures kept { IfOk result
-        (λ _. IsKept deployed.old.contracts.entries checked deployed.new.contracts.entries) }
+        (λ _. IsKept accepted.old.deployed.contracts.entries checked
+        accepted.new.deployed.contracts.entries) }
     ensures known { IfOk result
-        (λ _. (table : Table) → AreBounds table deployed.old.contracts.entries known.old →
-        AreBoundsOf table deployed.old.contracts.entries checked contract →
-        AreBounds table deployed.new.contracts.entries known.new) }
-    ensures indexed { IfOk result (λ _. AreIndexed deployed.new) }
+        (λ _. (table : Table) →
+        AreBounds table accepted.old.deployed.contracts.entries accepted.old.known →
+        AreBoundsOf table accepted.old.deployed.contracts.entries checked contract →
+        AreBounds table accepted.new.deployed.contracts.entries accepted.new.known) }
+    ensures indexed { IfOk result (λ _. AreIndexed accepted.new.deployed) }
 {
-    deployed.reserve()?;
-    known.reserve()?;
-    deployed.add(Contract {
+    accepted.deployed.reserve()?;
+    accepted.known.reserve()?;
+    accepted.deployed.add(Contract {
         checked,
         constants: IndexMap::new(alloc),
     });
-    known.add(contract);
+    accepted.known.add(contract);
     Ok(())
 }
 
 /// Keeps a contract whose bounds are within the limit.
 fn accept(
     alloc: Global,
-    deployed: &mut Deployed,
-    known: &mut KnownBounds,
+    accepted: &mut Accepted,
     source: &Source,
     checked: Checked,
     priced: Priced,
     costs: &CostTable,
 ) -> Result<Judged, NoMemory>
-    requires indexed { AreIndexed deployed.old }
-    requires known { AreBounds (function_of costs.now) deployed.old.contracts.entries known.old }
-    requires new { contract_under source.now.principal deployed.old.contracts.entries ≡ None }
-    requires checked { IsChecked deployed.old.contracts.entries source.now checked }
-    requires bounded { IsBounded (function_of costs.now) deployed.old.contracts.entries checked
-        priced.bounds }
-    requires kept { AreBoundsOf (function_of costs.now) deployed.old.contracts.entries checked
-        priced.contract }
+    requires stand { Stand (function_of costs.now) accepted.old }
+    requires new { contract_under source.now.principal accepted.old.deployed.contracts.entries
+        ≡ None }
+    requires checked { IsChecked accepted.old.deployed.contracts.entries source.now checked }
+    requires bounded { IsBounded (function_of costs.now)
+        accepted.old.deployed.contracts.entries checked priced.bounds }
+    requires kept { AreBoundsOf (function_of costs.now) accepted.old.deployed.contracts.entries
+        checked priced.contract }
     ensures judged { IfOk result
-        (λ judged. Judges (function_of costs.now) deployed.old.contracts.entries source.now judged
-        deployed.new.contracts.entries) }
-    ensures indexed { IfOk result (λ _. AreIndexed deployed.new) }
-    ensures known { IfOk result
-        (λ _. AreBounds (function_of costs.now) deployed.new.contracts.entries known.new) }
+        (λ judged. Judges (function_of costs.now) accepted.old.deployed.contracts.entries
+        source.now judged accepted.new.deployed.contracts.entries) }
+    ensures stand { IfOk result (λ _. Stand (function_of costs.now) accepted.new) }
 {
     what_callers_know();
     let text = accepted_text(alloc, &checked, priced.bounds)?;
-    keep(alloc, deployed, known, checked, priced.contract)?;
+    keep(alloc, accepted, checked, priced.contract)?;
     Ok(Judged::Accepted(text))
 }
 
 /// Judges a contract by its bounds.
 fn judge_bounds(
     alloc: Global,
-    deployed: &mut Deployed,
-    known: &mut KnownBounds,
+    accepted: &mut Accepted,
     source: &Source,
     checked: Checked,
     costs: &CostTable,
 ) -> Result<Judged, NoMemory>
-    requires indexed { AreIndexed deployed.old }
-    requires known { AreBounds (function_of costs.now) deployed.old.contracts.entries known.old }
-    requires new { contract_under source.now.principal deployed.old.contracts.entries ≡ None }
-    requires checked { IsChecked deployed.old.contracts.entries source.now checked }
+    requires stand { Stand (function_of costs.now) accepted.old }
+    requires new { contract_under source.now.principal accepted.old.deployed.contracts.entries
+        ≡ None }
+    requires checked { IsChecked accepted.old.deployed.contracts.entries source.now checked }
     ensures judged { IfOk result
-        (λ judged. Judges (function_of costs.now) deployed.old.contracts.entries source.now judged
-        deployed.new.contracts.entries) }
-    ensures indexed { IfOk result (λ _. AreIndexed deployed.new) }
-    ensures known { IfOk result
-        (λ _. AreBounds (function_of costs.now) deployed.new.contracts.entries known.new) }
+        (λ judged. Judges (function_of costs.now) accepted.old.deployed.contracts.entries
+        source.now judged accepted.new.deployed.contracts.entries) }
+    ensures stand { IfOk result (λ _. Stand (function_of costs.now) accepted.new) }
 {
-    match bound(alloc, &checked, known, costs) {
-        Ok(priced) => accept(alloc, deployed, known, source, checked, priced, costs),
+    match bound(alloc, &checked, &accepted.known, costs) {
+        Ok(priced) => accept(alloc, accepted, source, checked, priced, costs),
         Err(Fault::Refused(refusal)) => {
             Ok(Judged::Refused(refused_text(alloc, source, refusal)?))
         }
@@ -144,25 +145,28 @@ fn judge_bounds(
 /// Judges a source after the contracts before it, and keeps its contract where it is accepted.
 fn judge(
     alloc: Global,
-    deployed: &mut Deployed,
-    known: &mut KnownBounds,
+    accepted: &mut Accepted,
     source: &Source,
     costs: &CostTable,
 ) -> Result<Judged, NoMemory>
-    requires indexed { AreIndexed deployed.old }
-    requires knows { IsKnown deployed.old }
-    requires known { AreBounds (function_of costs.now) deployed.old.contracts.entries known.old }
-    requires new { contract_under source.now.principal deployed.old.contracts.entries ≡ None }
+    requires stand { Stand (function_of costs.now) accepted.old }
+    requires knows { IsKnown accepted.old.deployed }
+    requires new { contract_under source.now.principal accepted.old.deployed.contracts.entries
+        ≡ None }
     ensures judged { IfOk result
-        (λ judged. Judges (function_of costs.now) deployed.old.contracts.entries source.now judged
-        deployed.new.contracts.entries) }
-    ensures indexed { IfOk result (λ _. AreIndexed deployed.new) }
-    ensures known { IfOk result
-        (λ _. AreBounds (function_of costs.now) deployed.new.contracts.entries known.new) }
+        (λ judged. Judges (function_of costs.now) accepted.old.deployed.contracts.entries
+        source.now judged accepted.new.deployed.contracts.entries) }
+    ensures stand { IfOk result (λ _. Stand (function_of costs.now) accepted.new) }
 {
     let text = source.text.as_slice();
-    match check(alloc, deployed, &source.principal, text, source.version) {
-        Ok(checked) => judge_bounds(alloc, deployed, known, source, checked, costs),
+    match check(
+        alloc,
+        &accepted.deployed,
+        &source.principal,
+        text,
+        source.version,
+    ) {
+        Ok(checked) => judge_bounds(alloc, accepted, source, checked, costs),
         Err(Fault::Refused(refusal)) => {
             Ok(Judged::Refused(refused_text(alloc, source, refusal)?))
         }
@@ -170,62 +174,63 @@ fn judge(
     }
 }
 
-/// Judges sources, with a piece for each, up to the first that is refused, and gives the status.
+/// Puts lines behind others.
+fn add_lines(text: &mut Vec<u8>, lines: &Vec<u8>) -> Result<(), NoMemory>
+    ensures { IfOk result (λ _. text.new.items ≡ text.old.items ++ lines.now.items) }
+{
+    text.extend_from_slice(lines.as_slice())?;
+    Ok(())
+}
+
+/// Judges sources, with the lines of each, up to the first that is refused, and gives the status.
 fn judge_all(
     alloc: Global,
-    deployed: &mut Deployed,
-    known: &mut KnownBounds,
-    pieces: &mut Vec<Vec<u8>>,
+    accepted: &mut Accepted,
+    text: &mut Vec<u8>,
     sources: &[Source],
     costs: &CostTable,
-) -> Result<u8, NoMemory>
+) -> Result<Status, NoMemory>
     requires apart { AreApart sources.now }
-    requires none { deployed.old.contracts.entries ≡ [] }
-    requires indexed { AreIndexed deployed.old }
-    requires known { AreBounds (function_of costs.now) deployed.old.contracts.entries known.old }
-    requires empty { pieces.old.items ≡ [] }
-    ensures answer { IfOk result
+    requires none { accepted.old.deployed.contracts.entries ≡ [] }
+    requires stand { Stand (function_of costs.now) accepted.old }
+    requires empty { text.old.items ≡ [] }
+    ensures { IfOk result
         (λ status. IsReport (function_of costs.now) [] sources.now
-        (record { bytes = bytes_of pieces.new.items; status = status })) }
-    ensures status { IfOk result (λ status. IsOwnStatus status × (status ≢ 2)) }
+        (record { text = text.new.items; status = status })) }
 {
     for source in sources {
-        let judged = judge(alloc, deployed, known, source, costs)?;
+        let judged = judge(alloc, accepted, source, costs)?;
         match judged {
-            Judged::Accepted(text) => pieces.push(text)?,
-            Judged::Refused(text) => {
-                pieces.push(text)?;
-                return Ok(6);
+            Judged::Accepted(lines) => add_lines(text, &lines)?,
+            Judged::Refused(line) => {
+                add_lines(text, &line)?;
+                return Ok(Status::Refused);
             }
         }
     }
-    Ok(0)
+    Ok(Status::Done)
 }
 
-/// The report of sources, a piece for each, up to the first that is refused.
-pub(crate) fn report(
-    alloc: Global,
-    sources: &[Source],
-    costs: &CostTable,
-) -> Result<Reply, NoMemory>
+/// The report of sources of different contracts, up to the first that is refused.
+fn report(alloc: Global, sources: &[Source], costs: &CostTable) -> Result<Reply, NoMemory>
     requires apart { AreApart sources.now }
-    ensures answer { IfOk result
-        (λ reply. IsReport (function_of costs.now) [] sources.now (answer_of reply)) }
-    ensures status { IfOk result (λ reply. IsOwnStatus reply.status × (reply.status ≢ 2)) }
+    ensures { IfOk result (IsReport (function_of costs.now) [] sources.now) }
 {
-    let mut deployed = Deployed::new(alloc);
-    let mut known = KnownBounds::new(alloc);
-    let mut pieces = Vec::new(alloc);
-    let judged = judge_all(
-        alloc,
-        &mut deployed,
-        &mut known,
-        &mut pieces,
-        sources,
-        costs,
-    );
-    drop(deployed);
-    drop(known);
+    let mut accepted = Accepted {
+        deployed: Deployed::new(alloc),
+        known: KnownBounds::new(alloc),
+    };
+    let mut text = Vec::new(alloc);
+    let judged = judge_all(alloc, &mut accepted, &mut text, sources, costs);
+    drop(accepted);
     let status = judged?;
-    Ok(Reply { pieces, status })
+    Ok(bytes_reply(text, status))
+}
+
+/// The reply to `check` for sources under paths whose names differ, as contracts under one address.
+pub fn check_reply(alloc: Global, costs: &CostTable, sources: &[Source]) -> Result<Reply, NoMemory>
+    requires { AreOfPaths sources.now }
+    ensures { IfOk result (IsReport (function_of costs.now) [] sources.now) }
+{
+    report(alloc, sources, costs)
 }

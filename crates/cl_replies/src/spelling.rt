@@ -1,15 +1,14 @@
 //! The replies to `value` and `wire`.
-ghost use Rattle.std.specs.Prelude.{◌≡◌, ◌≢◌, ◌++◌, IfOk, string_bytes};
+ghost use Rattle.std.specs.Prelude.{◌≡◌, ◌++◌, IfOk, string_bytes};
 ghost use Rattle.cl_values.specs.Reading.{decoded};
 ghost use Rattle.cl_lines.specs.Refusals.{span_text};
-ghost use Rattle.cl_entries.specs.Reply.{answer_of};
-ghost use Rattle.cl_replies.specs.Spelling.{refused_answer, line_answer, digits_in, fault_text, bytes_answer, value_answer, outcome_text, no_value_answer, wire_answer};
-ghost use Rattle.cl_replies.specs.Answer.{IsWireAnswer, IsOwnStatus};
+ghost use Rattle.cl_replies.specs.Spelling.{refused_reply, line_reply, digits_in, fault_text, bytes_reply as bytes_answer, value_reply, outcome_text, no_value_reply, wire_reply};
+ghost use Rattle.cl_replies.specs.Reports.{IsWireReply};
 ghost use Rattle.cl_text.specs.Parsed.{Stands, outcome_of};
 ghost use Rattle.cl_text.specs.Printed.{printed};
 
 use cl_codec::{decode, encode};
-use cl_entries::{Reply, joined, one_piece, whole_piece};
+use cl_entries::{Reply, Status, bytes_reply, concat_bytes, text_reply};
 use cl_sexpr::Span;
 use cl_text::{TextRefusal, parse, print_value};
 use cl_types::{Fault, NoMemory};
@@ -18,16 +17,19 @@ use hex::FromHexError;
 use std::alloc::{AllocError, Global};
 
 /// The reply to a word that is no value, by its fault.
-fn refused(alloc: Global, fault: &str) -> Result<Reply, AllocError>
-    ensures { IfOk result (λ reply. answer_of reply ≡ refused_answer fault.now) }
+pub(crate) fn refusal_reply(alloc: Global, fault: &str) -> Result<Reply, AllocError>
+    ensures { IfOk result (λ reply. reply ≡ refused_reply fault.now) }
 {
-    one_piece(alloc, format!(in alloc; "refused {fault}\n")?, 8)
+    let text = format!(in alloc; "refused {fault}\n")?;
+    Ok(text_reply(text, Status::BadWord))
 }
 
-fn line(alloc: Global, text: Vec<u8>) -> Result<Reply, AllocError>
-    ensures { IfOk result (λ reply. answer_of reply ≡ line_answer text.items) }
+/// The reply of a line.
+fn line(text: Vec<u8>) -> Result<Reply, AllocError>
+    ensures { IfOk result (λ reply. reply ≡ line_reply text.items) }
 {
-    whole_piece(alloc, joined(text, b"\n", b"")?, 0)
+    let text = concat_bytes(text, b"\n", b"")?;
+    Ok(bytes_reply(text, Status::Done))
 }
 
 /// The digits of a word, without the `0x` that may stand before them.
@@ -58,23 +60,23 @@ fn fault_text(alloc: Global, fault: DecodeRefusal) -> Result<String, AllocError>
 
 /// The text of a value.
 fn value_line(alloc: Global, value: &Val) -> Result<Reply, NoMemory>
-    ensures { IfOk result (λ reply. answer_of reply ≡ line_answer (printed value.now)) }
+    ensures { IfOk result (λ reply. reply ≡ line_reply (printed value.now)) }
 {
     let text = print_value(alloc, value)?;
-    Ok(line(alloc, text)?)
+    Ok(line(text)?)
 }
 
 /// The reply to bytes that spell no value, by their fault.
 fn no_wire(alloc: Global, fault: DecodeRefusal) -> Result<Reply, AllocError>
-    ensures { IfOk result (λ reply. answer_of reply ≡ refused_answer (fault_text fault)) }
+    ensures { IfOk result (λ reply. reply ≡ refused_reply (fault_text fault)) }
 {
     let text = fault_text(alloc, fault)?;
-    refused(alloc, text.as_str())
+    refusal_reply(alloc, text.as_str())
 }
 
 /// The text of the value that bytes spell, or why they spell none.
-fn bytes_reply(alloc: Global, bytes: &[u8]) -> Result<Reply, NoMemory>
-    ensures { IfOk result (λ reply. answer_of reply ≡ bytes_answer (decoded bytes.now)) }
+fn reply_of_bytes(alloc: Global, bytes: &[u8]) -> Result<Reply, NoMemory>
+    ensures { IfOk result (λ reply. reply ≡ bytes_answer (decoded bytes.now)) }
 {
     match decode(alloc, bytes) {
         Ok(value) => value_line(alloc, &value),
@@ -85,13 +87,12 @@ fn bytes_reply(alloc: Global, bytes: &[u8]) -> Result<Reply, NoMemory>
 
 /// The reply to `value`.
 pub fn value_reply(alloc: Global, word: &[u8]) -> Result<Reply, NoMemory>
-    ensures answer { IfOk result (λ reply. answer_of reply ≡ value_answer word.now) }
-    ensures status { IfOk result (λ reply. IsOwnStatus reply.status × (reply.status ≢ 2)) }
+    ensures { IfOk result (λ reply. reply ≡ value_reply word.now) }
 {
     match hex::decode(alloc, digits_in(word)) {
-        Ok(bytes) => bytes_reply(alloc, &bytes),
+        Ok(bytes) => reply_of_bytes(alloc, &bytes),
         Err(FromHexError::OutOfMemory) => Err(NoMemory),
-        Err(_) => Ok(refused(alloc, "NotHex")?),
+        Err(_) => Ok(refusal_reply(alloc, "NotHex")?),
     }
 }
 
@@ -116,29 +117,28 @@ fn refusal_text(alloc: Global, refusal: &TextRefusal) -> Result<String, AllocErr
 }
 
 /// The reply to a word that is the text of no value.
-pub fn no_value(alloc: Global, refusal: &TextRefusal) -> Result<Reply, AllocError>
-    ensures answer { IfOk result (λ reply. answer_of reply ≡ no_value_answer (outcome_of refusal.now)) }
-    ensures status { IfOk result (λ reply. IsOwnStatus reply.status × (reply.status ≢ 2)) }
+pub fn no_value_reply(alloc: Global, refusal: &TextRefusal) -> Result<Reply, AllocError>
+    ensures { IfOk result (λ reply. reply ≡ no_value_reply (outcome_of refusal.now)) }
 {
-    refused(alloc, refusal_text(alloc, refusal)?.as_str())
+    refusal_reply(alloc, refusal_text(alloc, refusal)?.as_str())
 }
 
 fn wire_line(alloc: Global, value: &Val) -> Result<Reply, NoMemory>
-    ensures { IfOk result (λ reply. answer_of reply ≡ wire_answer (Stands value.now)) }
+    ensures { IfOk result (λ reply. reply ≡ wire_reply (Stands value.now)) }
 {
     let digits = hex::encode(alloc, &encode(alloc, value)?)?;
     let front = String::from_str(alloc, "0x")?;
-    Ok(line(alloc, joined(front.into_bytes(), digits.as_bytes(), b"")?)?)
+    let text = concat_bytes(front.into_bytes(), digits.as_bytes(), b"")?;
+    Ok(line(text)?)
 }
 
 /// The reply to `wire`.
 pub fn wire_reply(alloc: Global, word: &[u8]) -> Result<Reply, NoMemory>
-    ensures answer { IfOk result (λ reply. IsWireAnswer word.now (answer_of reply)) }
-    ensures status { IfOk result (λ reply. IsOwnStatus reply.status × (reply.status ≢ 2)) }
+    ensures { IfOk result (λ reply. IsWireReply word.now reply) }
 {
     match parse(alloc, word) {
         Ok(value) => wire_line(alloc, &value),
-        Err(Fault::Refused(refusal)) => Ok(no_value(alloc, &refusal)?),
+        Err(Fault::Refused(refusal)) => Ok(no_value_reply(alloc, &refusal)?),
         Err(Fault::NoMemory) => Err(NoMemory),
     }
 }

@@ -3,3 +3,4 @@ pub mod SameTexts
 pub mod Digits
 pub mod WordSources
 pub mod Arguments
+mod Few

@@ -1,5 +1,5 @@
 -- What the words of a command line ask for.
-use Rattle.std.specs.Prelude.{ℕ, ◌-◌, ◌^◌, Bool, true, false, not, List, [], ◌∷◌, Option, Some, None, is_some, option_map, option_and_then, Result, Ok, Err, codes, if◌then◌else◌, ◌==◌, ◌&&◌, string_bytes, map}
+use Rattle.std.specs.Prelude.{◌≡◌, ℕ, ◌-◌, ◌^◌, nat_le, nat_lt, Bool, true, false, not, List, [], ◌∷◌, length, Option, Some, None, is_some, option_map, option_and_then, Result, Ok, Err, codes, if◌then◌else◌, ◌==◌, ◌&&◌, string_bytes, map}
 use Rattle.std.specs.Str.{bytes_eq}
 use Rattle.cl_c32.specs.Address.{AddressParts}
 use Rattle.cl_c32.specs.Codec.{decoded}
@@ -30,6 +30,25 @@ pub data Command : Type 0 where
   Wire : (word : List ℕ) → Command
   -- what a workload comes to, by its seed and its number of calls
   Gen : (seed count : ℕ) → Command
+  -- the root of the state after a transaction file
+  Root : (costs file : List ℕ) → Command
+  -- the row with this number of that state, and its path to the root
+  Prove : (costs file : List ℕ) (number : ℕ) → Command
+  -- whether a key and a value lead by these sides to this root
+  Verify : (root key value : List ℕ) (sides : List (List ℕ)) → Command
+
+-- the words that name files, in their order
+abbrev pub names_of : Option Command → List (List ℕ)
+names_of None = []
+names_of (Some (Call file function args version)) = file ∷ []
+names_of (Some (Run costs file state)) = costs ∷ file ∷ []
+names_of (Some (Check costs address paths version)) = costs ∷ paths
+names_of (Some (Value word)) = []
+names_of (Some (Wire word)) = []
+names_of (Some (Gen seed count)) = []
+names_of (Some (Root costs file)) = costs ∷ file ∷ []
+names_of (Some (Prove costs file number)) = costs ∷ file ∷ []
+names_of (Some (Verify root key value sides)) = []
 
 -- ---- flags, and `--`
 
@@ -108,13 +127,41 @@ abbrev pub gen_of : List ℕ → List ℕ → List (List ℕ) → Option Command
 gen_of seed count [] = gen_by (number_within seed (2 ^ 64 - 1)) (number_within count 99999)
 gen_of seed count (word ∷ words) = None
 
+-- `root` with two words, and with more
+abbrev pub root_of : List ℕ → List ℕ → List (List ℕ) → Option Command
+root_of costs file [] = Some (Root costs file)
+root_of costs file (word ∷ words) = None
+
+-- `prove` with three words, of which the last is a number, and with fewer or more
+abbrev pub prove_of : List ℕ → List ℕ → List (List ℕ) → Option Command
+prove_of costs file [] = None
+prove_of costs file (number ∷ []) = option_map (λ n. Prove costs file n) (number_within number (2 ^ 32 - 1))
+prove_of costs file (number ∷ word ∷ words) = None
+
+-- a key has less than 2^32 bytes, of two digits each, and a path at most 64 sides
+abbrev pub are_short : List ℕ → List (List ℕ) → Bool
+are_short key sides = nat_lt (length key) (2 ^ 33) && nat_le (length sides) 64
+
+-- `verify` with at least three words, and with two
+abbrev pub verify_of : List ℕ → List ℕ → List (List ℕ) → Option Command
+verify_of root key [] = None
+verify_of root key (value ∷ sides) = if are_short key sides then Some (Verify root key value sides) else None
+
+-- the commands of a state's root
+abbrev pub root_command : List ℕ → List ℕ → List ℕ → List (List ℕ) → Option Command
+root_command name first second words =
+    if bytes_eq name (codes "root") then root_of first second words
+    else (if bytes_eq name (codes "prove") then prove_of first second words
+    else (if bytes_eq name (codes "verify") then verify_of first second words else None))
+
 -- a command with more words
 abbrev pub command_with_words : List ℕ → List ℕ → List ℕ → List (List ℕ) → Option Command
 command_with_words name first second words =
     if bytes_eq name (codes "call") then Some (Call first second words One)
     else (if bytes_eq name (codes "check") then check_under first words (decoded second)
     else (if bytes_eq name (codes "run") then run_of first second words
-    else (if bytes_eq name (codes "gen") then gen_of first second words else None)))
+    else (if bytes_eq name (codes "gen") then gen_of first second words
+    else root_command name first second words)))
 
 -- the command of the first word, where it has its number of words
 abbrev pub command_of : List (List ℕ) → Option Command
@@ -144,6 +191,12 @@ command_on (Some line) = command_in line.1 line.0
 -- the command that the words give, where they are of the table
 abbrev pub taken : List (List ℕ) → Option Command
 taken words = command_on (line_in words)
+
+-- what the table says of a command's words: the sources of `check` have names that differ, and the words of `verify` are short
+abbrev pub IsOfTable : Option Command → Type 0
+IsOfTable (Some (Check costs address paths version)) = are_sources paths ≡ true
+IsOfTable (Some (Verify root key value sides)) = are_short key sides ≡ true
+IsOfTable command = Unit {0}
 
 -- ---- what the code compares
 

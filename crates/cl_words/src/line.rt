@@ -143,7 +143,7 @@ fn flag_found(matches: &ArgMatches) -> Option<Flag> {
 }
 
 /// The words and the flag that `clap` found.
-fn found(alloc: Global, matches: &ArgMatches) -> Result<Line, NoMemory> {
+fn line_found(alloc: Global, matches: &ArgMatches) -> Result<Line, NoMemory> {
     let mut positional = Vec::new(alloc);
     if let Some(first) = matches.get_str("COMMAND") {
         push_copy(alloc, &mut positional, first)?;
@@ -178,7 +178,7 @@ fn by_clap(alloc: Global, words: &[String]) -> Result<Line, NoMemory> {
     let Ok(matches) = command(alloc)?.try_get_matches_from(words) else {
         return Err(NoMemory);
     };
-    let line = found(alloc, &matches);
+    let line = line_found(alloc, &matches);
     drop(matches);
     line
 }

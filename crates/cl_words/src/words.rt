@@ -1,6 +1,7 @@
 //! The table of commands.
-ghost use Rattle.std.specs.Prelude.{◌≡◌, ◌≤◌, option_map, IfSome};
-ghost use Rattle.cl_words.specs.Words.{texts, check_under, run_of, gen_by, gen_of, command_with, command_with_words, command_of, with_flag, command_in, command_on};
+ghost use Rattle.std.specs.Prelude.{◌≡◌, ◌≤◌, ◌-◌, ◌^◌, option_map, IfSome};
+ghost use Rattle.cl_words.specs.Words.{texts, check_under, run_of, gen_by, gen_of, root_of, prove_of, are_short, verify_of, root_command, command_with, command_with_words, command_of, with_flag, command_in, command_on, IsOfTable};
+ghost use Rattle.cl_words.specs.Numbers.{number_within};
 ghost use Rattle.cl_words.specs.Seen.{command_seen, line_of};
 ghost use Rattle.cl_c32.specs.Codec.{decoded};
 
@@ -49,6 +50,25 @@ pub enum Command<'a> {
     Gen {
         seed: u64,
         count: u32,
+    },
+    /// The root of the state after the entries of a transaction file under a file of costs.
+    Root {
+        costs: &'a str,
+        file: &'a str,
+    },
+    /// The row of that state with this number, counted from 0 in the order of the state's lines,
+    /// and its path to the root.
+    Prove {
+        costs: &'a str,
+        file: &'a str,
+        number: u32,
+    },
+    /// Whether a key and a value lead by these sides to a root, all in hexadecimal digits.
+    Verify {
+        root: &'a str,
+        key: &'a str,
+        value: &'a str,
+        sides: &'a [String],
     },
 }
 
@@ -118,6 +138,86 @@ fn gen_of<'a>(seed: &str, count: &str, words: &[String]) -> Option<Command<'a>>
     }
 }
 
+/// `root` with these words.
+fn root_of<'a>(costs: &'a str, file: &'a str, words: &'a [String]) -> Option<Command<'a>>
+    ensures { option_map command_seen result ≡ root_of costs.now file.now (texts words.now) }
+{
+    match words {
+        [] => Some(Command::Root { costs, file }),
+        _ => None,
+    }
+}
+
+/// The number of a row.
+fn row_number(word: &str) -> Option<u32>
+    ensures { result ≡ number_within word.now (2 ^ 32 - 1) }
+{
+    let number = number_within(word, 4_294_967_295)?;
+    Some(number as u32)
+}
+
+/// `prove` with these words.
+fn prove_of<'a>(costs: &'a str, file: &'a str, words: &'a [String]) -> Option<Command<'a>>
+    ensures { option_map command_seen result ≡ prove_of costs.now file.now (texts words.now) }
+{
+    let [number] = words else {
+        return None;
+    };
+    let number = row_number(number.as_str())?;
+    Some(Command::Prove {
+        costs,
+        file,
+        number,
+    })
+}
+
+/// Whether the key has less than 2^32 bytes, of two digits each, and the path at most 64 sides.
+fn are_short(key: &str, sides: &[String]) -> bool
+    ensures { result ≡ are_short key.now (texts sides.now) }
+{
+    key.len() < 8_589_934_592 && sides.len() <= 64
+}
+
+/// `verify` with these words.
+fn verify_of<'a>(root: &'a str, key: &'a str, words: &'a [String]) -> Option<Command<'a>>
+    ensures { option_map command_seen result ≡ verify_of root.now key.now (texts words.now) }
+{
+    let [value, sides @ ..] = words else {
+        return None;
+    };
+    if !are_short(key, sides) {
+        return None;
+    }
+    Some(Command::Verify {
+        root,
+        key,
+        value: value.as_str(),
+        sides,
+    })
+}
+
+/// The command of a state's root with this name and at least two more words.
+fn root_command<'a>(
+    name: &str,
+    first: &'a str,
+    second: &'a str,
+    words: &'a [String],
+) -> Option<Command<'a>>
+    ensures { option_map command_seen result
+        ≡ root_command name.now first.now second.now (texts words.now) }
+{
+    if name == "root" {
+        return root_of(first, second, words);
+    }
+    if name == "prove" {
+        return prove_of(first, second, words);
+    }
+    if name == "verify" {
+        return verify_of(first, second, words);
+    }
+    None
+}
+
 /// The command with this name and at least two more words.
 fn command_with_words<'a>(
     name: &str,
@@ -145,7 +245,7 @@ fn command_with_words<'a>(
     if name == "gen" {
         return gen_of(first, second, words);
     }
-    None
+    root_command(name, first, second, words)
 }
 
 /// The command of words without a flag.
@@ -157,7 +257,7 @@ fn command_of(words: &[String]) -> Option<Command<'_>>
         [name, first, second, words @ ..] => {
             command_with_words(name.as_str(), first.as_str(), second.as_str(), words)
         }
-        _ => None,
+        [] | [_] => None,
     }
 }
 
@@ -196,7 +296,8 @@ fn with_flag<'a>(flag: Flag, command: &Command<'a>) -> Option<Command<'a>>
 
 /// The command of positional words, with a flag or without.
 fn command_in(line: &Line) -> Option<Command<'_>>
-    ensures { option_map command_seen result ≡ command_in line.now.flag (texts line.now.words.items) }
+    ensures { option_map command_seen result
+        ≡ command_in line.now.flag (texts line.now.words.items) }
 {
     let command = command_of(line.words.as_slice());
     let Some(flag) = line.flag else {
@@ -210,7 +311,8 @@ fn command_in(line: &Line) -> Option<Command<'_>>
 
 /// The command that words give, where they keep the rule and are of the table.
 pub fn command_on(line: &Option<Line>) -> Option<Command<'_>>
-    ensures { option_map command_seen result ≡ command_on (option_map line_of line.now) }
+    ensures command { option_map command_seen result ≡ command_on (option_map line_of line.now) }
+    ensures table { IsOfTable (option_map command_seen result) }
 {
     match line {
         Some(line) => command_in(line),

@@ -1,7 +1,19 @@
-use Rattle.cl_entries.specs.Reply.{answer_of}
-use Rattle.cl_replies.proofs.Called.{is_report_of}
+use Rattle.std.proofs.Common.{ℕ, ◌<◌, ◌^◌, List, [], sym, subst, ◌∙◌, arith}
+use Rattle.cl_c32.specs.declared.principal.Principal.{Principal}
+use Rattle.cl_events.specs.State.{genesis}
+use Rattle.cl_file.specs.Files.{total, AreOnce}
 use Rattle.cl_replies.proofs.call.report_of.Goals as goal
 
-pub returns-clause-answer : goal.returns-clause-answer
-returns-clause-answer c =
-    is_report_of c.args.first.now c.args.second.now c.in_ok-both.both (answer_of c.in_ok-report.field-0) c.in_ok-both.ensures c.in_ok-report.ensures.answer
+pub genesis-requires : goal.genesis-requires
+genesis-requires c =
+    let few : total [] < 2 ^ 128 = omega arith in
+    record {
+      once = subst (AreOnce []) (sym c.new.ensures.items) tt;
+      total = subst (λ (holders : List (Principal × ℕ)). total holders < 2 ^ 128) (sym c.new.ensures.items) few;
+    }
+
+pub report_on-reply-requires : goal.report_on-reply-requires
+report_on-reply-requires c = record {
+  first = c.in_ok-node.ensures.first ∙ (λ i. record { state = genesis (c.new.ensures.items i); contracts = []; height = 0 });
+  rising = c.requires;
+}

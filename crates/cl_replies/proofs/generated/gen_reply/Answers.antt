@@ -8,9 +8,9 @@ pub genesis-requires : goal.genesis-requires
 genesis-requires c =
     let few : total [] < 2 ^ 128 = omega arith in
     record {
-      once = subst (AreOnce []) (sym c.new-holders.ensures.items) tt;
-      total = subst (λ (holders : List (Principal × ℕ)). total holders < 2 ^ 128) (sym c.new-holders.ensures.items) few;
+      once = subst (AreOnce []) (sym c.new.ensures.items) tt;
+      total = subst (λ (holders : List (Principal × ℕ)). total holders < 2 ^ 128) (sym c.new.ensures.items) few;
     }
 
 pub workload_line-line-requires : goal.workload_line-line-requires
-workload_line-line-requires c = c.in_ok-node.ensures.first ∙ (λ i. record { state = genesis (c.new-holders.ensures.items i); contracts = []; height = 0; costs = c.builtin-costs.ensures i })
+workload_line-line-requires c = c.in_ok-node.ensures.first ∙ (λ i. record { state = genesis (c.new.ensures.items i); contracts = []; height = 0 })

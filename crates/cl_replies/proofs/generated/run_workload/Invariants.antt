@@ -1,4 +1,4 @@
-use Rattle.cl_replies.specs.Generated.{IsCounted}
+use Rattle.cl_replies.specs.Kept.{IsCounted}
 use Rattle.cl_replies.proofs.generated.run_workload.Given as goal
 
 abbrev pub invariant-loop : goal.invariant-loop

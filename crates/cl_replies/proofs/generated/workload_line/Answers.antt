@@ -11,6 +11,6 @@ returns c =
     let tally = c.in_ok-tally.tally in
     let counted = c.in_ok-tally.ensures in
     let top : c.world-world.result.now.stack.top ≡ n.state = ap (λ (stack : Stack). stack.top) c.world-world.ensures.stack in
-    is_summary c.functions_by_name.ensures c.args.seed c.args.count counted.0 tally n (string_bytes c.in_ok-summary.field-0) counted.1
+    is_summary c.args.seed c.args.count counted.0 tally n (string_bytes c.in_ok-summary.field-0) counted.1
     (c.in_ok-summary.ensures ∙ ap (λ (supply : ℕ). summary_line c.args.count tally supply c.in_ok-held.held) (c.supply.ensures ∙ ap (λ (s : State). supply_of (coins s)) top)
     ∙ ap (λ (held : ℕ). summary_line c.args.count tally (supply_of (coins n.state)) held) (c.in_ok-held.ensures ∙ ap (λ (s : State). balance_of (coins s)) top))

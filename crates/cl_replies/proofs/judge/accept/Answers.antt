@@ -5,12 +5,15 @@ use Rattle.cl_replies.proofs.Judged.{is_accepted}
 use Rattle.cl_replies.proofs.judge.accept.Goals as goal
 
 pub keep-requires-clause-new : goal.keep-requires-clause-new
-keep-requires-clause-new c = ap (λ p. contract_under p c.args.deployed.now.contracts.entries) c.requires.checked.principal_is ∙ c.requires.new
+keep-requires-clause-new c = ap (λ p. contract_under p c.args.accepted.now.deployed.contracts.entries) c.requires.checked.principal_is ∙ c.requires.new
 
 pub returns-clause-judged : goal.returns-clause-judged
 returns-clause-judged c =
-    is_accepted (function_of c.args.costs.now) c.args.deployed.now.contracts.entries c.args.source.now c.args.checked c.requires.checked c.what_callers_know.ensures.defined c.args.priced.bounds c.requires.bounded
-    c.in_ok-text.text.items c.in_ok-text.ensures c.keep.new.deployed.contracts.entries c.in_ok-keep.ensures.kept
+    is_accepted (function_of c.args.costs.now) c.args.accepted.now.deployed.contracts.entries c.args.source.now c.args.checked c.requires.checked c.what_callers_know.ensures.defined c.args.priced.bounds c.requires.bounded
+    c.in_ok-text.text.items c.in_ok-text.ensures c.keep.new.accepted.deployed.contracts.entries c.in_ok-keep.ensures.kept
 
-pub returns-clause-known : goal.returns-clause-known
-returns-clause-known c = c.in_ok-keep.ensures.known (function_of c.args.costs.now) c.requires.known c.requires.kept
+pub returns-clause-stand : goal.returns-clause-stand
+returns-clause-stand c = record {
+  indexed = c.in_ok-keep.ensures.indexed;
+  known = c.in_ok-keep.ensures.known (function_of c.args.costs.now) c.requires.stand.known c.requires.kept;
+}

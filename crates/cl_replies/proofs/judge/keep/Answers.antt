@@ -1,7 +1,7 @@
 use Rattle.std.proofs.Common.{◌++◌, ◌∷◌, [], refl, sym, ap, subst, ◌∙◌}
 use Rattle.cl_contracts.specs.declared.contract.Contract.{Contract}
 use Rattle.cl_contracts.proofs.Constants.{no_constants}
-use Rattle.cl_replies.specs.Checking.{Contracts}
+use Rattle.cl_replies.specs.Kept.{Contracts}
 use Rattle.cl_bound.specs.Known.{AreBounds}
 use Rattle.cl_replies.proofs.judge.keep.Goals as goal
 
@@ -18,7 +18,7 @@ pub returns-clause-known : goal.returns-clause-known
 returns-clause-known c table are of =
     let contract : Contract = record { checked = c.args.checked; constants = c.new.result } in
     subst (λ (es : Contracts). AreBounds table es c.add-2.new.self) (sym (c.add.ensures.added ∙ ap (λ (es : Contracts). es ++ (c.args.checked.principal, contract) ∷ []) c.in_ok-reserve.ensures.same))
-    (c.add-2.ensures table c.args.deployed.now.contracts.entries contract (c.in_ok-reserve-2.ensures.same table c.args.deployed.now.contracts.entries are) of)
+    (c.add-2.ensures table c.args.accepted.now.deployed.contracts.entries contract (c.in_ok-reserve-2.ensures.same table c.args.accepted.now.deployed.contracts.entries are) of)
 
 pub add-requires-clause-constants : goal.add-requires-clause-constants
 add-requires-clause-constants c = no_constants (record { checked = c.args.checked; constants = c.new.result }) c.new.ensures.empty

@@ -1,0 +1,5 @@
+use Rattle.cl_app.proofs.Stepping.{entries_next_so}
+use Rattle.cl_app.proofs.steps.Steps.next.Goals as goal
+
+pub returns-in-Entries-clause-next : goal.returns-in-Entries-clause-next
+returns-in-Entries-clause-next c = entries_next_so c.in-Entries.entries c.next.new.self c.args.self.now c.next.result c.in-Entries.is c.next.ensures.next
