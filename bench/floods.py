@@ -14,7 +14,6 @@ PLACE = bytes([6, 22, *bytes(20), 1, *b"c", 1, *b"m"])
 BUFFER, HOLDER = bytes([2, 0, 0, 0, 5]), bytes([5, 22, *bytes(15)])
 LETTERS = "abcdefghijklmnopqrstuvwxyz"
 
-
 FOLDER = tempfile.TemporaryDirectory()
 
 
@@ -38,7 +37,7 @@ def colliding(front, length, letters, count):
 
 @functools.cache
 def ordinary(front, length, letters, count):
-    """As many that are drawn."""
+    """As many different parts, drawn at random."""
     drawn = random.Random(7)
     of = letters.encode() if letters != "-" else bytes(range(256))
     return list(dict.fromkeys(bytes(drawn.choices(of, k=length)) for _ in range(2 * count)))[:count]

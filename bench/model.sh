@@ -46,8 +46,36 @@ END
 shown 5 answer run examples/unit.json "$folder/tx.json" <<END
 bad file $folder/tx.json BadValue /entries/0/deploy/clarity
 END
+printf '{"version": 2, "genesis": [], "epochs": [{"height": 0, "costs": {}}], "entries": []}' >"$folder/epochs.json"
+shown 5 answer run examples/unit.json "$folder/epochs.json" <<END
+bad file $folder/epochs.json BadValue /epochs/0/height
+END
+shown 0 answer run examples/unit.json examples/epochs.json <<'END'
+0 deploy 'SP000000000000000000002Q6VF78.inc done
+  cost 2 0 0 2 41
+  deploy-bound 2 0 0 2 41
+  bound add1 5 0 0 0 0 int
+1 call 'SP000000000000000000002Q6VF78.inc add1 value 42
+  cost 5 0 0 0 0
+2 block 9
+3 block 10
+  rebound 'SP000000000000000000002Q6VF78.inc add1 9 0 0 0 0 int
+4 call 'SP000000000000000000002Q6VF78.inc add1 aborted A8 CostLimit runtime 9 5
+  cost 9 0 0 0 0
+5 call 'SP000000000000000000002Q6VF78.inc add1 value 42
+  cost 9 0 0 0 0
+END
 shown 8 answer value 0703ff <<'END'
 refused Extra 2
+END
+# (The SHA-256 of nothing, and of a byte 0 and four of the length of an empty key.)
+printf '{"version": 1, "genesis": [], "entries": []}' >"$folder/empty.json"
+shown 8 answer prove examples/unit.json "$folder/empty.json" 0 <<'END'
+root 0xe3b0c44298fc1c149afbf4c8996fb92427ae41e4649b934ca495991b7852b855
+refused NoRow
+END
+shown 0 answer verify "$(printf '\0\0\0\0\0' | sha256sum | cut -d ' ' -f 1)" '' '' <<'END'
+yes
 END
 shown 0 answer gen 2 1 <<'END'
 calls 1 ok 1 err 0 supply u740 p1 u740 runtime 33

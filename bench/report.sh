@@ -56,7 +56,7 @@ FILE
 # An honest report, with the state and without.
 cat >wanted <<'SHOWN'
 {"entries": [
- {"entry": 0, "kind": "block", "height": 7},
+ {"entry": 0, "kind": "block", "height": 7, "rebounds": []},
  {"entry": 1, "kind": "deploy", "contract": "SP000000000000000000002Q6VF78.c", "outcome": "done", "text": "done", "cost": [4, 0, 0, 3, 121], "deploy_bound": [4, 0, 0, 3, 340282366920938463463374607431768211455], "bounds": [{"function": "put", "bound": [8, 2, 34, 1, 17], "type": "(response uint no-type)"}, {"function": "get", "bound": [3, 1, 30, 0, 0], "type": "{a: (optional (list 2 (buff 4))), b: (string-utf8 5)}"}], "events": []},
  {"entry": 2, "kind": "call", "contract": "SP000000000000000000002Q6VF78.c", "function": "put", "outcome": "ok", "value": "u1", "text": "ok u1", "cost": [8, 2, 34, 1, 17], "events": [{"event": "print", "contract": "SP000000000000000000002Q6VF78.c", "value": "{a: \"x) \\\" y\", b: (list -1 2)}"}, {"event": "nft-transfer", "contract": "SP000000000000000000002Q6VF78.c", "token": "tok", "id": "(some 0x00ff)", "from": "SP000000000000000000002Q6VF78", "to": "SP000000000000000000002Q6VF78.c"}, {"event": "stx-burn", "contract": "SP000000000000000000002Q6VF78.c", "amount": "u5", "from": "SP000000000000000000002Q6VF78"}]},
  {"entry": 3, "kind": "call", "contract": "SP000000000000000000002Q6VF78.c", "function": "get", "outcome": "value", "value": "{a: none, b: u\"\\u{e9}\"}", "text": "value {a: none, b: u\"\\u{e9}\"}", "cost": [3, 1, 6, 0, 0], "events": []},
@@ -189,6 +189,32 @@ wanted none.json <<'SHOWN'
 {"entries": [], "state": null}
 status 0
 SHOWN
+
+# A block that changes bounds, and a call of a function without one.
+echo '{"version": 2, "genesis": [], "epochs": [], "entries": [{"block": {"height": 10}}, {"call": {"sender": "SP000000000000000000002Q6VF78", "contract": "SP000000000000000000002Q6VF78.c", "function": "g", "args": []}}]}' >epochs.json
+cat >begun <<'FILE'
+0 block 10
+  rebound 'SP000000000000000000002Q6VF78.c f 9 0 0 0 340282366920938463463374607431768211455 (list 2 (buff 4))
+  rebound 'SP000000000000000000002Q6VF78.c g over write_length
+1 call 'SP000000000000000000002Q6VF78.c g refused E8 NoBound write_length
+FILE
+cp begun given
+wanted epochs.json <<'SHOWN'
+{"entries": [
+ {"entry": 0, "kind": "block", "height": 10, "rebounds": [{"contract": "SP000000000000000000002Q6VF78.c", "function": "f", "bound": [9, 0, 0, 0, 340282366920938463463374607431768211455], "type": "(list 2 (buff 4))"}, {"contract": "SP000000000000000000002Q6VF78.c", "function": "g", "over": "write_length"}]},
+ {"entry": 1, "kind": "call", "contract": "SP000000000000000000002Q6VF78.c", "function": "g", "outcome": "refused", "rule": "E8", "name": "NoBound", "dimension": "write_length", "text": "refused E8 NoBound write_length", "events": []}
+], "state": null}
+status 0
+SHOWN
+# Each alteration, and what is said of it.
+unlike() {
+    sed "$1" begun >given
+    wanted epochs.json < <(printf 'report: byte %s\nstatus 1\n' "$2")
+}
+unlike 's/over write_length$/over time/' "172: expected a dimension"
+unlike 's/E8 NoBound.*/E8 NoBound/' "245: expected ' '"
+unlike "s/^  rebound 'SP000000000000000000002Q6VF78.c g/  rebound g/" "132: expected a principal"
+unlike 's/ (list 2 (buff 4))$//' "103: expected ' '"
 
 # What can't be read.
 wanted absent.json <<'SHOWN'

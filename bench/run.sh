@@ -3,16 +3,18 @@
 # between 1,000 holders, and calls of a contract that calls another; each in a node of 1, 100 and 1,000 contracts. Prints the
 # instructions of one call more, from the difference of two numbers of calls, by callgrind (without valgrind, nanoseconds), and
 # the peak of memory at 4,000 and at 64,000 calls beside the size of the file. Where a row is flat, a call costs the same however
-# many contracts a node has. Run by hand; python3 measures.
+# many contracts a node has. The last row is of a block at which the epoch changes, beside one at which it doesn't, and prints
+# their difference for each deployed function too: it may rise no faster than the functions. Run by hand; python3 measures.
 # Usage: bench/run.sh
 set -eu
 [ "${1-}" != --help ] || exec sed -n '2,/^[^#]/s/^# \{0,1\}//p' "$0"
 cd "$(dirname "$0")"
 PYTHONDONTWRITEBYTECODE=1 python3 - <<'PYTHON'
+import json
 import os
 import tempfile
 
-from made import DEPLOYER, UNIT, address, call, deploy, transactions
+from made import DEPLOYER, UNIT, address, block, call, deploy, transactions
 from measure import instructions, run
 
 VARIABLE = (
@@ -44,9 +46,21 @@ ROWS = [
 ]
 
 
-def file_of(folder, of, contracts, calls):
+def deployments(contracts):
     others = [deploy(f"c{i}", "(define-read-only (f) 1)") for i in range(contracts)]
-    return transactions(folder, [deploy("c", VARIABLE), deploy("t", TOKEN), *others, deploy("a", AWAY), *[of(i) for i in range(calls)]])
+    return [deploy("c", VARIABLE), deploy("t", TOKEN), *others, deploy("a", AWAY)]
+
+
+def file_of(folder, of, contracts, calls):
+    return transactions(folder, deployments(contracts) + [of(i) for i in range(calls)])
+
+
+def file_of_blocks(folder, contracts, changes):
+    """A file with 64 epochs, of which so many begin with one of its 64 blocks."""
+    with open(UNIT) as file:
+        table = json.load(file)
+    blocks = [block(min(height, changes)) for height in range(1, 65)]
+    return transactions(folder, deployments(contracts) + blocks, epochs=[(height, table) for height in range(1, 65)])
 
 
 def cost(path):
@@ -66,4 +80,12 @@ with tempfile.TemporaryDirectory() as folder:
             path = file_of(folder, of, 1, calls)
             peaks.append(f"{run(['run', UNIT, path], 0, answer)[1]:.0f} ({os.path.getsize(path) / 2**20:.0f})")
         print(f"{name:24} {each[0]:12.0f} {each[1]:10.0f} {each[2]:10.0f}   {', '.join(peaks)}", flush=True)
+    each, functions = [], []
+    for contracts in (1, 100, 1000):
+        costs = [cost(file_of_blocks(folder, contracts, changes)) for changes in (32, 64)]
+        each.append((costs[1] - costs[0]) / 32)
+        # Those of the three contracts besides: put, no, sum; send; put.
+        functions.append(contracts + 5)
+    print(f"{'changes the epoch':24} {each[0]:12.0f} {each[1]:10.0f} {each[2]:10.0f}   a function: "
+          + ", ".join(f"{cost / count:.0f}" for cost, count in zip(each, functions)), flush=True)  # fmt: skip
 PYTHON

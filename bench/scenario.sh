@@ -32,13 +32,17 @@ wanted() {
 
 mkdir parts
 printf '(define-read-only (f) "1")\n' >parts/f.clar
+printf '{"literal": {}}' >parts/free.json
 cat >all.scenario <<'FILE'
 ;; Each kind of line.
 name owner SP000000000000000000002Q6VF78
 name alice SP2J6ZY48GV1EZ5V2V5RB9MP66SW86PYKKNRV9EJ7
 stx alice u1000
 stx owner.bank u5
+epoch 5 parts/free.json
+epoch 18446744073709551615 parts/free.json
 block 7
+    rebound owner.f go 1 2 3 4 5
 
 deploy owner f parts/f.clar => done
   clarity 2
@@ -51,9 +55,12 @@ call alice owner.f go -1 (list 'alice "a  'owner ;; \" b") {to: 'owner.f} u"x" '
 	post nft alice owner.f tok u1 kept
 FILE
 wanted txfile all.scenario <<'SHOWN'
-{"version": 1, "genesis": [
+{"version": 2, "genesis": [
  {"principal": "SP2J6ZY48GV1EZ5V2V5RB9MP66SW86PYKKNRV9EJ7", "stx": "u1000"},
  {"principal": "SP000000000000000000002Q6VF78.bank", "stx": "u5"}
+], "epochs": [
+ {"height": 5, "costs": {"literal": {}}},
+ {"height": 18446744073709551615, "costs": {"literal": {}}}
 ], "entries": [
  {"block": {"height": 7}},
  {"deploy": {"sender": "SP000000000000000000002Q6VF78", "name": "f", "source": "(define-read-only (f) \"1\")\n", "clarity": 2}},
@@ -80,9 +87,14 @@ refused() {
     printf '%b' "$1" >bad.scenario
     wanted txfile bad.scenario < <(printf 'txfile: bad.scenario:%s\nstatus 3\n' "$2")
 }
-refused '\nfoo\n' '2: `foo` begins no line of a scenario: name, stx, block, deploy, call, state do'
+refused '\nfoo\n' '2: `foo` begins no line of a scenario: name, stx, epoch, block, deploy, call, state do'
 refused 'block 7\n mode deny' '2: `mode` belongs below a deployment or a call'
-refused 'mode deny' '1: `mode` begins no line of a scenario: name, stx, block, deploy, call, state do'
+refused 'mode deny' '1: `mode` begins no line of a scenario: name, stx, epoch, block, deploy, call, state do'
+refused 'deploy a b parts/f.clar\n rebound a.b f over runtime' '2: `rebound` belongs below a block'
+refused 'block 7\n rebound a.b f over time' '2: a line of this kind is: rebound CONTRACT NAME RUNTIME READ_COUNT READ_LENGTH WRITE_COUNT WRITE_LENGTH or rebound CONTRACT NAME over DIMENSION'
+refused 'epoch 5 parts/f.clar' "1: parts/f.clar isn't JSON"
+refused 'epoch -5 parts/free.json' '1: a line of this kind is: epoch HEIGHT PATH'
+refused 'epoch 5 no.json' '1: no.json: No such file or directory'
 refused 'block -1' '1: a line of this kind is: block HEIGHT'
 refused 'name a SP000000000000000000002Q6VF79' '1: `SP000000000000000000002Q6VF79` is no address: its last characters are a checksum, so copy it whole'
 refused 'deploy a b no.clar' '1: no.clar: No such file or directory'
@@ -173,6 +185,29 @@ good.scenario: 9 of 9 as wanted
 status 1
 SHOWN
 
+# Bounds that a block changes.
+cat >epochs.scenario <<'FILE'
+epoch 5 parts/free.json
+block 7
+    rebound SP000000000000000000002Q6VF78.f go 1 2 3 4 5
+    rebound SP000000000000000000002Q6VF78.f on over read_count
+    rebound SP000000000000000000002Q6VF78.f go 1 2 3 4 6
+    rebound SP000000000000000000002Q6VF78.f on over runtime
+call SP000000000000000000002Q6VF78 SP000000000000000000002Q6VF78.f on => refused E8
+FILE
+cat >answer <<'FILE'
+0 block 7
+  rebound 'SP000000000000000000002Q6VF78.f go 1 2 3 4 5 int
+  rebound 'SP000000000000000000002Q6VF78.f on over read_count
+1 call 'SP000000000000000000002Q6VF78.f on refused E8 NoBound read_count
+FILE
+wanted expect epochs.scenario <<'SHOWN'
+epochs.scenario:2: entry 0, block 7: wanted: rebound 'SP000000000000000000002Q6VF78.f go 1 2 3 4 6; came: no such line
+epochs.scenario:2: entry 0, block 7: wanted: rebound 'SP000000000000000000002Q6VF78.f on over runtime; came: no such line
+epochs.scenario: 1 of 2 as wanted
+status 1
+SHOWN
+
 # A report that is cut off, a file that the program refuses, a program that doesn't run.
 head -n 3 report >answer
 wanted expect good.scenario <<'SHOWN'
@@ -185,6 +220,12 @@ echo 5 >status
 wanted expect good.scenario <<'SHOWN'
 good.scenario:6: the program ended with status 5: bad file tx.json BadValue /entries/2/call/args
 good.scenario: 0 of 1 as wanted
+status 1
+SHOWN
+echo 'bad file tx.json BadValue /epochs/0/costs' >answer
+wanted expect epochs.scenario <<'SHOWN'
+epochs.scenario:1: the program ended with status 5: bad file tx.json BadValue /epochs/0/costs
+epochs.scenario: 0 of 1 as wanted
 status 1
 SHOWN
 CLARITY=$folder/absent wanted expect good.scenario <<'SHOWN'

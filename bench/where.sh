@@ -94,7 +94,7 @@ wanted calls.json <<'SHOWN'
 1 call 'S.c f aborted A9 PostCondition 0
   condition 0: {"stx": {"principal": "S", "code": "le", "amount": "u1"}}
   why: condition I, counted from 0, is the first that fails; in deny mode, where each holds and an asset moved that none names, I is their number
-  do: see what the entry would move, and don't send it, or write the condition that allows it (FILES.md)
+  do: see what the entry would move; don't send it, or write the condition that allows it (FILES.md)
 1 call 'S.c f aborted A3 DivideByZero
   why: a divisor was 0
   do: test the divisor before the division
@@ -108,14 +108,30 @@ wanted calls.json <<'SHOWN'
   do: write the literal of that type (TEXT.md): a uint has a u in front, a principal a "'"
 status 1
 SHOWN
+echo "1 call 'S.c f refused E8 NoBound write_length" >given
+wanted calls.json <<'SHOWN'
+1 call 'S.c f refused E8 NoBound write_length
+  why: under the table of the height the function's bound is above 2^128-1, in this dimension first
+  do: wait for another epoch; no limit helps
+status 1
+SHOWN
 
 # Files and words that are refused.
 echo "bad file calls.json BadValue /entries/1/call/args" >given
 wanted calls.json <<'SHOWN'
 bad file calls.json BadValue /entries/1/call/args
   calls.json has there: ["foo"]
-  why: in a holder, or later in an entry, the member at PATH isn't what it has to be
+  why: in a holder, later in an epoch or an entry, the member at PATH isn't what it has to be
   do: write what the lists of members say: addresses without "'", uints as texts such as "u5", arguments as literals
+status 1
+SHOWN
+echo '{"version": 2, "genesis": [], "epochs": [{"height": 5, "costs": {"literal": {}}}], "entries": []}' >epochs.json
+echo "bad file epochs.json BadValue /epochs/0/costs" >given
+wanted epochs.json <<'SHOWN'
+bad file epochs.json BadValue /epochs/0/costs
+  epochs.json has there: {"literal": {}}
+  why: it has a fault of cost files
+  do: check with this object as its COSTS names the fault
 status 1
 SHOWN
 echo '{"a": ' >cut.json
@@ -124,7 +140,7 @@ wanted cut.json <<'SHOWN'
 bad file cut.json NotJson
   cut.json isn't JSON: Expecting value: line 2 column 1 (char 7)
   why: it isn't JSON, or no object
-  do: mend the JSON, as any JSON tool shows it; the whole file is one "{ }" (COSTS.md says what is read)
+  do: mend it, as any JSON tool shows; the whole file is one "{ }" (COSTS.md says what is read)
 status 1
 SHOWN
 echo "bad file unit.json BadShape arith runtime" >given
@@ -224,8 +240,9 @@ sys.path.insert(0, sys.argv[1])
 import advice
 
 rules = [f"{letter}{number}" for letter, count in (("T", 10), ("F", 5), ("O", 1), ("C", 25), ("B", 1)) for number in range(1, count + 1)]
-endings = [f"A{number}" for number in range(1, 10)] + [f"E{number}" for number in range(1, 8)]
+endings = [f"A{number}" for number in range(1, 10)] + [f"E{number}" for number in range(1, 9)]
 faults = ["TooLong", "NotJson", "Version", "Field /x", "BadValue /entries", "Field /entries/0/x", "BadValue /genesis/0/stx", "GenesisTooBig"]
+faults += ["BadValue /genesis/0/principal", "BadValue /epochs", "BadValue /epochs/1/height", "BadValue /epochs/1/costs", "Field /epochs/1/x"]
 faults += ["TooMany", "HeightFalls /entries/1/block/height", "Missing arith", "BadShape arith runtime", "TooBig arith", "Unknown x"]
 values = ["NotALiteral 0..1", "TooDeep 0..1", "TooLarge 0..1", "T9 BadAddress 0..1", "TooLong", "NotHex"]
 values += [f"{fault} 1" for fault in ("Ended", "TooDeep", "BadPrefix", "BadName", "KeysOrder", "BadText", "NoKeys", "Extra")]

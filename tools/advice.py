@@ -61,15 +61,19 @@ def of_endings():
 
 
 def of_fault(fault):
-    """Where a fault of a file comes, and what to do; `Field` and `BadValue` of the top members are rows of their own."""
+    """Where a fault of a file comes, and what to do: by the row of its path, as `/epochs/I/height`, else by that of its word, of which
+    `Field` and `BadValue` of the top members have one of their own."""
     word, _, path = fault.partition(" ")
-    is_top = path.count("/") == 1
+    is_top = path.count("/") == 1 and word in ("Field", "BadValue")
+    wanted = (f"{word} " + re.sub(r"/[0-9]+", "/I", path), f"{word} /NAME" if is_top else f"{word} PATH", word)
+    found = {}
     for page in ("FILES.md", "COSTS.md"):
         for words, cells in rows(page):
-            names = [name.split(" ") for name in words]
-            if any(name[0] == word and (name[1:] == ["/NAME"]) == (is_top and word in ("Field", "BadValue")) for name in names):
-                return list(zip(("why", "do"), cells)) if len(cells) == 2 else [("do", cells[-1])]
-    return []
+            for name in words:
+                # Of a fault that names what it is about, as `Missing NAME`, the word alone counts.
+                found.setdefault(name if name in wanted else name.partition(" ")[0], cells)
+    cells = next((found[name] for name in wanted if name in found), [])
+    return list(zip(("why", "do"), cells)) if len(cells) == 2 else [("do", cells[-1])] if cells else []
 
 
 def of_value(refusal):

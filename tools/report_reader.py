@@ -24,7 +24,7 @@ ABORTS = {
 }  # fmt: skip
 REFUSALS = {
     "E1": "NoContract", "E2": "NoFunction", "E3": "NotPublic", "E4": "ArgumentCount", "E5": "Argument", "E6": "NameTaken",
-    "E7": "ContractRefused",
+    "E7": "ContractRefused", "E8": "NoBound",
 }  # fmt: skip
 # Why a deployment or a call is aborted or refused.
 ENDINGS = {
@@ -227,6 +227,9 @@ class _Reader:
         elif rule == "E7":
             self.need(" ")
             found["broken"] = self.broken_rule()
+        elif rule == "E8":
+            self.need(" ")
+            found["dimension"] = self.dimension()
         return found
 
     def bounds(self):
@@ -240,6 +243,23 @@ class _Reader:
             bound = self.cost()
             self.need(" ")
             found["bounds"].append({"function": function, "bound": bound, "type": self.type()})
+            self.need("\n")
+        return found
+
+    def rebounds(self):
+        """The bounds of deployed functions that change with a block."""
+        found = []
+        while self.take("  rebound"):
+            one = self.parts(("contract", "name"))
+            one["function"] = one.pop("name")
+            if self.take(" over "):
+                one["over"] = self.dimension()
+            else:
+                self.need(" ")
+                one["bound"] = self.cost()
+                self.need(" ")
+                one["type"] = self.type()
+            found.append(one)
             self.need("\n")
         return found
 
@@ -258,7 +278,7 @@ class _Reader:
         found = {"entry": number, "kind": kind}
         if kind == "block":
             self.need(f"{members['height']}\n", "the height of the file")
-            return found | {"height": members["height"]}
+            return found | {"height": members["height"], "rebounds": self.rebounds()}
         found["contract"] = contract_of(kind, members)
         self.need(f"'{found['contract']} ", "the contract of the file")
         if kind == "call":

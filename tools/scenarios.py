@@ -1,9 +1,10 @@
 """Scenarios: readable descriptions of transaction files, with the outcome that is wanted beside each entry (docs/SCENARIOS.md)."""
+import json
 import pathlib
 import re
 
 import values
-from report_reader import EVENTS, PRINCIPALS, STATES
+from report_reader import DIMENSIONS, EVENTS, PRINCIPALS, STATES
 
 CODES = ("eq", "gt", "ge", "lt", "le")
 OUTCOMES = {"deploy": ("done", "aborted", "refused"), "call": ("ok", "err", "value", "aborted", "refused")}
@@ -11,6 +12,7 @@ OUTCOMES = {"deploy": ("done", "aborted", "refused"), "call": ("ok", "err", "val
 SHAPES = {
     "name": "name WORD ADDRESS",
     "stx": "stx PRINCIPAL AMOUNT",
+    "epoch": "epoch HEIGHT PATH",
     "block": "block HEIGHT",
     "deploy": "deploy SENDER NAME PATH [=> OUTCOME]",
     "call": "call SENDER CONTRACT FUNCTION LITERAL.. [=> OUTCOME]",
@@ -21,8 +23,9 @@ SHAPES = {
     "clarity": "clarity 2",
     "cost": "cost RUNTIME READ_COUNT READ_LENGTH WRITE_COUNT WRITE_LENGTH",
     "event": "event LINE",
+    "rebound": "rebound CONTRACT NAME RUNTIME READ_COUNT READ_LENGTH WRITE_COUNT WRITE_LENGTH or rebound CONTRACT NAME over DIMENSION",
 }
-BELOW = ("limit", "mode", "post", "clarity", "cost", "event")
+BELOW = ("limit", "mode", "post", "clarity", "cost", "event", "rebound")
 QUOTED = re.compile(r"""u?"(?:[^"\\]|\\.)*"?|'([A-Za-z][A-Za-z0-9_-]*)""")
 
 
@@ -35,20 +38,23 @@ class Entry:
 
     def __init__(self, kind, members, place, outcome):
         self.kind, self.members, self.place, self.outcome = kind, members, place, outcome
-        self.cost, self.events = None, None
+        self.cost, self.events, self.rebounds = None, None, []
 
     def json(self):
         return {self.kind: self.members}
 
 
 class Scenario:
-    """A scenario: the holders of STX, the entries, and lines that are wanted of the state, each with its place."""
+    """A scenario: the holders of STX, the epochs and their places, the entries, and lines that are wanted of the state, each with
+    its place."""
 
     def __init__(self):
-        self.names, self.genesis, self.entries, self.state = {}, [], [], []
+        self.names, self.genesis, self.epochs, self.epoch_places, self.entries, self.state = {}, [], [], [], [], []
 
     def json(self):
-        return {"version": 1, "genesis": self.genesis, "entries": [entry.json() for entry in self.entries]}
+        epochs = {"epochs": self.epochs} if self.epochs else {}
+        entries = [entry.json() for entry in self.entries]
+        return {"version": 2 if epochs else 1, "genesis": self.genesis, **epochs, "entries": entries}
 
 
 def words_of(line):
@@ -91,8 +97,8 @@ class _Reader:
             if kind not in SHAPES or is_below != (kind in BELOW):
                 self.fail(f"`{kind}` begins no line {'below an entry: ' if is_below else 'of a scenario: '}"
                           + ", ".join(k for k in SHAPES if (k in BELOW) == is_below) + " do")  # fmt: skip
-            if is_below and not (self.made.entries and self.made.entries[-1].kind in OUTCOMES):
-                self.fail(f"`{kind}` belongs below a deployment or a call")
+            if is_below and not (self.made.entries and (self.made.entries[-1].kind in OUTCOMES) == (kind != "rebound")):
+                self.fail(f"`{kind}` belongs below {'a block' if kind == 'rebound' else 'a deployment or a call'}")
             getattr(self, "add_" + kind)(words)
         return self.made
 
@@ -152,6 +158,15 @@ class _Reader:
         read = {name: self.principal if name in PRINCIPALS else self.printed for name in names}
         return {kind: words[0]} | {name: read[name](word) for name, word in zip(names, words[1:])}
 
+    def held(self, path):
+        """The text of a file, looked for from the folder of the scenario."""
+        try:
+            return (self.folder / path).read_bytes().decode("utf-8")
+        except UnicodeDecodeError:
+            self.fail(f"{path} isn't UTF-8")
+        except OSError as fault:
+            self.fail(f"{path}: {fault.strerror}")
+
     # Lines of a scenario.
 
     def add_name(self, words):
@@ -164,6 +179,16 @@ class _Reader:
         self.need(len(words) == 2, "stx")
         self.made.genesis.append({"principal": self.principal(words[0]), "stx": words[1]})
 
+    def add_epoch(self, words):
+        self.need(len(words) == 2 and re.fullmatch(r"[0-9]{1,20}", words[0]), "epoch")
+        text = self.held(words[1])
+        try:
+            costs = json.loads(text)
+        except (ValueError, RecursionError):
+            self.fail(f"{words[1]} isn't JSON")
+        self.made.epochs.append({"height": int(words[0]), "costs": costs})
+        self.made.epoch_places.append(self.place())
+
     def add_block(self, words):
         self.need(len(words) == 1 and re.fullmatch(r"[0-9]{1,20}", words[0]), "block")
         self.made.entries.append(Entry("block", {"height": int(words[0])}, self.place(), None))
@@ -171,13 +196,7 @@ class _Reader:
     def add_deploy(self, words):
         words, outcome = self.outcome("deploy", words)
         self.need(len(words) == 3, "deploy")
-        try:
-            source = (self.folder / words[2]).read_bytes().decode("utf-8")
-        except UnicodeDecodeError:
-            self.fail(f"{words[2]} isn't UTF-8")
-        except OSError as fault:
-            self.fail(f"{words[2]}: {fault.strerror}")
-        members = {"sender": self.principal(words[0]), "name": words[1], "source": source}
+        members = {"sender": self.principal(words[0]), "name": words[1], "source": self.held(words[2])}
         self.made.entries.append(Entry("deploy", members, self.place(), outcome))
 
     def add_call(self, words):
@@ -222,6 +241,12 @@ class _Reader:
     def add_event(self, words):
         entry = self.made.entries[-1]
         entry.events = (entry.events or []) + [self.parts("event", words, EVENTS, ("contract",))]
+
+    def add_rebound(self, words):
+        is_over = len(words) == 4 and words[2] == "over" and words[3] in DIMENSIONS
+        self.need(is_over or len(words) == 7, "rebound")
+        reach = {"over": words[3]} if is_over else {"bound": self.numbers("rebound", words[2:])}
+        self.made.entries[-1].rebounds.append({"contract": self.principal(words[0]), "function": words[1]} | reach)
 
 
 def read(path):

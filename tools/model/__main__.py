@@ -4,10 +4,10 @@ usage: python3 tools/model answer WORDS..     answers as ./clarity WORDS.. does
        python3 tools/model compare [THEME ..] says which cases of crates/cases/data it answers otherwise than they want
        python3 tools/model add THEME FILE     adds the cases of FILE to a theme of crates/cases/data, or makes it
 
-FILE is a theme whose cases have a name, words and files. `add` writes what the model answers into those that leave out
-`status` and `output`, refuses one that wants something else, and counts the cases. A case may have a member more, `says`: a part
-of the output, worked out by hand, without which it is refused. The model knows both versions of the language and every command,
-but nothing of failing writes.
+FILE is a theme whose cases have a name, words and files. `add` writes what the model answers into those that leave out `status`
+and `output`, refuses one that wants something else, and counts the cases. A case may have a member more, `says`: a part of the
+output, worked out by hand, without which it is refused. The model knows both versions of the language and of the transaction
+file, and every command, but nothing of failing writes.
 
 The status of `answer` is that of the command; that of `compare` and `add` is 0, or 1 where a case differs or can't be added; it is 2
 where the words aren't as above, and 1 where a file can't be read.

@@ -55,10 +55,15 @@ def defined_size(form, code):
     return 17 if form.kind == "ft" and code is not None else 0
 
 
+def first_over(bound):
+    """The first dimension in which a bound is too large, or None."""
+    return next((dimension for dimension, number in zip(DIMENSIONS, bound) if number > GREATEST), None)
+
+
 def within(bound, start, end):
-    for dimension, number in zip(DIMENSIONS, bound):
-        if number > GREATEST:
-            raise Break("B1 BoundTooLarge", start, end, f" {dimension}")
+    dimension = first_over(bound)
+    if dimension is not None:
+        raise Break("B1 BoundTooLarge", start, end, f" {dimension}")
     return bound
 
 

@@ -141,7 +141,7 @@ def filled(theme, case):
     written = "".join(line + "\n" for line in given.lines)
     if says not in written:
         raise Unfit(f"{case['name']}: it says nothing of {says!r}, but {written}")
-    if {**theme, **case}.get("status") != given.status:
+    if "status" not in case and theme.get("status") != given.status:
         case["status"] = given.status
     if theme.get("output") != given.lines:
         case.setdefault("output", given.lines)
@@ -158,7 +158,7 @@ def shown(value):
 def write_case(case):
     members = []
     for name, value in case.items():
-        if name == "output" and len(value) > 1:
+        if name == "output" and isinstance(value, list) and len(value) > 1:
             members.append('      "output": [\n' + ",\n".join(f"        {shown(line)}" for line in value) + "\n      ]")
         else:
             members.append(f"      {shown(name)}: {shown(value)}")

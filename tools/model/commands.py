@@ -4,14 +4,16 @@ import re
 
 from addresses import is_contract_name, read_address, write_principal
 from checking import check
-from costs import BadCosts, read_costs, unit_table
-from evaluation import state_lines
+from costs import BadCosts, Schedule, read_costs, unit_table
 from node import Node, bound_lines, event_lines, lines
+from rows import leaves_of, led_to, path_of, root, rows_of, state_lines
 from texts import Break
 from transactions import BadFile, read_transactions
 from values import Refused, decode, parse, wire, write_value
 
 LONGEST_FILE = 16 << 20
+MOST_SIDES = 64
+LONGEST_KEY_WORD = 1 << 33
 DEPLOYER = (22, bytes(20), None)
 HOLDER = "SP2J6ZY48GV1EZ5V2V5RB9MP66SW86PYKKNRV9EJ7"
 TOKEN = pathlib.Path(__file__).resolve().parents[2] / "crates" / "cases" / "data" / "token.clar"
@@ -61,8 +63,13 @@ def split(words):
     return flags, [word for word in words[:end] if word not in flags] + words[end + 1 :]
 
 
+def number(digits):
+    """Python reads no number of more than some thousand digits, zeros in front among them."""
+    return int(digits.lstrip("0") or "0")
+
+
 def is_number(word, above):
-    return re.fullmatch("[0-9]+", word, re.ASCII) is not None and int(word) < above
+    return re.fullmatch("0*[0-9]{1,20}", word, re.ASCII) is not None and number(word) < above
 
 
 def contract_of(path):
@@ -80,6 +87,9 @@ def are_taken(command, words):
         "value": lambda: len(words) == 1,
         "wire": lambda: len(words) == 1,
         "gen": lambda: len(words) == 2 and is_number(words[0], 1 << 64) and is_number(words[1], 100000),
+        "root": lambda: len(words) == 2,
+        "prove": lambda: len(words) == 3 and is_number(words[2], 1 << 32),
+        "verify": lambda: 3 <= len(words) <= 3 + MOST_SIDES and len(words[1].encode(errors="surrogateescape")) < LONGEST_KEY_WORD,
     }.get(command, lambda: False)()
 
 
@@ -107,15 +117,54 @@ def version_of(flags):
     return 2 if "--clarity2" in flags else 1
 
 
-def run(files, flags, heard, costs, file):
+def entries_done(files, heard, costs, file):
+    """The state after the entries of a transaction file, and the lines of their report."""
     table = files.read_as(costs, read_costs)
-    holders, entries = files.read_as(file, read_transactions)
-    node, written = Node(table, holders), []
-    for number, entry in enumerate(entries):
+    transactions = files.read_as(file, read_transactions)
+    node, written = Node(Schedule(table, transactions.epochs), transactions.holders), []
+    for place, entry in enumerate(transactions.entries):
         head, result = node.step(entry)
         heard.append(event_lines(result.events))
-        written += lines(number, head, result)
-    return 0, written + (state_lines(node.state) if "--state" in flags else [])
+        written += lines(place, head, result)
+    return node.state, written
+
+
+def run(files, flags, heard, costs, file):
+    state, written = entries_done(files, heard, costs, file)
+    return 0, written + (state_lines(state) if "--state" in flags else [])
+
+
+def shown(data):
+    return "0x" + data.hex()
+
+
+def state_root(files, flags, heard, costs, file):
+    state, _ = entries_done(files, [], costs, file)
+    return 0, [f"root {shown(root(leaves_of(state)))}"]
+
+
+def prove(files, flags, heard, costs, file, place):
+    state, _ = entries_done(files, [], costs, file)
+    leaves = leaves_of(state)
+    written = [f"root {shown(root(leaves))}"]
+    rows = sorted((row.line().encode(), *row.leaf()) for row in rows_of(state))
+    if number(place) >= len(rows):
+        return 8, written + ["refused NoRow"]
+    _, key, value = rows[number(place)]
+    sides = path_of(leaves, leaves.index((key, value)))
+    names = {"L": "left", "R": "right"}
+    return 0, written + [f"row {shown(key)} {shown(value)}"] + [f"{names[letter]} {shown(other)}" for letter, other in sides]
+
+
+def verify(files, flags, heard, root, key, value, *sides):
+    words = [root, key, value, *(side[1:] for side in sides)]
+    if not all(re.fullmatch("([0-9a-fA-F]{2})*", word) for word in words) or not all(side[:1] in ("L", "R") for side in sides):
+        return 8, ["refused NotHex"]
+    root, key, value, *others = map(bytes.fromhex, words)
+    if any(len(digest) != 32 for digest in [root, *others]):
+        return 8, ["refused NotHex"]
+    reached = led_to(key, value, [(side[0], other) for side, other in zip(sides, others)])
+    return (0, ["yes"]) if reached == root else (6, ["no"])
 
 
 def call(files, flags, heard, file, function, *arguments):
@@ -123,7 +172,7 @@ def call(files, flags, heard, file, function, *arguments):
         values = [parse(argument.encode()) for argument in arguments]
     except Refused as error:
         return 8, [f"refused {error}"]
-    node = Node(unit_table())
+    node = Node(Schedule(unit_table()))
     deployed = node.deploy(DEPLOYER, "main", files.read(file), version_of(flags))
     main = (*DEPLOYER[:2], "main")
     written = lines(0, f"deploy '{write_principal(main)}", deployed)
@@ -169,10 +218,10 @@ def wire_form(files, flags, heard, word):
 
 def generated(files, flags, heard, seed, count):
     """The summary of the calls of a token that are drawn by a seed."""
-    node, drawn = Node(unit_table()), int(seed)
+    node, drawn = Node(Schedule(unit_table())), number(seed)
     token, holder = (*DEPLOYER[:2], "token"), (*read_address(HOLDER), None)
     results = [node.deploy(DEPLOYER, "token", TOKEN.read_bytes())]
-    for _ in range(int(count)):
+    for _ in range(number(count)):
         drawn = (drawn * 6364136223846793005 + 1442695040888963407) % (1 << 64)
         draw = drawn >> 33
         amount = ("uint", draw % 1000)
@@ -185,7 +234,17 @@ def generated(files, flags, heard, seed, count):
     coin = (token, "coin")
     supply, held = node.state.supplies[coin], node.state.balances[coin].get(holder, 0)
     runtime = sum(result.cost[0] for result in results)
-    return 0, [f"calls {int(count)} ok {goods} err {bads} supply u{supply} p1 u{held} runtime {runtime}"]
+    return 0, [f"calls {number(count)} ok {goods} err {bads} supply u{supply} p1 u{held} runtime {runtime}"]
 
 
-COMMANDS = {"run": run, "call": call, "check": check_sources, "value": value, "wire": wire_form, "gen": generated}
+COMMANDS = {
+    "run": run,
+    "call": call,
+    "check": check_sources,
+    "value": value,
+    "wire": wire_form,
+    "gen": generated,
+    "root": state_root,
+    "prove": prove,
+    "verify": verify,
+}

@@ -1,4 +1,7 @@
-"""Costs in five dimensions (SIP-006), the cost file, and the unit table. A cost is a list of five numbers."""
+"""Costs in five dimensions (SIP-006), the cost file, the unit table, and tables that change at stated heights.
+
+A cost is a list of five numbers.
+"""
 import strict_json
 from strict_json import NotJson, is_whole
 
@@ -53,9 +56,15 @@ def read_function(name, member):
 def read_costs(data):
     """The table of a cost file; raises BadCosts with its first fault."""
     try:
-        members = strict_json.parse_object(data)
+        return table_of(strict_json.parse_object(data))
     except NotJson:
         raise BadCosts("NotJson") from None
+
+
+def table_of(members):
+    """The table of the object of a cost file; raises BadCosts with its first fault."""
+    if not isinstance(members, dict):
+        raise BadCosts("NotJson")
     unknown = strict_json.least_unknown(members, NAMES)
     if unknown is not None:
         raise BadCosts(f"Unknown {unknown}")
@@ -65,6 +74,21 @@ def read_costs(data):
             raise BadCosts(f"Missing {name}")
         table[name] = read_function(name, members[name])
     return table
+
+
+class Schedule:
+    """A table, and epochs: those that take its place, each with the height at which it begins, rising."""
+
+    def __init__(self, first, epochs=()):
+        self.first, self.epochs = first, list(epochs)
+
+    def epoch(self, height):
+        """How many epochs begin at this height or below."""
+        return sum(start <= height for start, _ in self.epochs)
+
+    def at(self, height):
+        number = self.epoch(height)
+        return self.epochs[number - 1][1] if number else self.first
 
 
 def shape_at(shape, number):

@@ -1,5 +1,4 @@
 """Evaluating an expression: its value, what it changes in the state, its events, and what it is charged."""
-from addresses import write_principal
 from checking import called_contract
 from costs import DIMENSIONS, NOTHING, charge, plus
 from natives import Abort, charged_at, entries_of, joined, native, value_of
@@ -351,18 +350,3 @@ def define(state, contract, form, value):
         state.balances[place] = {}
     elif form.kind == "nft":
         state.owners[place] = {}
-
-
-def state_lines(state):
-    """The lines of the state, in rising bytewise order."""
-    name = lambda principal: "'" + write_principal(principal)
-    lines = [f"var {name(at)} {word} {write_value(value)}" for (at, word), value in state.variables.items()]
-    for ((at, word), key), value in state.entries.items():
-        lines.append(f"map {name(at)} {word} {write_value(key)} {write_value(value)}")
-    lines += [f"supply {name(at)} {word} u{supply}" for (at, word), supply in state.supplies.items()]
-    for (at, word), ledger in state.balances.items():
-        lines += [f"ft {name(at)} {word} {name(who)} u{amount}" for who, amount in ledger.items()]
-    for (at, word), owners in state.owners.items():
-        lines += [f"nft {name(at)} {word} {write_value(asset)} {name(owner)}" for asset, owner in owners.items()]
-    lines += [f"stx {name(who)} u{amount}" for who, amount in state.stx.items()]
-    return sorted(lines, key=str.encode)

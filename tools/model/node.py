@@ -1,6 +1,6 @@
 """A node: what each entry makes of it, and the lines of the report."""
 from addresses import write_principal
-from bounds import bounds_of
+from bounds import Bounds, bounds_of, first_over
 from checking import check
 from evaluation import CostLimit, Evaluator, Frame, Meter, State, deploy
 from kinds import write_type
@@ -19,7 +19,7 @@ class Refused(Exception):
 
 
 class Result:
-    """The result of an entry: the outcome as it is printed, its cost, the lines of its bounds, and its events."""
+    """The result of an entry: the outcome as it is printed, its cost, the lines of bounds, and its events."""
 
     def __init__(self, outcome, cost=None, bounds=(), events=()):
         self.outcome, self.cost, self.bounds, self.events = outcome, cost, bounds, events
@@ -39,14 +39,39 @@ def bound_lines(checked, table):
     return lines
 
 
+def rebound_lines(checked, bounds):
+    """The lines of the bounds of a deployed contract's functions under a table that begins."""
+    lines = []
+    for form in checked.forms:
+        if form.kind == "function":
+            function = checked.functions[form.name]
+            bound = bounds.function(function)
+            over = first_over(bound)
+            reach = f"{numbers(bound)} {write_type(function.returns)}" if over is None else f"over {over}"
+            lines.append(f"rebound '{write_principal(checked.principal)} {form.name} {reach}")
+    return lines
+
+
 class Node:
-    def __init__(self, table, holders=None):
-        self.table, self.contracts, self.state, self.height = table, {}, State(), 0
+    def __init__(self, schedule, holders=None):
+        self.schedule, self.contracts, self.state, self.height = schedule, {}, State(), 0
+        self.bounds = Bounds(self.table())
         self.state.stx = {who: amount for who, amount in (holders or {}).items() if amount}
+
+    def table(self):
+        return self.schedule.at(self.height)
+
+    def begin(self, height):
+        """Begins a block; where the epoch changes, the result has the bounds of all deployed functions."""
+        before, self.height = self.schedule.epoch(self.height), height
+        if self.schedule.epoch(height) == before:
+            return Result(None)
+        self.bounds = Bounds(self.table())
+        return Result(None, bounds=[line for checked in self.contracts.values() for line in rebound_lines(checked, self.bounds)])
 
     def attempt(self, entry, act, bounds=()):
         """Evaluates an entry on a copy of the state, and keeps the copy unless it errs, aborts or fails a condition."""
-        meter = Meter(self.table, entry.limit())
+        meter = Meter(self.table(), entry.limit())
         evaluator = Evaluator(self.contracts, self.state.copy(), meter, self.height)
         try:
             outcome, is_kept = act(evaluator)
@@ -70,7 +95,7 @@ class Node:
             return Result("refused E6 NameTaken")
         try:
             checked = check(self.contracts, principal, source, version)
-            bounds = bound_lines(checked, self.table)
+            bounds = bound_lines(checked, self.table())
         except Break as error:
             return Result(f"refused E7 ContractRefused {error.text()}")
 
@@ -110,14 +135,16 @@ class Node:
         for place, ((_, kind), value) in enumerate(zip(called.parameters, values)):
             if not inhabits(value, kind):
                 raise Refused(f"E5 Argument {place}")
+        over = first_over(self.bounds.function(called))
+        if over is not None:
+            raise Refused(f"E8 NoBound {over}")
         return called
 
     def step(self, entry):
         """The head of an entry's line, and its result."""
         members = entry.members
         if entry.kind == "block":
-            self.height = members["height"]
-            return f"block {self.height}", Result(None)
+            return f"block {members['height']}", self.begin(members["height"])
         if entry.kind == "deploy":
             sender, name = members["sender"], members["name"]
             head = f"deploy '{write_principal((*sender[:2], name))}"

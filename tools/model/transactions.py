@@ -1,15 +1,16 @@
-"""The transaction file: its entries, or its first fault."""
+"""The transaction file, of versions 1 and 2: what is in it, or its first fault."""
 from dataclasses import dataclass
 
 import strict_json
 from addresses import is_contract_name, read_principal
-from costs import GREATEST
+from costs import GREATEST, BadCosts, table_of
 from strict_json import NotJson, is_whole
 from texts import NAME
 from values import Refused, parse
 
 NO_LIMIT = [(1 << 64) - 1] * 5
 MOST_ENTRIES = 100000
+MOST_EPOCHS = 64
 
 
 class BadFile(Exception):
@@ -36,6 +37,15 @@ class Condition:
     principal: tuple
     asset: tuple
     holds: object
+
+
+@dataclass
+class Transactions:
+    """A file: the holders of STX with their amounts, the epochs with their heights, and the entries."""
+
+    holders: dict
+    epochs: list
+    entries: list
 
 
 # ---- members
@@ -129,7 +139,17 @@ def truth(value):
     return value
 
 
-TOP = [("version", whole_number, True), ("genesis", array, True), ("entries", array, True)]
+def table(value):
+    try:
+        return table_of(value)
+    except BadCosts:
+        raise NotSo from None
+
+
+TOP = {
+    1: [("version", whole_number, True), ("genesis", array, True), ("entries", array, True)],
+    2: [("version", whole_number, True), ("genesis", array, True), ("epochs", array, True), ("entries", array, True)],
+}
 HOLDER = [("principal", principal_of, True), ("stx", amount, True)]
 COMMON = [("limit", five_numbers, False), ("mode", one_of("allow", "deny"), False), ("post", None, False)]
 ENTRIES = {
@@ -223,25 +243,45 @@ def read_holders(value):
     return holders
 
 
-def read_transactions(data):
-    """The holders of STX and the entries; raises BadFile with the first fault."""
-    try:
-        value = strict_json.parse_object(data)
-    except NotJson:
-        raise BadFile("NotJson") from None
-    version = value.get("version")
-    if not is_whole(version) or version != 1:
-        raise BadFile("Version")
-    read = read_members(value, TOP, "")
-    holders = read_holders(read["genesis"])
-    if len(read["entries"]) > MOST_ENTRIES:
+def read_epochs(value):
+    if len(value) > MOST_EPOCHS:
+        raise BadFile("BadValue /epochs")
+    epochs = [(0, None)]
+    for place, epoch in enumerate(value):
+        def higher(number):
+            if whole_number(number) <= epochs[-1][0]:
+                raise NotSo
+            return number
+
+        read = read_members(epoch, [("height", higher, True), ("costs", table, True)], f"/epochs/{place}")
+        epochs.append((read["height"], read["costs"]))
+    return epochs[1:]
+
+
+def read_entries(value):
+    if len(value) > MOST_ENTRIES:
         raise BadFile("TooMany")
     entries, height = [], 0
-    for place, member in enumerate(read["entries"]):
+    for place, member in enumerate(value):
         entry = read_entry(member, place)
         if entry.kind == "block":
             if entry.members["height"] < height:
                 raise BadFile(f"HeightFalls /entries/{place}/block/height")
             height = entry.members["height"]
         entries.append(entry)
-    return holders, entries
+    return entries
+
+
+def read_transactions(data):
+    """What is in a transaction file; raises BadFile with its first fault."""
+    try:
+        value = strict_json.parse_object(data)
+    except NotJson:
+        raise BadFile("NotJson") from None
+    version = value.get("version")
+    if not is_whole(version) or version not in TOP:
+        raise BadFile("Version")
+    read = read_members(value, TOP[version], "")
+    holders = read_holders(read["genesis"])
+    epochs = read_epochs(read.get("epochs", []))
+    return Transactions(holders, epochs, read_entries(read["entries"]))

@@ -3,7 +3,13 @@
 #![tactic(auto)]
 
 #[cfg(test)]
+mod bounds;
+#[cfg(test)]
 mod files;
+#[cfg(test)]
+mod grafts;
+#[cfg(test)]
+mod lanes;
 #[cfg(test)]
 mod layers;
 #[cfg(test)]
@@ -12,6 +18,8 @@ mod ledgers;
 mod listeners;
 #[cfg(test)]
 mod natives;
+#[cfg(test)]
+mod nodes;
 #[cfg(test)]
 mod orders;
 #[cfg(test)]

@@ -14,7 +14,7 @@ use std::alloc::Global;
 use std::test::Fail;
 
 // a contract that is paid
-fn payee() -> Option<Principal> {
+pub(crate) fn payee() -> Option<Principal> {
     let address = Address::new(22, &[7; 20]);
     let contract = ContractName::make(b"main")?;
     Some(Principal {
@@ -23,8 +23,15 @@ fn payee() -> Option<Principal> {
     })
 }
 
+// a holder who pays it
+pub(crate) fn payer() -> Principal {
+    let address = Address::new(22, &[1; 20]);
+    let contract = None;
+    Principal { address, contract }
+}
+
 // A world with holders, of whom one is there twice.
-fn genesis(alloc: Global) -> Result<World, Fail> {
+pub(crate) fn genesis(alloc: Global) -> Result<World, Fail> {
     let mut holders = Vec::new(alloc);
     for (version, amount) in [(22, 1_000), (26, 0), (26, u128::MAX - 1_000)] {
         let address = Address::new(version, &[1; 20]);
@@ -38,7 +45,7 @@ fn has_told_nothing(world: &World) -> bool {
     world.layers() == 0 && world.events().is_empty() && world.moves().is_empty()
 }
 
-fn stx_sent(amount: u128, from: &Principal, to: &Principal) -> TokenAct
+pub(crate) fn stx_sent(amount: u128, from: &Principal, to: &Principal) -> TokenAct
     ensures { (s : State) → is_there result.contract result.kind s ≡ true }
 {
     TokenAct {
@@ -53,9 +60,7 @@ fn stx_sent(amount: u128, from: &Principal, to: &Principal) -> TokenAct
 
 // Pays 300 of the 1,000 that a holder has, in a layer that has room, and then one more than are left.
 fn pays(world: &mut World, payee: &Principal) -> Result<bool, Fail> {
-    let address = Address::new(22, &[1; 20]);
-    let contract = None;
-    let payer = Principal { address, contract };
+    let payer = payer();
     world.reserve_layer()?;
     world.push_layer()?;
     acts_have_answers();
