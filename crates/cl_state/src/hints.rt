@@ -18,8 +18,11 @@ impl Stored for Number {
     }
 }
 
-/// The first notes of a world are found under no place: few entries make more, and those pay for no table.
-const FIRST: usize = 16;
+/// Places have numbers once there are more notes than this, or once the notes that were added keep more bytes than `SMALL`: few
+/// entries do either, and the others pay for no table.
+const FEW: usize = 1024;
+
+const SMALL: usize = 4 * 1024 * 1024;
 
 /// For each place the number of its last note, and for each note that of the one before on its place. They only say where to look:
 /// whether that note is on the place is read off the note. A hint may be missing: of the first notes, and where there was no memory.
@@ -27,6 +30,10 @@ pub(crate) struct Hints {
     alloc: Global,
     last: Table<Number>,
     earlier: Vec<usize>,
+    /// Whether places have numbers.
+    numbered: bool,
+    /// The bytes that the notes added since the last `clear` keep.
+    bytes: usize,
 }
 
 impl Drop for Hints {
@@ -35,6 +42,8 @@ impl Drop for Hints {
             alloc: _,
             last,
             earlier,
+            numbered: _,
+            bytes: _,
         } = self;
         drop(last);
         drop(earlier);
@@ -47,17 +56,14 @@ impl Hints {
             alloc,
             last: Table::new(alloc),
             earlier: Vec::new(alloc),
+            numbered: false,
+            bytes: 0,
         }
-    }
-
-    /// Whether no place has a number.
-    fn has_none(&self) -> bool {
-        self.earlier.len() <= FIRST
     }
 
     /// The number of the last note that may be on the place of this one; 0 where none is.
     pub(crate) fn last(&self, note: &Note) -> usize {
-        if self.has_none() {
+        if !self.numbered {
             return 0;
         }
         let Some(key) = note.key() else {
@@ -79,7 +85,7 @@ impl Hints {
 
     // of a place that has had a number
     fn set(&mut self, note: &Note, number: usize) {
-        if self.has_none() {
+        if !self.numbered {
             return;
         }
         let Some(key) = note.key() else {
@@ -106,7 +112,9 @@ impl Hints {
             Ok(()) => {}
             Err(_) => return,
         }
-        if index < FIRST {
+        self.bytes = self.bytes.saturating_add(note.size());
+        self.numbered = self.numbered || index >= FEW || self.bytes > SMALL;
+        if !self.numbered {
             return;
         }
         if let Some(key) = note.key() {
@@ -144,6 +152,8 @@ impl Hints {
     /// Sees that no note is found. Takes no memory.
     pub(crate) fn clear(&mut self) {
         self.earlier.clear();
+        self.numbered = false;
+        self.bytes = 0;
         self.last = Table::new(self.alloc);
     }
 }

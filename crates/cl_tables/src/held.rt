@@ -43,6 +43,11 @@ impl HeldValue {
     {
         self.value
     }
+
+    /// The bytes of the value's wire form.
+    pub(crate) fn size(&self) -> usize {
+        self.value.size() as usize
+    }
 }
 
 impl Stored for HeldValue {

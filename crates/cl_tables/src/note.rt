@@ -19,6 +19,14 @@ pub enum Note {
     NonFungibleDefined,
 }
 
+fn bytes_of_write(key: &Key, before: &Option<HeldValue>) -> usize {
+    let bytes = key.bytes().len();
+    match before {
+        Some(value) => bytes.saturating_add(value.size()),
+        None => bytes,
+    }
+}
+
 fn is_key(a: &Key, b: &Key) -> bool
     ensures { result ≡ is_key a.now b.now }
 {
@@ -32,6 +40,15 @@ impl Note {
             Note::Variable(key, _) => Some(key),
             Note::Entry(key, _) => Some(key),
             _ => None,
+        }
+    }
+
+    /// Of a write, the bytes of its key and of the wire form of the value that it replaced; else 0.
+    pub fn size(&self) -> usize {
+        match self {
+            Note::Variable(key, before) => bytes_of_write(key, before),
+            Note::Entry(key, before) => bytes_of_write(key, before),
+            _ => 0,
         }
     }
 
