@@ -17,12 +17,12 @@ use Rattle.cl_lanes.specs.Progress.{first_seen, IsProgressOf, MakesMove, MakesMo
 
 -- ---- one more move
 
-all_then : (schedule : ScheduleSeen) (entries : List Entry) (moves : List Move) (P M Q : ProgressSeen) (move : Move) → AllMove schedule entries P moves M → Moves schedule entries M move Q → AllMove schedule entries P (moves ++ move ∷ []) Q
+pub all_then : (schedule : ScheduleSeen) (entries : List Entry) (moves : List Move) (P M Q : ProgressSeen) (move : Move) → AllMove schedule entries P moves M → Moves schedule entries M move Q → AllMove schedule entries P (moves ++ move ∷ []) Q
 all_then schedule entries [] P M Q move is step = (Q, subst (λ (M : ProgressSeen). Moves schedule entries M move Q) is step, refl)
 all_then schedule entries (m ∷ ms) P M Q move (N, first, rest) step = (N, first, all_then schedule entries ms N M Q move rest step)
 
 -- a move raises one number at most, by one
-one_counted : (schedule : ScheduleSeen) (entries : List Entry) (P Q : ProgressSeen) (move : Move) → Moves schedule entries P move Q → Q.redone + Q.skipped ≤ P.redone + P.skipped + 1
+pub one_counted : (schedule : ScheduleSeen) (entries : List Entry) (P Q : ProgressSeen) (move : Move) → Moves schedule entries P move Q → Q.redone + Q.skipped ≤ P.redone + P.skipped + 1
 one_counted schedule entries P Q move (runs lane ahead before e trial touched written held there foot step) = omega arith
 one_counted schedule entries P Q move (commits lane h held next good) = omega arith
 one_counted schedule entries P Q move (redoes lane h held next bad) = omega arith

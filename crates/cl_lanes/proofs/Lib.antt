@@ -1,8 +1,9 @@
 mod Committed
 mod LanesRun
 mod OneMove
-mod InTurn
+mod TurnLaws
 mod Sparing
 mod Made
 mod LanesKept
 mod AllMade
+mod DoneInTurn

@@ -5,3 +5,4 @@ pub mod Held
 pub mod Ready
 pub mod Progress
 pub mod Committing
+pub mod InTurn

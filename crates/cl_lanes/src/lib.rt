@@ -4,6 +4,7 @@
 mod all_moves;
 mod committing;
 mod held;
+mod in_turn;
 mod laws;
 mod moves;
 mod next;
@@ -14,6 +15,7 @@ mod spots;
 
 pub use all_moves::lanes;
 pub use held::Held;
+pub use in_turn::run_in_lanes;
 pub use laws::{entries_are_done_in_turn, lanes_run_the_entries};
 pub use moves::Move;
 pub use progress::Progress;

@@ -38,12 +38,21 @@ impl Draws {
         Draws { number: seed }
     }
 
+    /// The next draw: the upper 31 bits of the sequence's next number.
+    pub fn next_draw(&mut self) -> u64
+        ensures number { self.new ≡ next_number self.old }
+        ensures draw { result ≡ drawn self.new }
+    {
+        self.number = next_number(self.number);
+        self.number / 8_589_934_592
+    }
+
     /// The next call.
     pub fn next_call(&mut self, alloc: Global) -> Result<Entry, NoMemory>
         ensures number { self.new ≡ next_number self.old }
         ensures call { IfOk result (λ entry. entry ≡ call_for (drawn self.new)) }
     {
-        self.number = next_number(self.number);
-        call_for(alloc, self.number / 8_589_934_592)
+        let draw = self.next_draw();
+        call_for(alloc, draw)
     }
 }
