@@ -1,0 +1,4 @@
+pub mod Auditing
+pub mod Follows
+pub mod Compared
+pub mod Telling

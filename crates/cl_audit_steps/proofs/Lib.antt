@@ -1,0 +1,10 @@
+pub mod FormLaws
+pub mod ItemLaws
+pub mod ValueLaws
+pub mod WordLengths
+pub mod NameLaws
+pub mod LeafLaws
+pub mod StartLaws
+pub mod DataLaws
+pub mod TokenLaws
+pub mod SequenceLaws

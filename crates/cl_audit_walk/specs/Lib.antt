@@ -1,0 +1,4 @@
+pub mod Looking
+pub mod Evaluates
+pub mod Calls
+pub mod Turns

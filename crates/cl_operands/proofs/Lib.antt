@@ -1,0 +1,5 @@
+mod ActLaws
+mod KeyLaws
+mod PrincipalLaws
+pub mod RowLaws
+pub mod SieveLaws
