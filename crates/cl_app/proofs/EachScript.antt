@@ -43,7 +43,7 @@ use Rattle.cl_root.specs.HashTree.{IsRoot}
 use Rattle.cl_results.specs.Laws.{EachRuns, TextsHaveValues, FilesHaveParts, EachHasText, EachHasRoot, EachLineHasRow}
 use Rattle.cl_words.specs.declared.sources.Source.{Source}
 use Rattle.cl_words.specs.Seen.{text_in as source_text}
-use Rattle.cl_words.specs.Words.{Command, Call, Run, Check, Value, Wire, Gen, Root, Prove, Verify}
+use Rattle.cl_words.specs.Words.{Command, Call, Run, Check, Value, Wire, Gen, Trace, Root, Prove, Verify}
 use Rattle.cl_words.specs.Argument.{Arguments, before, Spell}
 use Rattle.cl_entries.specs.declared.status.Reply.{Reply}
 use Rattle.cl_entries.specs.declared.status.Step.{Step}
@@ -51,8 +51,9 @@ use Rattle.cl_entries.specs.declared.status.Stop.TheVariants.{ReadFailed}
 use Rattle.cl_entries.specs.declared.status.Status.TheVariants.{Done, BadWord}
 use Rattle.cl_entries.specs.Scripts.{Script, script_of}
 use Rattle.cl_entries.specs.Entries.{AreStateSteps, IsRun, RunsAreSound, steps_from}
+use Rattle.cl_traces.specs.Traces.{EachHasTraceScript}
 use Rattle.cl_replies.specs.declared.inputs.FileFault.TheVariants.{Transactions}
-use Rattle.cl_replies.specs.Inputs.{Inputs, NoCommand, MissingFile, BadFile, BadArgument, CallInputs, RunInputs, CheckInputs, ValueInputs, WireInputs, GenInputs, RootInputs, ProveInputs, VerifyInputs, bad_file_reply}
+use Rattle.cl_replies.specs.Inputs.{Inputs, NoCommand, MissingFile, BadFile, BadArgument, CallInputs, RunInputs, CheckInputs, ValueInputs, WireInputs, GenInputs, TraceInputs, RootInputs, ProveInputs, VerifyInputs, bad_file_reply}
 use Rattle.cl_replies.specs.Spelling.{no_value_reply, value_reply, wire_reply, verify_reply}
 use Rattle.cl_replies.specs.Checked.{IsReport, accepted_reply, refused_source_reply, source_at, all_checked}
 use Rattle.cl_replies.specs.Reports.{home, deployment, call, called_reply, file_of, IsCalled, IsGenerated, HasRoot, IsRootReply, IsProved, no_row, proved, IsProveReply, IsScript, root_line, row_text, side_line, usage_reply}
@@ -68,6 +69,7 @@ pub record SomethingOfEach : Type 0 where
   pub source : EachHasAnswer
   pub runs : EachRuns
   pub sound : RunsAreSound
+  pub traces : EachHasTraceScript
   pub ends : RunsEndSound
   pub text : EachHasText
   pub root : EachHasRoot
@@ -79,6 +81,7 @@ pub record SomethingOfEach : Type 0 where
 abbrev InputsHaveParts : Inputs → Type 0
 InputsHaveParts (CallInputs source function args) = All IsVal args
 InputsHaveParts (RunInputs table file state) = FileHasParts file
+InputsHaveParts (TraceInputs table file) = FileHasParts file
 InputsHaveParts (RootInputs table file) = FileHasParts file
 InputsHaveParts (ProveInputs table file number) = FileHasParts file
 InputsHaveParts inputs = Unit {0}
@@ -221,6 +224,7 @@ module _ (each : SomethingOfEach) where
   command_found (Some (Value word)) files = ends_found (ValueInputs word) tt
   command_found (Some (Wire word)) files = ends_found (WireInputs word) tt
   command_found (Some (Gen seed count)) files = ends_found (GenInputs seed count) tt
+  command_found (Some (Trace costs file)) files = entries_found files costs file TraceInputs (λ table f parts. parts)
   command_found (Some (Root costs file)) files = entries_found files costs file RootInputs (λ table f parts. parts)
   command_found (Some (Prove costs file number)) files = entries_found files costs file (λ table f. ProveInputs table f number) (λ table f parts. parts)
   command_found (Some (Verify root key value sides)) files = ends_found (VerifyInputs root key value sides) tt
@@ -369,6 +373,7 @@ module _ (each : SomethingOfEach) where
   script_there (ValueInputs word) parts = (script_of (value_reply word), (value_reply word, refl, refl))
   script_there (WireInputs word) parts = let o = each.outcome word in (script_of (wire_reply o.0), (wire_reply o.0, (o.0, o.1, refl), refl))
   script_there (GenInputs seed count) parts = let r = generated_there seed count in (script_of r.0, (r.0, r.1, refl))
+  script_there (TraceInputs table file) parts = each.traces table file parts
   script_there (RootInputs table file) parts = let r = root_reply_there table file parts in (script_of r.0, (r.0, r.1, refl))
   script_there (ProveInputs table file number) parts = let r = prove_reply_there table file number parts in (script_of r.0, (r.0, r.1, refl))
   script_there (VerifyInputs root key value sides) parts = (script_of (verify_reply root key value sides), (verify_reply root key value sides, refl, refl))

@@ -15,7 +15,7 @@ use Rattle.cl_rules.specs.Context.{CostTable, Known}
 use Rattle.cl_rules.specs.Acceptance.{known_of}
 use Rattle.cl_words.specs.Argument.{Arguments}
 use Rattle.cl_words.specs.declared.sources.Source.{Source}
-use Rattle.cl_words.specs.Words.{Command, Call, Run, Check, Value, Wire, Gen, Root, Prove, Verify}
+use Rattle.cl_words.specs.Words.{Command, Call, Run, Check, Value, Wire, Gen, Trace, Root, Prove, Verify}
 use Rattle.cl_entries.specs.declared.entries.End.{End}
 use Rattle.cl_entries.specs.declared.entries.End.TheVariants.{Good, Bad, Aborted, Refused as RefusedEntry}
 use Rattle.cl_entries.specs.declared.status.Reply.{Reply}
@@ -113,6 +113,8 @@ command_ends (Some (Value word)) inputs suits = subst (EndsBy (EndsWith (Some (V
 command_ends (Some (Wire word)) inputs suits =
     subst (EndsBy (EndsWith (Some (Wire word)))) (sym suits) (λ script is. of_reply (EndsWith (Some (Wire word))) is.0 script is.2 (is.1.0, is.1.1, ap (λ (r : Reply). r.status) is.1.2))
 command_ends (Some (Gen seed count)) inputs suits = subst (EndsBy (EndsWith (Some (Gen seed count)))) (sym suits) (λ script is. of_reply (EndsWith (Some (Gen seed count))) is.0 script is.2 (ap (λ (r : Reply). r.status) is.1.is))
+command_ends (Some (Trace costs file)) inputs (inl bad) = bad_file_ends (EndsWith (Some (Trace costs file))) (inr refl) inputs bad
+command_ends (Some (Trace costs file)) inputs (inr good) = subst (EndsBy (EndsWith (Some (Trace costs file)))) (sym good.2) (λ script is. (Done, ap (λ (s : Script). s.end) is.is, inl refl))
 command_ends (Some (Root costs file)) inputs (inl bad) = bad_file_ends (EndsWith (Some (Root costs file))) (inr refl) inputs bad
 command_ends (Some (Root costs file)) inputs (inr good) = subst (EndsBy (EndsWith (Some (Root costs file)))) (sym good.2) (λ script is. of_reply (EndsWith (Some (Root costs file))) is.0 script is.2 (inl (ap (λ (r : Reply). r.status) is.1.is)))
 command_ends (Some (Prove costs file number)) inputs (inl bad) = bad_file_ends (EndsWith (Some (Prove costs file number))) (inr (inl refl)) inputs bad
@@ -192,6 +194,7 @@ command_plain (Check costs address paths version) status ends = three_plain Done
 command_plain (Value word) status ends = ap is_usage ends ∙ hex_plain (decode_of (digits_in word))
 command_plain (Wire word) status ends = ap is_usage ends.2 ∙ wire_plain ends.0
 command_plain (Gen seed count) status ends = ap is_usage ends
+command_plain (Trace costs file) status ends = two_plain Done BadFileStatus status refl refl ends
 command_plain (Root costs file) status ends = two_plain Done BadFileStatus status refl refl ends
 command_plain (Prove costs file number) status ends = three_plain Done BadFileStatus BadWord status refl refl refl ends
 command_plain (Verify root key value sides) status ends = ap is_usage ends ∙ verdict_plain (verdict_on root key value sides)

@@ -22,12 +22,13 @@ use Rattle.cl_tx.specs.Laws.{OneRun}
 use Rattle.cl_tx.specs.Step.{told_of}
 use Rattle.cl_words.specs.declared.sources.Source.{Source}
 use Rattle.cl_words.specs.Seen.{text_in as source_text}
-use Rattle.cl_words.specs.Words.{Command, Call, Run, Check, Value, Wire, Gen, Root, Prove, Verify}
+use Rattle.cl_words.specs.Words.{Command, Call, Run, Check, Value, Wire, Gen, Trace, Root, Prove, Verify}
 use Rattle.cl_words.specs.Argument.{Arguments, before, from_word, Spell}
 use Rattle.cl_entries.specs.declared.status.Reply.{Reply}
 use Rattle.cl_entries.specs.Scripts.{Script, script_of}
 use Rattle.cl_entries.specs.Entries.{OneRunScript}
-use Rattle.cl_replies.specs.Inputs.{Inputs, NoCommand, MissingFile, BadFile, BadArgument, CallInputs, RunInputs, CheckInputs, ValueInputs, WireInputs, GenInputs, RootInputs, ProveInputs, VerifyInputs}
+use Rattle.cl_traces.specs.Traces.{OneTraceScript}
+use Rattle.cl_replies.specs.Inputs.{Inputs, NoCommand, MissingFile, BadFile, BadArgument, CallInputs, RunInputs, CheckInputs, ValueInputs, WireInputs, GenInputs, TraceInputs, RootInputs, ProveInputs, VerifyInputs}
 use Rattle.cl_replies.specs.Spelling.{wire_reply}
 use Rattle.cl_replies.specs.Reports.{IsCalled, IsReply, IsScript, IsWireReply, call, called_reply, deployment, file_of}
 use Rattle.cl_replies.specs.Checked.{IsReport, accepted_reply, refused_source_reply, source_at}
@@ -52,6 +53,7 @@ pub record OneOfEach : Type 0 where
   pub file : OneFile
   pub run : OneRun
   pub script : OneRunScript
+  pub traces : OneTraceScript
   pub sources : OneOfSources
   pub roots : OneOfRoots
 
@@ -100,6 +102,7 @@ reply_same laws (CheckInputs table sources) x y p q = report_same laws.sources (
 reply_same laws (ValueInputs word) x y p q = p ∙ sym q
 reply_same laws (WireInputs word) x y p q = wire_same laws.outcome word x y p q
 reply_same laws (GenInputs seed count) x y p q = generated_same laws.run seed count x y p q
+reply_same laws (TraceInputs table file) x y p q = absurd p
 reply_same laws (RootInputs table file) x y p q = root_same laws.run laws.roots table file x y p q
 reply_same laws (ProveInputs table file number) x y p q = proved_same laws.run laws.roots table file number x y p q
 reply_same laws (VerifyInputs root key value sides) x y p q = p ∙ sym q
@@ -124,6 +127,7 @@ script_same laws (CheckInputs table sources) a b p q = replied_same laws (CheckI
 script_same laws (ValueInputs word) a b p q = replied_same laws (ValueInputs word) a b p q
 script_same laws (WireInputs word) a b p q = replied_same laws (WireInputs word) a b p q
 script_same laws (GenInputs seed count) a b p q = replied_same laws (GenInputs seed count) a b p q
+script_same laws (TraceInputs table file) a b p q = laws.traces table file a b p q
 script_same laws (RootInputs table file) a b p q = replied_same laws (RootInputs table file) a b p q
 script_same laws (ProveInputs table file number) a b p q = replied_same laws (ProveInputs table file number) a b p q
 script_same laws (VerifyInputs root key value sides) a b p q = replied_same laws (VerifyInputs root key value sides) a b p q
@@ -192,6 +196,7 @@ read_same outcome once (Some (Check costs address paths version)) files =
 read_same outcome once (Some (Value word)) files = ends_same (ValueInputs word)
 read_same outcome once (Some (Wire word)) files = ends_same (WireInputs word)
 read_same outcome once (Some (Gen seed count)) files = ends_same (GenInputs seed count)
+read_same outcome once (Some (Trace costs file)) files = entries_same once files costs file TraceInputs
 read_same outcome once (Some (Root costs file)) files = entries_same once files costs file RootInputs
 read_same outcome once (Some (Prove costs file number)) files = entries_same once files costs file (λ table f. ProveInputs table f number)
 read_same outcome once (Some (Verify root key value sides)) files = ends_same (VerifyInputs root key value sides)

@@ -13,13 +13,13 @@ use Rattle.cl_file.specs.Paths.{Read}
 use Rattle.cl_file.specs.Files.{FileSeen, FileReads}
 use Rattle.cl_words.specs.declared.sources.Source.{Source}
 use Rattle.cl_words.specs.Argument.{Arguments, Spell}
-use Rattle.cl_words.specs.Words.{Command, are_short, Call, Run, Check, Value, Wire, Gen, Root, Prove, Verify}
+use Rattle.cl_words.specs.Words.{Command, are_short, Call, Run, Check, Value, Wire, Gen, Trace, Root, Prove, Verify}
 use Rattle.cl_app.specs.declared.files.BadFile.{BadFile as BadFileOfCode}
 use Rattle.cl_app.specs.declared.inputs.Purpose.{Purpose}
-use Rattle.cl_app.specs.declared.inputs.Purpose.TheVariants.{Report, StateRoot, Row}
+use Rattle.cl_app.specs.declared.inputs.Purpose.TheVariants.{Report, Values, StateRoot, Row}
 use Rattle.cl_replies.specs.declared.inputs.FileFault.{FileFault}
 use Rattle.cl_replies.specs.declared.inputs.FileFault.TheVariants.{TooLong, Costs, Transactions}
-use Rattle.cl_replies.specs.Inputs.{Inputs, NoCommand, MissingFile, BadFile, BadArgument, CallInputs, RunInputs, CheckInputs, ValueInputs, WireInputs, GenInputs, RootInputs, ProveInputs, VerifyInputs}
+use Rattle.cl_replies.specs.Inputs.{Inputs, NoCommand, MissingFile, BadFile, BadArgument, CallInputs, RunInputs, CheckInputs, ValueInputs, WireInputs, GenInputs, TraceInputs, RootInputs, ProveInputs, VerifyInputs}
 use Rattle.cl_replies.specs.Checked.{source_at}
 use Rattle.cl_replies.specs.Kept.{AreOfPaths}
 
@@ -108,6 +108,7 @@ CommandReads (Some (Check costs address paths version)) files =
 CommandReads (Some (Value word)) files = ends_with (ValueInputs word)
 CommandReads (Some (Wire word)) files = ends_with (WireInputs word)
 CommandReads (Some (Gen seed count)) files = ends_with (GenInputs seed count)
+CommandReads (Some (Trace costs file)) files = reads_entries files costs file TraceInputs
 CommandReads (Some (Root costs file)) files = reads_entries files costs file RootInputs
 CommandReads (Some (Prove costs file number)) files = reads_entries files costs file (λ table f. ProveInputs table f number)
 CommandReads (Some (Verify root key value sides)) files = ends_with (VerifyInputs root key value sides)
@@ -126,6 +127,7 @@ pub record AreTransactionsAt (held : Option Held) (name : List ℕ) (result : Re
 -- what the entries of a file are read for
 abbrev pub inputs_for : Purpose → List CostFn → FileSeen → Inputs
 inputs_for (Report state) table file = RunInputs table file state
+inputs_for Values table file = TraceInputs table file
 inputs_for StateRoot table file = RootInputs table file
 inputs_for (Row number) table file = ProveInputs table file number
 
@@ -163,6 +165,7 @@ Suits (Some (Check costs address paths version)) inputs = IsBadFile inputs ⊎ (
 Suits (Some (Value word)) inputs = inputs ≡ ValueInputs word
 Suits (Some (Wire word)) inputs = inputs ≡ WireInputs word
 Suits (Some (Gen seed count)) inputs = inputs ≡ GenInputs seed count
+Suits (Some (Trace costs file)) inputs = EntriesSuit TraceInputs inputs
 Suits (Some (Root costs file)) inputs = EntriesSuit RootInputs inputs
 Suits (Some (Prove costs file number)) inputs = EntriesSuit (λ table f. ProveInputs table f number) inputs
 Suits (Some (Verify root key value sides)) inputs = inputs ≡ VerifyInputs root key value sides

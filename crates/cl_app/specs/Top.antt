@@ -12,7 +12,7 @@ use Rattle.cl_tx.specs.Step.{committed}
 use Rattle.cl_report.specs.Lines.{report_from}
 use Rattle.cl_shapes.specs.declared.function.CostFn.{CostFn}
 use Rattle.cl_words.specs.Argument.{Arguments, Spell}
-use Rattle.cl_words.specs.Words.{Command, Call, Run, Check, Value, Wire, Gen, Root, Prove, Verify}
+use Rattle.cl_words.specs.Words.{Command, Call, Run, Check, Value, Wire, Gen, Trace, Root, Prove, Verify}
 use Rattle.cl_entries.specs.declared.status.Status.{Status}
 use Rattle.cl_entries.specs.declared.status.Status.TheVariants.{Done, Usage, BadFile, Refused, NotGood, BadWord}
 use Rattle.cl_entries.specs.Scripts.{Script, DoesAll, DoesPart, IsDoneTo, bytes_of, events_of, end_number, number_of, script_of}
@@ -21,11 +21,12 @@ use Rattle.cl_entries.specs.declared.status.Step.{Step}
 use Rattle.cl_entries.specs.declared.status.Stop.{Stop}
 use Rattle.cl_entries.specs.declared.status.Stop.TheVariants.{ReadFailed, WriteFailed}
 use Rattle.cl_entries.specs.Entries.{IsRun, IsRunning, RunCommits, left_of as left_of_run}
-use Rattle.cl_replies.specs.Inputs.{Inputs, RunInputs}
+use Rattle.cl_traces.specs.Traces.{IsTracing, left_of as left_of_traces}
+use Rattle.cl_replies.specs.Inputs.{Inputs, RunInputs, TraceInputs}
 use Rattle.cl_replies.specs.Spelling.{value_reply, verify_reply, wire_reply}
 use Rattle.cl_replies.specs.Reports.{IsReply, IsScript}
 use Rattle.cl_app.specs.declared.steps.Steps.{Steps}
-use Rattle.cl_app.specs.declared.steps.Steps.TheVariants.{Whole, Entries}
+use Rattle.cl_app.specs.declared.steps.Steps.TheVariants.{Whole, Entries, Traces}
 use Rattle.cl_app.specs.Reading.{AreInputs, CommandReads}
 
 -- ---- the script of a command
@@ -88,6 +89,7 @@ EndsWith (Some (Check costs address paths version)) status = (status ≡ Done) �
 EndsWith (Some (Value word)) status = status ≡ (value_reply word).status
 EndsWith (Some (Wire word)) status = (outcome : Reading) × Parses word outcome × (status ≡ (wire_reply outcome).status)
 EndsWith (Some (Gen seed count)) status = status ≡ Done
+EndsWith (Some (Trace costs file)) status = (status ≡ Done) ⊎ (status ≡ BadFile)
 EndsWith (Some (Root costs file)) status = (status ≡ Done) ⊎ (status ≡ BadFile)
 EndsWith (Some (Prove costs file number)) status = (status ≡ Done) ⊎ (status ≡ BadFile) ⊎ (status ≡ BadWord)
 EndsWith (Some (Verify root key value sides)) status = status ≡ (verify_reply root key value sides).status
@@ -141,9 +143,10 @@ RunInTurn =
 
 -- ---- what the code has still to do
 
--- the inputs aren't those of `run`, which have a step for each entry
+-- the inputs aren't those of `run` or `trace`, which have a step for each entry
 abbrev pub HasReply : Inputs → Type 0
 HasReply (RunInputs table file state) = ⊥
+HasReply (TraceInputs table file) = ⊥
 HasReply inputs = Unit {0}
 
 -- of these inputs, these steps are done
@@ -151,6 +154,7 @@ abbrev pub IsAt : Inputs → List Step → Steps → Type 0
 IsAt inputs steps (Whole (Some text) status) = (steps ≡ []) × IsReply inputs (record { text = text; status = status })
 IsAt inputs steps (Whole None status) = (reply : Reply) × IsReply inputs reply × (record { steps = steps; end = Ok status } ≡ script_of reply)
 IsAt inputs steps (Entries p) = (table : List CostFn) × (file : FileSeen) × (state : Bool) × (inputs ≡ RunInputs table file state) × IsRunning table file state steps p
+IsAt inputs steps (Traces p) = (table : List CostFn) × (file : FileSeen) × (inputs ≡ TraceInputs table file) × IsTracing table file steps p
 
 -- of some inputs, some steps are done
 abbrev pub IsSomewhere : Steps → Type 0
@@ -164,11 +168,13 @@ one_if_some (Some text) = 1
 abbrev pub left_of : Steps → ℕ
 left_of (Whole text status) = one_if_some text
 left_of (Entries p) = left_of_run p
+left_of (Traces p) = left_of_traces p
 
 -- how the command ends once none is left
 abbrev pub status_of : Steps → Status
 status_of (Whole text status) = status
 status_of (Entries p) = Done
+status_of (Traces p) = Done
 
 -- ---- counts of faults
 

@@ -29,6 +29,8 @@ use std::alloc::Global;
 pub enum Purpose {
     /// Their report, and the state after them where it is asked for.
     Report(bool),
+    /// The values that the nodes of their evaluations give.
+    Values,
     /// The root of the state after them.
     StateRoot,
     /// The row of that state with this number.
@@ -41,6 +43,7 @@ fn inputs_for<'a>(purpose: Purpose, costs: CostTable, file: TxFile) -> Inputs<'a
 {
     match purpose {
         Purpose::Report(state) => Inputs::Run { costs, file, state },
+        Purpose::Values => Inputs::Trace { costs, file },
         Purpose::StateRoot => Inputs::Root { costs, file },
         Purpose::Row(number) => Inputs::Prove {
             costs,
@@ -243,6 +246,9 @@ fn read_command<'a, F: Files>(
             seed: *seed,
             count: *count,
         }),
+        Command::Trace { costs, file } => {
+            read_entries(alloc, Purpose::Values, *costs, *file, files)
+        }
         Command::Root { costs, file } => {
             read_entries(alloc, Purpose::StateRoot, *costs, *file, files)
         }

@@ -5,7 +5,7 @@ ghost use Rattle.cl_listeners.specs.Hearing.{Told};
 ghost use Rattle.cl_entries.specs.declared.status.Step.{Step as AStep};
 ghost use Rattle.cl_entries.specs.Scripts.{CountsWrite, DoesPart, Script};
 ghost use Rattle.cl_text.specs.Parsed.{outcome_of};
-ghost use Rattle.cl_replies.specs.Inputs.{Inputs as InputsSeen, NoCommand, BadFile, BadArgument, RunInputs, WireInputs, inputs_seen};
+ghost use Rattle.cl_replies.specs.Inputs.{Inputs as InputsSeen, NoCommand, BadFile, BadArgument, RunInputs, TraceInputs, WireInputs, inputs_seen};
 ghost use Rattle.cl_replies.specs.Reports.{IsReply, IsScript};
 ghost use Rattle.cl_app.specs.Reading.{KeepTable};
 ghost use Rattle.cl_app.specs.Top.{DoesInputs, HasReply, IsAt, IsSomewhere, left_of, status_of};
@@ -20,6 +20,7 @@ use cl_replies::{
     prove_reply, root_reply, usage_reply, value_reply, verify_reply, wire_reply,
 };
 use cl_text::TextRefusal;
+use cl_traces::TraceSteps;
 use cl_tx::TxFile;
 use cl_types::NoMemory;
 use std::alloc::Global;
@@ -34,6 +35,8 @@ pub(crate) enum Steps {
     },
     /// A step for each entry, and one for the state where it is asked for.
     Entries(EntrySteps),
+    /// A step for the trace of each entry.
+    Traces(TraceSteps),
 }
 
 /// The one step of a reply.
@@ -71,7 +74,7 @@ fn reply_to_wire(alloc: Global, word: &str) -> Result<Reply, NoMemory>
     wire_reply(alloc, word.as_bytes())
 }
 
-/// The reply to a command with these inputs, which aren't those of `run`.
+/// The reply to a command with these inputs, which aren't those of `run` or `trace`.
 fn reply_to(alloc: Global, inputs: Inputs<'_>) -> Result<Reply, NoMemory>
     requires table { KeepTable (inputs_seen inputs) }
     requires whole { HasReply (inputs_seen inputs) }
@@ -88,6 +91,7 @@ fn reply_to(alloc: Global, inputs: Inputs<'_>) -> Result<Reply, NoMemory>
             args,
         } => call_reply(alloc, source, version, function, args),
         Inputs::Run { .. } => unreachable!(),
+        Inputs::Trace { .. } => unreachable!(),
         Inputs::Check { costs, sources } => check_reply(alloc, &costs, sources.as_slice()),
         Inputs::Value(word) => value_reply(alloc, word.as_bytes()),
         Inputs::Wire(word) => reply_to_wire(alloc, word),
@@ -113,6 +117,12 @@ fn begin_run(alloc: Global, costs: &CostTable, file: TxFile, state: bool) -> Res
     Ok(Steps::Entries(EntrySteps::new(alloc, costs, file, state)?))
 }
 
+fn begin_trace(alloc: Global, costs: &CostTable, file: TxFile) -> Result<Steps, NoMemory>
+    ensures { IfOk result (IsAt (TraceInputs costs.now file) []) }
+{
+    Ok(Steps::Traces(TraceSteps::new(alloc, costs, file)?))
+}
+
 fn begin_reply(alloc: Global, inputs: Inputs<'_>) -> Result<Steps, NoMemory>
     requires table { KeepTable (inputs_seen inputs) }
     requires whole { HasReply (inputs_seen inputs) }
@@ -129,6 +139,7 @@ fn begin(alloc: Global, inputs: Inputs<'_>) -> Result<Steps, NoMemory>
 {
     match inputs {
         Inputs::Run { costs, file, state } => begin_run(alloc, &costs, file, state),
+        Inputs::Trace { costs, file } => begin_trace(alloc, &costs, file),
         inputs => begin_reply(alloc, inputs),
     }
 }
@@ -168,6 +179,7 @@ impl Steps {
         match self {
             Steps::Whole { text, .. } => usize::from(text.is_some()),
             Steps::Entries(entries) => entries.remaining(),
+            Steps::Traces(traces) => traces.remaining(),
         }
     }
 
@@ -178,6 +190,7 @@ impl Steps {
         match self {
             Steps::Whole { status, .. } => *status,
             Steps::Entries(_) => Status::Done,
+            Steps::Traces(_) => Status::Done,
         }
     }
 
@@ -192,6 +205,7 @@ impl Steps {
         match self {
             Steps::Whole { text, .. } => Ok(take_step(alloc, text)),
             Steps::Entries(entries) => entries.next(alloc),
+            Steps::Traces(traces) => traces.next(alloc),
         }
     }
 }
@@ -231,6 +245,7 @@ fn do_steps<K: Sink, L: Listener>(
 {
     cl_listeners::events_told_in_turn();
     cl_entries::a_file_has_one_script();
+    cl_traces::a_file_has_one_trace_script();
     crate::laws::scripts_are_one();
     for _ in 0..steps.remaining() {
         let step = steps.next(alloc)?;

@@ -34,6 +34,7 @@ pub data Inputs : Type 0 where
   ValueInputs : (word : List ℕ) → Inputs
   WireInputs : (word : List ℕ) → Inputs
   GenInputs : (seed count : ℕ) → Inputs
+  TraceInputs : (table : List CostFn) (file : FileSeen) → Inputs
   RootInputs : (table : List CostFn) (file : FileSeen) → Inputs
   ProveInputs : (table : List CostFn) (file : FileSeen) (number : ℕ) → Inputs
   VerifyInputs : (root key value : List ℕ) (sides : List (List ℕ)) → Inputs
@@ -49,6 +50,7 @@ inputs_seen (input.Check costs sources) = CheckInputs costs sources
 inputs_seen (input.Value word) = ValueInputs word.now
 inputs_seen (input.Wire word) = WireInputs word.now
 inputs_seen (input.Gen seed count) = GenInputs seed count
+inputs_seen (input.Trace costs file) = TraceInputs costs file
 inputs_seen (input.Root costs file) = RootInputs costs file
 inputs_seen (input.Prove costs file number) = ProveInputs costs file number
 inputs_seen (input.Verify root key value sides) = VerifyInputs root.now key.now value.now (texts sides.now)

@@ -39,7 +39,8 @@ use Rattle.cl_entries.specs.declared.status.Status.TheVariants.{Done, Usage, Ref
 use Rattle.cl_entries.specs.declared.status.Stop.TheVariants.{ReadFailed}
 use Rattle.cl_entries.specs.Entries.{end_of, AreSound, IsRun}
 use Rattle.cl_entries.specs.Scripts.{Script, script_of}
-use Rattle.cl_replies.specs.Inputs.{Inputs, NoCommand, MissingFile, BadFile, BadArgument, CallInputs, RunInputs, CheckInputs, ValueInputs, WireInputs, GenInputs, RootInputs, ProveInputs, VerifyInputs, bad_file_reply}
+use Rattle.cl_traces.specs.Traces.{IsTraceScript}
+use Rattle.cl_replies.specs.Inputs.{Inputs, NoCommand, MissingFile, BadFile, BadArgument, CallInputs, RunInputs, CheckInputs, ValueInputs, WireInputs, GenInputs, TraceInputs, RootInputs, ProveInputs, VerifyInputs, bad_file_reply}
 use Rattle.cl_replies.specs.Spelling.{no_value_reply, value_reply, wire_reply, verify_reply}
 use Rattle.cl_replies.specs.Checked.{IsReport}
 
@@ -199,6 +200,7 @@ IsReply (CheckInputs table sources) reply = IsReport (function_of table) [] sour
 IsReply (ValueInputs word) reply = reply ≡ value_reply word
 IsReply (WireInputs word) reply = IsWireReply word reply
 IsReply (GenInputs seed count) reply = IsGenerated seed count reply
+IsReply (TraceInputs table file) reply = ⊥
 IsReply (RootInputs table file) reply = IsRootReply table file reply
 IsReply (ProveInputs table file number) reply = IsProveReply table file number reply
 IsReply (VerifyInputs root key value sides) reply = reply ≡ verify_reply root key value sides
@@ -207,4 +209,5 @@ IsReply (VerifyInputs root key value sides) reply = reply ≡ verify_reply root 
 abbrev pub IsScript : Inputs → Script → Type 0
 IsScript MissingFile script = script ≡ record { steps = []; end = Err ReadFailed }
 IsScript (RunInputs table file state) script = IsRun table file state script
+IsScript (TraceInputs table file) script = IsTraceScript table file script
 IsScript inputs script = (reply : Reply) × IsReply inputs reply × (script ≡ script_of reply)

@@ -59,6 +59,10 @@ pub enum Inputs<'a> {
         seed: u64,
         count: u32,
     },
+    Trace {
+        costs: CostTable,
+        file: TxFile,
+    },
     Root {
         costs: CostTable,
         file: TxFile,

@@ -1,7 +1,7 @@
 -- Words, a command and a source as the definitions speak of them.
 use Rattle.std.specs.Prelude.{ℕ, List, Option}
 use Rattle.cl_forms.specs.Texts.{Text, text_of}
-use Rattle.cl_words.specs.Words.{Command, Call, Run, Check, Value, Wire, Gen, Root, Prove, Verify, texts}
+use Rattle.cl_words.specs.Words.{Command, Call, Run, Check, Value, Wire, Gen, Trace, Root, Prove, Verify, texts}
 use Rattle.cl_words.specs.declared.line.Flag.{Flag}
 use Rattle.cl_words.specs.declared.line.Line.{Line}
 use Rattle.cl_words.specs.declared.sources.Source.{Source}
@@ -24,6 +24,7 @@ command_seen (word.Check words) = check_seen words
 command_seen (word.Value text) = Value text.now
 command_seen (word.Wire text) = Wire text.now
 command_seen (word.Gen seed count) = Gen seed count
+command_seen (word.Trace costs file) = Trace costs.now file.now
 command_seen (word.Root costs file) = Root costs.now file.now
 command_seen (word.Prove costs file number) = Prove costs.now file.now number
 command_seen (word.Verify root key value sides) = Verify root.now key.now value.now (texts sides.now)

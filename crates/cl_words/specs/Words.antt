@@ -30,6 +30,8 @@ pub data Command : Type 0 where
   Wire : (word : List ℕ) → Command
   -- what a workload comes to, by its seed and its number of calls
   Gen : (seed count : ℕ) → Command
+  -- the values that the nodes of the entries' evaluations give
+  Trace : (costs file : List ℕ) → Command
   -- the root of the state after a transaction file
   Root : (costs file : List ℕ) → Command
   -- the row with this number of that state, and its path to the root
@@ -46,6 +48,7 @@ names_of (Some (Check costs address paths version)) = costs ∷ paths
 names_of (Some (Value word)) = []
 names_of (Some (Wire word)) = []
 names_of (Some (Gen seed count)) = []
+names_of (Some (Trace costs file)) = costs ∷ file ∷ []
 names_of (Some (Root costs file)) = costs ∷ file ∷ []
 names_of (Some (Prove costs file number)) = costs ∷ file ∷ []
 names_of (Some (Verify root key value sides)) = []
@@ -127,6 +130,11 @@ abbrev pub gen_of : List ℕ → List ℕ → List (List ℕ) → Option Command
 gen_of seed count [] = gen_by (number_within seed (2 ^ 64 - 1)) (number_within count 99999)
 gen_of seed count (word ∷ words) = None
 
+-- `trace` with two words, and with more
+abbrev pub trace_of : List ℕ → List ℕ → List (List ℕ) → Option Command
+trace_of costs file [] = Some (Trace costs file)
+trace_of costs file (word ∷ words) = None
+
 -- `root` with two words, and with more
 abbrev pub root_of : List ℕ → List ℕ → List (List ℕ) → Option Command
 root_of costs file [] = Some (Root costs file)
@@ -161,7 +169,8 @@ command_with_words name first second words =
     else (if bytes_eq name (codes "check") then check_under first words (decoded second)
     else (if bytes_eq name (codes "run") then run_of first second words
     else (if bytes_eq name (codes "gen") then gen_of first second words
-    else root_command name first second words)))
+    else (if bytes_eq name (codes "trace") then trace_of first second words
+    else root_command name first second words))))
 
 -- the command of the first word, where it has its number of words
 abbrev pub command_of : List (List ℕ) → Option Command

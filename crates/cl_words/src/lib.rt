@@ -9,5 +9,6 @@ mod words;
 
 pub use argument::values;
 pub use line::{Flag, Line, read};
+pub use numbers::number_within;
 pub use sources::{Source, contract_at};
 pub use words::{CheckWords, Command, command_on};

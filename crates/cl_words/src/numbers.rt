@@ -6,7 +6,7 @@ use cl_sexpr::{are_digits, value_of};
 
 /// The number that a word of decimal digits spells, where it is at most this. There may be leading
 /// zeros.
-pub(crate) fn number_within(word: &str, most: u64) -> Option<u64>
+pub fn number_within(word: &str, most: u64) -> Option<u64>
     ensures number { result ≡ number_within word.now most }
     ensures within { IfSome result (λ n. n ≤ most) }
 {

@@ -1,6 +1,6 @@
 //! The table of commands.
 ghost use Rattle.std.specs.Prelude.{◌≡◌, ◌≤◌, ◌-◌, ◌^◌, option_map, IfSome};
-ghost use Rattle.cl_words.specs.Words.{texts, check_under, run_of, gen_by, gen_of, root_of, prove_of, are_short, verify_of, root_command, command_with, command_with_words, command_of, with_flag, command_in, command_on, IsOfTable};
+ghost use Rattle.cl_words.specs.Words.{texts, check_under, run_of, gen_by, gen_of, trace_of, root_of, prove_of, are_short, verify_of, root_command, command_with, command_with_words, command_of, with_flag, command_in, command_on, IsOfTable};
 ghost use Rattle.cl_words.specs.Numbers.{number_within};
 ghost use Rattle.cl_words.specs.Seen.{command_seen, line_of};
 ghost use Rattle.cl_c32.specs.Codec.{decoded};
@@ -50,6 +50,11 @@ pub enum Command<'a> {
     Gen {
         seed: u64,
         count: u32,
+    },
+    /// The value of each node of the entries' evaluations that gives one, with the node's span.
+    Trace {
+        costs: &'a str,
+        file: &'a str,
     },
     /// The root of the state after the entries of a transaction file under a file of costs.
     Root {
@@ -134,6 +139,16 @@ fn gen_of<'a>(seed: &str, count: &str, words: &[String]) -> Option<Command<'a>>
 {
     match words {
         [] => gen_by(number_within(seed, u64::MAX), number_within(count, 99_999)),
+        _ => None,
+    }
+}
+
+/// `trace` with these words.
+fn trace_of<'a>(costs: &'a str, file: &'a str, words: &'a [String]) -> Option<Command<'a>>
+    ensures { option_map command_seen result ≡ trace_of costs.now file.now (texts words.now) }
+{
+    match words {
+        [] => Some(Command::Trace { costs, file }),
         _ => None,
     }
 }
@@ -244,6 +259,9 @@ fn command_with_words<'a>(
     }
     if name == "gen" {
         return gen_of(first, second, words);
+    }
+    if name == "trace" {
+        return trace_of(first, second, words);
     }
     root_command(name, first, second, words)
 }

@@ -1,7 +1,7 @@
 use Rattle.std.proofs.Common.{Some, ap}
 use Rattle.cl_words.specs.Seen.{command_seen}
 use Rattle.cl_words.specs.declared.words.Command.{Command}
-use Rattle.cl_words.specs.Words.{Prove, Root, Run}
+use Rattle.cl_words.specs.Words.{Prove, Root, Run, Trace}
 use Rattle.cl_app.proofs.Commands.{asks_by, inputs_by}
 use Rattle.cl_app.proofs.inputs.read_command.Goals as goal
 
@@ -22,3 +22,9 @@ returns-in-Prove-clause-inputs g c = inputs_by (Some (command_seen c.args.comman
 
 pub returns-in-Prove-clause-asked : goal.returns-in-Prove-clause-asked
 returns-in-Prove-clause-asked g c = asks_by (Some (command_seen c.args.command.now)) (Some (Prove c.in-Prove.costs.now c.in-Prove.file.now c.in-Prove.number)) (g.F.Files.held c.args.files.now) (g.F.Files.asked c.args.files.now) (g.F.Files.asked c.read_entries-in-Prove.new.files) (ap (λ (w : Command). Some (command_seen w)) c.in-Prove.is) c.read_entries-in-Prove.ensures.asked
+
+pub returns-in-Trace-clause-inputs : goal.returns-in-Trace-clause-inputs
+returns-in-Trace-clause-inputs g c = inputs_by (Some (command_seen c.args.command.now)) (Some (Trace c.in-Trace.costs.now c.in-Trace.file.now)) (g.F.Files.held c.args.files.now) c.read_entries-in-Trace.result (ap (λ (w : Command). Some (command_seen w)) c.in-Trace.is) c.read_entries-in-Trace.ensures.gives c.read_entries-in-Trace.ensures.suits
+
+pub returns-in-Trace-clause-asked : goal.returns-in-Trace-clause-asked
+returns-in-Trace-clause-asked g c = asks_by (Some (command_seen c.args.command.now)) (Some (Trace c.in-Trace.costs.now c.in-Trace.file.now)) (g.F.Files.held c.args.files.now) (g.F.Files.asked c.args.files.now) (g.F.Files.asked c.read_entries-in-Trace.new.files) (ap (λ (w : Command). Some (command_seen w)) c.in-Trace.is) c.read_entries-in-Trace.ensures.asked

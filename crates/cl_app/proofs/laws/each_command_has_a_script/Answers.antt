@@ -10,6 +10,7 @@ returns c = each_has_script (record {
   source = c.each_source_has_an_answer.ensures;
   runs = c.each_file_has_results.ensures.results;
   sound = c.runs_are_sound.ensures;
+  traces = c.each_file_has_a_trace_script.ensures;
   ends = c.nodes_stay_sound.ensures.run;
   text = c.each_state_has_a_text.ensures.text;
   root = c.each_state_has_a_text.ensures.root;

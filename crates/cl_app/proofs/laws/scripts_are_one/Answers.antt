@@ -7,6 +7,7 @@ returns-clause-command c = command_same (record {
   file = c.files_have_one_reading.ensures.one;
   run = c.steps_have_one_result.ensures.run;
   script = c.a_file_has_one_script.ensures.one;
+  traces = c.a_file_has_one_trace_script.ensures.one;
   sources = record { clean = c.texts_have_one_answer.ensures.clean; defined = c.texts_have_one_answer.ensures.one_defined; first = c.texts_have_one_answer.ensures.one_first; order = c.texts_have_one_order.ensures.order };
   roots = record { root = c.states_have_one_root.ensures.root; path = c.states_have_one_root.ensures.path; own = c.rows_have_keys_of_their_own.ensures.own };
 })
@@ -17,6 +18,7 @@ returns-clause-read c = inputs_same (record {
   file = c.files_have_one_reading.ensures.one;
   run = c.steps_have_one_result.ensures.run;
   script = c.a_file_has_one_script.ensures.one;
+  traces = c.a_file_has_one_trace_script.ensures.one;
   sources = record { clean = c.texts_have_one_answer.ensures.clean; defined = c.texts_have_one_answer.ensures.one_defined; first = c.texts_have_one_answer.ensures.one_first; order = c.texts_have_one_order.ensures.order };
   roots = record { root = c.states_have_one_root.ensures.root; path = c.states_have_one_root.ensures.path; own = c.rows_have_keys_of_their_own.ensures.own };
 })
@@ -27,6 +29,7 @@ returns-clause-inputs c = script_same (record {
   file = c.files_have_one_reading.ensures.one;
   run = c.steps_have_one_result.ensures.run;
   script = c.a_file_has_one_script.ensures.one;
+  traces = c.a_file_has_one_trace_script.ensures.one;
   sources = record { clean = c.texts_have_one_answer.ensures.clean; defined = c.texts_have_one_answer.ensures.one_defined; first = c.texts_have_one_answer.ensures.one_first; order = c.texts_have_one_order.ensures.order };
   roots = record { root = c.states_have_one_root.ensures.root; path = c.states_have_one_root.ensures.path; own = c.rows_have_keys_of_their_own.ensures.own };
 })

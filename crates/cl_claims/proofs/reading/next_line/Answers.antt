@@ -1,0 +1,23 @@
+use Rattle.std.proofs.Common.{inl, inr, sym, arith}
+use Rattle.cl_claims.proofs.Lined.{line_front, no_claim, no_line, too_high, too_low}
+use Rattle.cl_claims.proofs.reading.next_line.Goals as goal
+
+pub returns-in_default-clause-none : goal.returns-in_default-clause-none
+returns-in_default-clause-none c = λ _. no_line c.args.least c.args.entries c.args.text.now (sym c.in_default.ensures)
+
+pub returns-in_default-2-clause-none : goal.returns-in_default-2-clause-none
+returns-in_default-2-clause-none c = λ _. no_claim c.args.least c.args.entries c.args.text.now c.in-Some.line.now c.in-Some.behind.now (sym c.in-Some.ensures) (c.in_ok-claim.ensures.none c.in_default-2.is)
+
+pub returns-then-claim-least-clause-none : goal.returns-then-claim-least-clause-none
+returns-then-claim-least-clause-none c =
+    let claim = c.in-Some-2.claim in
+    let spelled = rw c.in-Some-2.is at c.in_ok-claim.ensures.some in
+    λ _. elim c.then-claim-least.either [
+      | inl low ↦ too_low c.args.least c.args.entries c.args.text.now c.in-Some.line.now c.in-Some.behind.now claim.entry claim.span claim.value (sym c.in-Some.ensures) spelled (omega arith) low
+      | inr high ↦ too_high c.args.least c.args.entries c.args.text.now c.in-Some.line.now c.in-Some.behind.now claim.entry claim.span claim.value (sym c.in-Some.ensures) spelled (omega arith) high.1
+    ]
+
+pub returns-clause-text : goal.returns-clause-text
+returns-clause-text c =
+    let claim = c.in-Some-2.claim in
+    line_front c.args.text.now c.in-Some.line.now c.in-Some.behind.now claim.entry claim.span claim.value (sym c.in-Some.ensures) (rw c.in-Some-2.is at c.in_ok-claim.ensures.some)

@@ -1,0 +1,4 @@
+pub mod Traced
+pub mod Tracing
+pub mod Found
+pub mod Written
