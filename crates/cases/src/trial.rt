@@ -1,9 +1,10 @@
-//! A case is run over files, a sink and listeners in memory.
+//! A case is run over files, a sink and listeners in memory, by the top call of its program.
 use crate::fault::BadCase;
 use crate::hearing::{is_heard, recorders};
 use crate::member::{bytes, number, numbers, texts, words};
 use cl_app::clarity;
 use cl_json::unknown_member;
+use cl_lanes_app::clarity_lanes;
 use cl_ports::{MemoryFiles, MemorySink};
 use serde_json::Value;
 use std::alloc::Global;
@@ -11,10 +12,11 @@ use std::alloc::Global;
 /// The room of a sink, where the case says none.
 const ROOM: u32 = 100_000;
 
-const MEMBERS: [&str; 15] = [
+const MEMBERS: [&str; 16] = [
     "about",
     "cases",
     "name",
+    "program",
     "words",
     "files",
     "failing_reads",
@@ -142,9 +144,18 @@ fn is_wanted(
     )
 }
 
+// Whether the case is one of `clarity_lanes`, and not of `clarity`.
+fn is_of_lanes(case: Case) -> Result<bool, BadCase> {
+    match case.get("program") {
+        None => Ok(false),
+        Some(program) if program.as_str() == Some("clarity_lanes") => Ok(true),
+        Some(_) => Err(BadCase::Member("program")),
+    }
+}
+
 // The status of the words over these files and this sink, and whether listeners heard what the
 // case wants.
-fn told(
+fn run_program(
     rt: &HostRuntime,
     case: Case,
     words: &[String],
@@ -153,7 +164,11 @@ fn told(
 ) -> Result<(u8, bool), BadCase> {
     let alloc = rt.alloc();
     let mut listeners = recorders(alloc, case.get("failing_hearings"))?;
-    let status = clarity(alloc, words, files, out, &mut listeners);
+    let status = if is_of_lanes(case)? {
+        clarity_lanes(alloc, words, files, out)
+    } else {
+        clarity(alloc, words, files, out, &mut listeners)
+    };
     let heard = is_heard(rt, &listeners, case.get("heard"), case.get("deaf"))?;
     Ok((status, heard))
 }
@@ -166,7 +181,7 @@ fn run_over(
     mut files: MemoryFiles,
 ) -> Result<Ended, BadCase> {
     let mut out = sink_of(rt.alloc(), case)?;
-    let (status, heard) = told(rt, case, words, &mut files, &mut out)?;
+    let (status, heard) = run_program(rt, case, words, &mut files, &mut out)?;
     let is_as_wanted = heard && is_wanted(rt, case, status, &out, &files)?;
     Ok(Ended {
         is_as_wanted,
