@@ -70,6 +70,7 @@ refused Extra 2
 END
 # (The SHA-256 of nothing, and of a byte 0 and four of the length of an empty key.)
 printf '{"version": 1, "genesis": [], "entries": []}' >"$folder/empty.json"
+printf '{"version": 1, "genesis": [], "entries": [{"deploy": {"sender": "SP000000000000000000002Q6VF78", "name": "inc", "source": "(define-read-only (add1 (x int)) (+ x 1))"}}]}' >"$folder/deploys.json"
 shown 8 answer prove examples/unit.json "$folder/empty.json" 0 <<'END'
 root 0xe3b0c44298fc1c149afbf4c8996fb92427ae41e4649b934ca495991b7852b855
 refused NoRow
@@ -79,6 +80,20 @@ yes
 END
 shown 0 answer gen 2 1 <<'END'
 calls 1 ok 1 err 0 supply u740 p1 u740 runtime 33
+END
+shown 0 lanes 4 7 examples/unit.json "$folder/empty.json" <<'END'
+lanes redone 0 skipped 0
+END
+# (The first draw is a barrier, the second a trial: of the two moves one does nothing.)
+shown 0 lanes 4 0 examples/unit.json "$folder/deploys.json" <<'END'
+0 deploy 'SP000000000000000000002Q6VF78.inc done
+  cost 2 0 0 2 41
+  deploy-bound 2 0 0 2 41
+  bound add1 5 0 0 0 0 int
+lanes redone 0 skipped 1
+END
+shown 2 lanes 17 7 examples/unit.json "$folder/empty.json" <<'END'
+usage: clarity_lanes LANES SEED COSTS TXFILE
 END
 shown 0 compare readme arithmetic <<'END'
 readme: 10 of 10 cases, 0 of what the model doesn't know

@@ -1,4 +1,5 @@
-"""Explains the lines of a report: below each refusal and abort the place in the source or in the file, why it is so, and what to do."""
+"""Explains the lines of a report, below each refusal and abort the place in the source or in the file, why it is so, and what to do;
+and below each line of a trace its expression."""
 import json
 import re
 
@@ -8,6 +9,7 @@ import sources
 BROKEN = re.compile(r"(?:(?P<entry>[0-9]{1,9}) deploy|contract) '(?P<contract>\S+) refused (?:E7 ContractRefused )?"
                     r"(?P<rule>[TFOCB][0-9]{1,2}) (?P<name>\w+) (?P<start>[0-9]{1,9})\.\.(?P<end>[0-9]{1,9})")  # fmt: skip
 ENDED = re.compile(r"(?P<entry>[0-9]{1,9}) (?:deploy|call) '.* (?P<how>aborted|refused) (?P<rule>[AE][0-9]) \w+(?P<more>(?: \w+)*)\Z")
+TRACED = re.compile(r"(?P<entry>[0-9]{1,9}) (?P<start>[0-9]{1,10})\.\.(?P<end>[0-9]{1,10}) (?:[0-9a-f]{2})+\Z")
 BAD_FILE = re.compile(r"bad file (?P<name>.*?) (?P<fault>TooLong|NotJson|Version|GenesisTooBig|TooMany|(?:Field|BadValue|HeightFalls) /.*"
                       r"|(?:Missing|TooBig|Unknown) .*|BadShape .*)\Z")  # fmt: skip
 BAD_VALUE = re.compile(r"refused (?P<refusal>[A-Z]\w+(?: \w+)?(?: [0-9]{1,9}(?:\.\.[0-9]{1,9})?)?)\Z")
@@ -46,6 +48,23 @@ class Sources:
         entries = file.get("entries") if isinstance(file, dict) else None
         entry = entries[number] if isinstance(entries, list) and number < len(entries) else None
         return next(iter(entry.items())) if isinstance(entry, dict) and len(entry) == 1 else (None, None)
+
+    def deployed(self, contract, number):
+        """The entry before this one that deploys a contract last, or nothing."""
+        for place in range(number - 1, -1, -1):
+            kind, members = self.entry(place)
+            if kind == "deploy" and isinstance(members, dict) and f"{members.get('sender')}.{members.get('name')}" == contract:
+                return place
+        return None
+
+    def evaluated(self, number):
+        """The source whose expressions an entry evaluates, as `source` gives it."""
+        plain = [path for path in self.paths if not path.endswith(".json")]
+        kind, members = self.entry(number)
+        contract = str(members.get("contract")) if kind == "call" and isinstance(members, dict) else ""
+        if kind is None and len(plain) == 1:
+            return plain[0], *self.bytes_of(plain[0])
+        return self.source(contract, number if kind == "deploy" else self.deployed(contract, number))
 
     def source(self, contract, number):
         """What the source of a contract is called, its text byte by byte, and why it isn't found."""
@@ -112,6 +131,15 @@ def of_broken(found, files):
     return shown(place, source, begin, stop, label), missing or advised
 
 
+def of_traced(found, files):
+    """The expression of a line of a trace."""
+    start, end = int(found["start"]), int(found["end"])
+    place, source, fault = files.evaluated(int(found["entry"]))
+    if source is None or end > len(source):
+        return [f"  ({fault or f'the place lies behind the end of {place}: it is of a called contract, or of another source'})"]
+    return shown(place, source, start, end)
+
+
 def of_ending(found, files):
     """Why an entry ended so, and the condition or the argument of its file that is named."""
     rule, more = found["rule"], found["more"].split()
@@ -154,6 +182,9 @@ def explained(line, files):
         if found:
             lines, advised = explain(found, files)
             return lines + [f"  {word}: {text}" for word, text in advised], not (pattern is ENDED and found["how"] == "aborted")
+    found = TRACED.match(line)
+    if found:
+        return of_traced(found, files), False
     found = BAD_VALUE.match(line)
     if found:
         return [f"  {word}: {text}" for word, text in advice.of_value(found["refusal"])], True

@@ -1,6 +1,7 @@
-"""A model of the program in Python, written from the rules of the language and from nothing of the engine.
+"""A model of the programs in Python, written from the rules of the language and from nothing of the engine.
 
 usage: python3 tools/model answer WORDS..     answers as ./clarity WORDS.. does
+       python3 tools/model lanes WORDS..      answers as ./clarity_lanes WORDS.. does
        python3 tools/model compare [THEME ..] says which cases of crates/cases/data it answers otherwise than they want
        python3 tools/model add THEME FILE     adds the cases of FILE to a theme of crates/cases/data, or makes it
 
@@ -9,7 +10,7 @@ and `output`, refuses one that wants something else, and counts the cases. A cas
 output, worked out by hand, without which it is refused. The model knows both versions of the language and of the transaction
 file, and every command, but nothing of failing writes.
 
-The status of `answer` is that of the command; that of `compare` and `add` is 0, or 1 where a case differs or can't be added; it is 2
+The status of `answer` and `lanes` is that of the program; that of `compare` and `add` is 0, or 1 where a case differs or can't be added; it is 2
 where the words aren't as above, and 1 where a file can't be read.
 """
 import os
@@ -37,17 +38,21 @@ class GivenFiles(commands.Files):
         return super().read(name)
 
 
-def answer(words):
-    given = commands.answer(words, GivenFiles())
+def answer(words, program=commands.answer):
+    given = program(words, GivenFiles())
     sys.stdout.write("".join(line + "\n" for line in given.lines))
     return given.status
+
+
+def lanes(words):
+    return answer(words, commands.answer_in_lanes)
 
 
 def main(words):
     if words[:1] == ["--help"]:
         print(__doc__.strip())
         return 0
-    act = {"answer": answer, "compare": cases.compare, "add": cases.add}.get(words[0] if words else None)
+    act = {"answer": answer, "lanes": lanes, "compare": cases.compare, "add": cases.add}.get(words[0] if words else None)
     if act is None or (act is cases.add and len(words) != 3):
         print(__doc__.strip().split("\n\n")[1], file=sys.stderr)
         return USAGE

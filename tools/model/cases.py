@@ -7,9 +7,10 @@ import commands
 DATA = pathlib.Path(__file__).resolve().parents[2] / "crates" / "cases" / "data"
 ROOM = 100000
 MEMBERS = (
-    "name words files failing_reads failing_writes failing_hearings heard deaf room status output start asked says"
+    "name program words files failing_reads failing_writes failing_hearings heard deaf room status output start asked says"
 ).split()
 LISTENERS = ("1", "2", "3")
+PROGRAMS = {"clarity": commands.answer, "clarity_lanes": commands.answer_in_lanes}
 
 
 def read_theme(path):
@@ -49,7 +50,8 @@ def answer(theme, case):
     held = {name: content(value) for name, value in files_of(theme, case).items()}
     failing = case.get("failing_reads", theme.get("failing_reads", []))
     words = [content(word).decode() for word in case.get("words", theme.get("words"))]
-    return commands.answer(words, commands.Files(held, failing))
+    program = case.get("program", theme.get("program", "clarity"))
+    return PROGRAMS[program](words, commands.Files(held, failing))
 
 
 def bytes_of(lines):

@@ -5,6 +5,7 @@ import re
 from addresses import is_contract_name, read_address, write_principal
 from checking import check
 from costs import BadCosts, Schedule, read_costs, unit_table
+from lanes import in_lanes
 from node import Node, bound_lines, event_lines, lines
 from rows import leaves_of, led_to, path_of, root, rows_of, state_lines
 from texts import Break
@@ -14,6 +15,7 @@ from values import Refused, decode, parse, wire, write_value
 LONGEST_FILE = 16 << 20
 MOST_SIDES = 64
 LONGEST_KEY_WORD = 1 << 33
+MOST_LANES = 16
 DEPLOYER = (22, bytes(20), None)
 HOLDER = "SP2J6ZY48GV1EZ5V2V5RB9MP66SW86PYKKNRV9EJ7"
 TOKEN = pathlib.Path(__file__).resolve().parents[2] / "crates" / "cases" / "data" / "token.clar"
@@ -87,6 +89,7 @@ def are_taken(command, words):
         "value": lambda: len(words) == 1,
         "wire": lambda: len(words) == 1,
         "gen": lambda: len(words) == 2 and is_number(words[0], 1 << 64) and is_number(words[1], 100000),
+        "trace": lambda: len(words) == 2,
         "root": lambda: len(words) == 2,
         "prove": lambda: len(words) == 3 and is_number(words[2], 1 << 32),
         "verify": lambda: 3 <= len(words) <= 3 + MOST_SIDES and len(words[1].encode(errors="surrogateescape")) < LONGEST_KEY_WORD,
@@ -111,18 +114,37 @@ def answer(words, files):
     return Answer(status, written, files.asked, heard)
 
 
+def answer_in_lanes(words, files):
+    """The answer of `clarity_lanes` to these words over these files."""
+    is_shaped = len(words) == 4 and is_number(words[0], MOST_LANES + 1) and number(words[0]) and is_number(words[1], 1 << 64)
+    if not is_shaped:
+        return Answer(2, ["usage: clarity_lanes LANES SEED COSTS TXFILE"])
+    try:
+        node, entries = node_before(files, *words[2:])
+        status, written = 0, in_lanes(node, entries, number(words[0]), number(words[1]))
+    except Ended as error:
+        status, written = error.args
+    return Answer(status, written, files.asked)
+
+
 # ---- commands
 
 def version_of(flags):
     return 2 if "--clarity2" in flags else 1
 
 
-def entries_done(files, heard, costs, file):
-    """The state after the entries of a transaction file, and the lines of their report."""
+def node_before(files, costs, file):
+    """The node before the entries of a transaction file, and the entries."""
     table = files.read_as(costs, read_costs)
     transactions = files.read_as(file, read_transactions)
-    node, written = Node(Schedule(table, transactions.epochs), transactions.holders), []
-    for place, entry in enumerate(transactions.entries):
+    return Node(Schedule(table, transactions.epochs), transactions.holders), transactions.entries
+
+
+def entries_done(files, heard, costs, file):
+    """The state after the entries of a transaction file, and the lines of their report."""
+    node, entries = node_before(files, costs, file)
+    written = []
+    for place, entry in enumerate(entries):
         head, result = node.step(entry)
         heard.append(event_lines(result.events))
         written += lines(place, head, result)
@@ -132,6 +154,15 @@ def entries_done(files, heard, costs, file):
 def run(files, flags, heard, costs, file):
     state, written = entries_done(files, heard, costs, file)
     return 0, written + (state_lines(state) if "--state" in flags else [])
+
+
+def trace(files, flags, heard, costs, file):
+    node, entries = node_before(files, costs, file)
+    written = []
+    for place, entry in enumerate(entries):
+        _, result = node.step(entry)
+        written += [f"{place} {start}..{end} {wire(value).hex()}" for start, end, value in result.trace]
+    return 0, written
 
 
 def shown(data):
@@ -244,6 +275,7 @@ COMMANDS = {
     "value": value,
     "wire": wire_form,
     "gen": generated,
+    "trace": trace,
     "root": state_root,
     "prove": prove,
     "verify": verify,

@@ -1,4 +1,4 @@
-"""Evaluating an expression: its value, what it changes in the state, its events, and what it is charged."""
+"""Evaluating an expression: its value, what it changes in the state, its events, its trace, and what it is charged."""
 from checking import called_contract
 from costs import DIMENSIONS, NOTHING, charge, plus
 from natives import Abort, charged_at, entries_of, joined, native, value_of
@@ -59,6 +59,8 @@ class Frame:
 class Evaluator:
     def __init__(self, deployed, state, meter, height):
         self.deployed, self.state, self.meter, self.height = deployed, state, meter, height
+        # The span and the value of each expression that gave one, in the order in which they ended.
+        self.trace = []
 
     # ---- expressions
 
@@ -67,7 +69,14 @@ class Evaluator:
         self.meter.charge(name, size(value))
         return value
 
+    def gave(self, item, value):
+        self.trace.append((item.start, item.end, value))
+        return value
+
     def evaluate(self, frame, item, bound):
+        return self.gave(item, self.visit(frame, item, bound))
+
+    def visit(self, frame, item, bound):
         if item.kind == "local":
             return self.found("literal", ("principal", called_contract(item, frame.principal)))
         if item.kind == "atom":
@@ -111,11 +120,12 @@ class Evaluator:
             self.state = before
         return value
 
-    def apply_by_name(self, frame, name, values):
+    def apply_by_name(self, frame, item, values):
+        name = item.value
         if not native(name, frame.contract.version):
             return self.apply(frame, frame.contract.functions[name], values)
         self.meter.charge(native(name, frame.contract.version).cost, charged_at(name, values, size))
-        return value_of(name, values)
+        return self.gave(item, value_of(name, values))
 
     def native(self, frame, name, arguments, bound):
         row = native(name, frame.contract.version)
@@ -195,7 +205,7 @@ class Evaluator:
         return self.evaluate(frame, arguments[place + 1], {**bound, arguments[place].value: value[1]})
 
     def iterate(self, frame, name, arguments, bound):
-        use = arguments[0].value
+        use = arguments[0]
         values = [self.evaluate(frame, argument, bound) for argument in arguments[1:]]
         self.meter.charge("iterate", sum(map(size, values)))
         if name == "map":

@@ -19,10 +19,10 @@ class Refused(Exception):
 
 
 class Result:
-    """The result of an entry: the outcome as it is printed, its cost, the lines of bounds, and its events."""
+    """The result of an entry: the outcome as it is printed, its cost, the lines of bounds, its events, and its trace."""
 
-    def __init__(self, outcome, cost=None, bounds=(), events=()):
-        self.outcome, self.cost, self.bounds, self.events = outcome, cost, bounds, events
+    def __init__(self, outcome, cost=None, bounds=(), events=(), trace=()):
+        self.outcome, self.cost, self.bounds, self.events, self.trace = outcome, cost, bounds, events, trace
 
 
 def numbers(cost):
@@ -73,6 +73,12 @@ class Node:
         """Evaluates an entry on a copy of the state, and keeps the copy unless it errs, aborts or fails a condition."""
         meter = Meter(self.table(), entry.limit())
         evaluator = Evaluator(self.contracts, self.state.copy(), meter, self.height)
+        result = self.ended(entry, act, bounds, evaluator)
+        result.trace = evaluator.trace
+        return result
+
+    def ended(self, entry, act, bounds, evaluator):
+        meter = evaluator.meter
         try:
             outcome, is_kept = act(evaluator)
         except CostLimit as error:
