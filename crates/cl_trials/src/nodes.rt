@@ -1,7 +1,7 @@
 //! What a node does that no command asks for: calls that are tried, their grafts, and traces.
 use cl_c32::{Address, ContractName, Principal};
 use cl_code::Watch;
-use cl_costs::{CostTable, Schedule};
+use cl_costs::{CostTable, Schedule, read};
 use cl_engine::Node;
 use cl_forms::Version;
 use cl_post::Mode;
@@ -120,7 +120,36 @@ fn grafts(alloc: Global, node: &mut Node, costs: &Schedule, wanted: u128) -> Res
     Ok(is_number(&trial.result, wanted))
 }
 
-fn counts(alloc: Global) -> Result<[bool; 6], Fail> {
+// one table, in which nothing costs anything
+fn free(alloc: Global) -> Result<Schedule, Fail> {
+    let table = read(
+        alloc,
+        b"{\"literal\":{},\"lookup\":{},\"context\":{},\"control\":{},\"call\":{},\"bind\":{},\"arith\":{},\"compare\":{},\"hash\":{},\"wrap\":{},\"make\":{},\"take\":{},\"scan\":{},\"iterate\":{},\"read_var\":{},\"write_var\":{},\"read_map\":{},\"write_map\":{},\"read_token\":{},\"write_token\":{},\"event\":{},\"contract_call\":{},\"deploy\":{},\"define\":{}}",
+    );
+    Ok(Schedule::always(alloc, table.ok().ok_or("a table")?))
+}
+
+fn is_charged(given: &TxResult, runtime: u128) -> bool {
+    match &given.cost {
+        Some(cost) => cost.runtime == runtime,
+        None => false,
+    }
+}
+
+// whether it is charged so much of runtime on a copy of the state, and where nothing of it is kept
+fn charges(alloc: Global, node: &mut Node, costs: &Schedule, runtime: u128) -> Result<bool, Fail> {
+    let entry = Entry::Call {
+        common: common(alloc),
+        contract: counter()?,
+        function: bytes(alloc, b"inc")?,
+        args: Row::new(Vec::new(alloc)),
+    };
+    let trial = node.trial(alloc, &entry, costs)?;
+    let peeked = node.peek(alloc, &entry, costs)?;
+    Ok(is_charged(&trial.result, runtime) && is_charged(&peeked, runtime))
+}
+
+fn counts(alloc: Global) -> Result<[bool; 8], Fail> {
     let costs = Schedule::always(alloc, CostTable::builtin());
     let mut node = Node::genesis(alloc, Vec::new(alloc))?;
     let deployed = node.step(alloc, &deployment(alloc)?, &costs)?;
@@ -130,11 +159,14 @@ fn counts(alloc: Global) -> Result<[bool; 6], Fail> {
     let third = peeks(alloc, &mut node, &costs, 2)?;
     let fourth = grafts(alloc, &mut node, &costs, 2)?;
     let fifth = peeks(alloc, &mut node, &costs, 3)?;
-    Ok([done, first, second, third, fourth, fifth])
+    let nothing = free(alloc)?;
+    let sixth = charges(alloc, &mut node, &nothing, 0)?;
+    let seventh = charges(alloc, &mut node, &costs, 8)?;
+    Ok([done, first, second, third, fourth, fifth, sixth, seventh])
 }
 
 #[test]
 fn calls_are_tried_and_grafted(rt: HostRuntime) -> Result<(), Fail> {
-    assert!(rt; counts(rt.alloc())? == [true; 6]);
+    assert!(rt; counts(rt.alloc())? == [true; 8]);
     Ok(())
 }
