@@ -1,0 +1,4 @@
+pub mod Answering
+pub mod Endings
+pub mod Openings
+pub mod Tables

@@ -1,0 +1,5 @@
+pub mod Answers
+pub mod Files
+pub mod Nodes
+pub mod Outcomes
+pub mod Values
