@@ -1,5 +1,5 @@
-"""Floods for bench/worst.sh: keys and names that are chosen to collide in the toolchain's tables, whose seed is fixed, each beside
-as many ordinary ones of the same length; and writes to the same places again and again."""
+"""Floods for bench/worst.sh: keys and names that are chosen to collide under the toolchain's own hash, whose seed is fixed, each
+beside as many ordinary ones of the same length; and writes to the same places again and again."""
 
 import functools
 import os

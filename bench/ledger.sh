@@ -9,14 +9,17 @@ top=$(cd "$(dirname "$0")/.." && pwd)
 work=$(mktemp -d)
 trap 'rm -rf "$work"' EXIT
 mkdir -p "$work/crates/ledger_bench/src"
-for crate in cl_types cl_maps cl_tokens; do
+for crate in cl_types cl_maps cl_keyed cl_tokens; do
     mkdir "$work/crates/$crate"
-    cp -r "$top/crates/$crate/src" "$top/crates/$crate/specs" "$top/crates/$crate/proofs" "$work/crates/$crate"
+    for part in src specs proofs; do
+        [ ! -d "$top/crates/$crate/$part" ] || cp -r "$top/crates/$crate/$part" "$work/crates/$crate"
+    done
 done
 cat >"$work/crates.txt" <<'CRATES'
 cl_types:
 cl_maps:
-cl_tokens: cl_types cl_maps indexmap
+cl_keyed: core
+cl_tokens: cl_types cl_maps cl_keyed indexmap
 ledger_bench: cl_types cl_tokens anyhow
 CRATES
 cat >"$work/crates/ledger_bench/src/main.rt" <<'PROGRAM'

@@ -11,9 +11,11 @@ top=$(cd "$(dirname "$0")/.." && pwd)
 work=$(mktemp -d)
 trap 'rm -rf "$work"' EXIT
 mkdir -p "$work/crates/world_bench/src"
-for crate in cl_types cl_c32 cl_arith cl_values cl_codec cl_maps cl_tokens cl_events cl_tables cl_state; do
+for crate in cl_types cl_c32 cl_arith cl_values cl_codec cl_maps cl_keyed cl_tokens cl_events cl_tables cl_state; do
     mkdir -p "$work/crates/$crate/out"
-    cp -r "$top/crates/$crate/src" "$top/crates/$crate/specs" "$top/crates/$crate/proofs" "$work/crates/$crate"
+    for part in src specs proofs; do
+        [ ! -d "$top/crates/$crate/$part" ] || cp -r "$top/crates/$crate/$part" "$work/crates/$crate"
+    done
     [ ! -d "$top/crates/$crate/out/rlib" ] || cp -a "$top/crates/$crate/out/rlib" "$work/crates/$crate/out"
     grep "^$crate:" "$top/crates.txt" >>"$work/crates.txt"
 done

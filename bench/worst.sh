@@ -5,7 +5,7 @@
 # (as the input is twice as long, 2 is linear, 4 isn't), and at the last two sizes the peak bytes that a byte of input adds. A run
 # has at most 120 seconds and 6 GiB. Rows that begin with `again` write to the same places again and again. Behind them, with `cc`,
 # floods: keys that are chosen to collide, beside as many ordinary ones, and how many times the seconds of these they take. With
-# --strict it fails where a flood takes more than 3 times as long, as floods do today, or an `again` more than 64 MiB.
+# --strict it fails where a flood takes more than 3 times as long, or an `again` more than 64 MiB.
 # Words: only the rows whose names begin with one of them. Run by hand, half an hour; python3 measures.
 # Usage: bench/worst.sh [--strict] [ROW..]
 set -eu

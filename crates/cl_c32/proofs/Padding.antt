@@ -32,3 +32,6 @@ pub put_mid-filled : (a b : List ℕ) → length a ≡ 20 → put_mid 20 4 (a ++
 put_mid-filled a b l =
     let rest = 0 ∷ 0 ∷ 0 ∷ 0 ∷ [] in
     (λ i. take_at a rest 20 l i ++ (b ++ drop 4 (drop_at a rest 20 l i))) ∙ ap (λ xs. a ++ xs) (append-nil b)
+
+pub put_mid-behind : (a b s : List ℕ) (i n : ℕ) → length a ≡ i → put_mid i n (a ++ s) b ≡ a ++ (b ++ drop n s)
+put_mid-behind a b s i n l = λ j. take_at a s i l j ++ (b ++ drop n (drop_at a s i l j))

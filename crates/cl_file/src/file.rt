@@ -20,6 +20,7 @@ use crate::{Entry, TxFile, TxRefusal};
 use cl_c32::Principal;
 use cl_costs::CostTable;
 use cl_json::parse;
+use cl_keyed::HashKey;
 use cl_types::Fault;
 use indexmap::IndexMap;
 use serde_json::Value;
@@ -97,7 +98,7 @@ fn entries_of(alloc: Global, known: &mut Addresses, list: &[Value]) -> Read<Vec<
 fn lists_behind(
     alloc: Global,
     known: &mut Addresses,
-    held: &IndexMap<Principal, u128>,
+    held: &IndexMap<Principal, u128, HashKey>,
     epochs: &[Value],
     list: &[Value],
 ) -> Read<(Vec<(u64, CostTable)>, Vec<Entry>)>
@@ -126,6 +127,7 @@ fn lists_behind(
 
 fn file_by(
     alloc: Global,
+    hash_key: HashKey,
     known: &mut Addresses,
     genesis: &[Value],
     epochs: &[Value],
@@ -138,12 +140,12 @@ fn file_by(
         (λ r. file_by v.of (items_view genesis.now) (items_view epochs.now) (items_view list.now)
         ≡ Err r) }
 {
-    let held = holders(alloc, known, genesis, "/genesis")?;
+    let held = holders(alloc, hash_key, known, genesis, "/genesis")?;
     let (begun, read) = lists_behind(alloc, known, &held, epochs, list)?;
     Ok(TxFile::new(held, begun, read))
 }
 
-fn members_of(alloc: Global, value: &Value) -> Read<TxFile>
+fn members_of(alloc: Global, hash_key: HashKey, value: &Value) -> Read<TxFile>
     ensures found { (v : Texts) → IfOk result (λ f. members_of v.of (view value.now) ≡ Ok f) }
     ensures broken { (v : Texts) → IfRefused result
         (λ r. members_of v.of (view value.now) ≡ Err r) }
@@ -152,10 +154,10 @@ fn members_of(alloc: Global, value: &Value) -> Read<TxFile>
     let genesis = array(alloc, value, "", "genesis")?;
     let list = array(alloc, value, "", "entries")?;
     let mut known = Addresses::new(alloc)?;
-    file_by(alloc, &mut known, genesis, &[], list)
+    file_by(alloc, hash_key, &mut known, genesis, &[], list)
 }
 
-fn second_members_of(alloc: Global, value: &Value) -> Read<TxFile>
+fn second_members_of(alloc: Global, hash_key: HashKey, value: &Value) -> Read<TxFile>
     ensures found { (v : Texts) → IfOk result
         (λ f. second_members_of v.of (view value.now) ≡ Ok f) }
     ensures broken { (v : Texts) → IfRefused result
@@ -166,11 +168,11 @@ fn second_members_of(alloc: Global, value: &Value) -> Read<TxFile>
     let epochs = array(alloc, value, "", "epochs")?;
     let list = array(alloc, value, "", "entries")?;
     let mut known = Addresses::new(alloc)?;
-    file_by(alloc, &mut known, genesis, epochs, list)
+    file_by(alloc, hash_key, &mut known, genesis, epochs, list)
 }
 
 #[tactic(auto, unfolding(crate::specs::Files::file_in))]
-fn file_in(alloc: Global, value: &Value) -> Read<TxFile>
+fn file_in(alloc: Global, hash_key: HashKey, value: &Value) -> Read<TxFile>
     ensures found { (v : Texts) → IfOk result (λ f. file_in v.of (view value.now) ≡ Ok f) }
     ensures broken { (v : Texts) → IfRefused result
         (λ r. file_in v.of (view value.now) ≡ Err r) }
@@ -179,10 +181,10 @@ fn file_in(alloc: Global, value: &Value) -> Read<TxFile>
         return Err(Fault::Refused(TxRefusal::NotJson));
     }
     if has_version(value, 1) {
-        return members_of(alloc, value);
+        return members_of(alloc, hash_key, value);
     }
     if has_version(value, 2) {
-        return second_members_of(alloc, value);
+        return second_members_of(alloc, hash_key, value);
     }
     Err(Fault::Refused(TxRefusal::Version))
 }
@@ -193,7 +195,7 @@ fn read_text(alloc: Global, bytes: &[u8]) -> Read<TxFile>
     ensures broken { (v : Texts) → IfRefused result (λ r. file_of v.of bytes.now ≡ Err r) }
 {
     match parse(alloc, bytes) {
-        Ok(value) => file_in(alloc, &value),
+        Ok(value) => file_in(alloc, HashKey::of(bytes), &value),
         Err(Fault::Refused(_)) => Err(Fault::Refused(TxRefusal::NotJson)),
         Err(Fault::NoMemory) => Err(Fault::NoMemory),
     }
@@ -202,7 +204,7 @@ fn read_text(alloc: Global, bytes: &[u8]) -> Read<TxFile>
 /// Reads a transaction file of version 1 or 2: the file, or its first fault. Tests come in this
 /// order: the text is JSON and an object; the version is 1 or 2; the top members; the holders in
 /// their order; their sum; the number of epochs; the epochs in their order; the number of entries;
-/// the entries in their order. A file of version 1 has no epochs.
+/// the entries in their order. A file of version 1 has no epochs. The table of the holders hashes by the key of these bytes.
 pub fn read(alloc: Global, bytes: &[u8]) -> Result<TxFile, Fault<TxRefusal>>
     ensures found { IfOk result (λ f. FileReads bytes.now (Ok f)) }
     ensures broken { IfRefused result (λ r. FileReads bytes.now (Err r)) }

@@ -16,12 +16,13 @@ use crate::object::only;
 use crate::path::{Read, field, place};
 use crate::spelling::principal;
 use cl_c32::{Address, ContractName, Principal};
+use cl_keyed::HashKey;
 use cl_types::NoMemory;
 use indexmap::IndexMap;
 use serde_json::Value;
 use std::alloc::Global;
 
-type Holders = IndexMap<Principal, u128>;
+type Holders = IndexMap<Principal, u128, HashKey>;
 
 fn holds(holders: &Holders, principal: &Principal) -> bool
     ensures { result ≡ holds holders.now.entries principal.now }
@@ -144,9 +145,10 @@ fn fill(
     Ok(())
 }
 
-/// The holders of an array at the path.
+/// The holders of an array at the path, in a table that hashes by the key.
 pub(crate) fn holders(
     alloc: Global,
+    hash_key: HashKey,
     known: &mut Addresses,
     list: &[Value],
     path: &str,
@@ -157,7 +159,7 @@ pub(crate) fn holders(
         (λ r. each_from (holder_at v.of) path.now [] 0 (items_view list.now) ≡ Err r) }
     ensures once { IfOk result (λ h. AreOnce [] h.entries) }
 {
-    let mut held = IndexMap::new(alloc);
+    let mut held = IndexMap::with_hasher(alloc, hash_key);
     fill(alloc, known, &mut held, list, path)?;
     Ok(held)
 }

@@ -8,6 +8,7 @@ use crate::Entry;
 use crate::holders::listed;
 use cl_c32::Principal;
 use cl_costs::CostTable;
+use cl_keyed::HashKey;
 use cl_types::NoMemory;
 use indexmap::IndexMap;
 use std::alloc::Global;
@@ -17,7 +18,7 @@ use std::marker::Model;
 /// 100,000. What the holders have together is below 2^128, the heights of epochs are at least 1 and
 /// rise strictly, and those of blocks never fall.
 pub struct TxFile {
-    genesis: IndexMap<Principal, u128>,
+    genesis: IndexMap<Principal, u128, HashKey>,
     epochs: Vec<(u64, CostTable)>,
     entries: Vec<Entry>,
 }
@@ -68,7 +69,7 @@ impl Model for TxFile {
 impl TxFile {
     /// The file of these holders, epochs and entries.
     pub fn new(
-        genesis: IndexMap<Principal, u128>,
+        genesis: IndexMap<Principal, u128, HashKey>,
         epochs: Vec<(u64, CostTable)>,
         entries: Vec<Entry>,
     ) -> TxFile
@@ -88,6 +89,12 @@ impl TxFile {
             epochs,
             entries,
         }
+    }
+
+    /// The key by which the table of the holders hashes, and by which others over this file may: that of the file's bytes, where it
+    /// was read.
+    pub fn hash_key(&self) -> HashKey {
+        *self.genesis.hasher()
     }
 
     /// The holders of the first state, each once, with their STX.

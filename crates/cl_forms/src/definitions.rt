@@ -17,6 +17,7 @@ use crate::item::Item;
 use crate::kind::Draft;
 use crate::reserved::is_reserved;
 use crate::version::Version;
+use cl_keyed::HashKey;
 use cl_sexpr::{Break, Refusal, Rule, Sexpr, Span};
 use cl_types::{Fault, Name};
 use indexmap::{IndexMap, IndexSet};
@@ -26,11 +27,15 @@ use std::alloc::{AllocError, Global};
 #[derive(Drop)]
 struct Names {
     version: Version,
-    first: IndexMap<Name, usize>,
+    first: IndexMap<Name, usize, HashKey>,
 }
 
 /// Notes where a name is defined first.
-fn note(names: &mut IndexMap<Name, usize>, place: usize, item: &Item) -> Result<(), AllocError>
+fn note(
+    names: &mut IndexMap<Name, usize, HashKey>,
+    place: usize,
+    item: &Item,
+) -> Result<(), AllocError>
     ensures { OnOk result ((x : List ℕ) → lookup same names.new x
         ≡ option_or (lookup same names.old x) (if defines x (plain_item item.now) then Some place else None)) }
 {
@@ -43,10 +48,14 @@ fn note(names: &mut IndexMap<Name, usize>, place: usize, item: &Item) -> Result<
 }
 
 /// Where each name is defined first.
-fn first_places(alloc: Global, entries: &[Entry]) -> Result<IndexMap<Name, usize>, AllocError>
+fn first_places(
+    alloc: Global,
+    hash_key: HashKey,
+    entries: &[Entry],
+) -> Result<IndexMap<Name, usize, HashKey>, AllocError>
     ensures { IfOk result (λ names. (x : List ℕ) → lookup same names x ≡ first_from 0 (map (λ e. plain_item e.item) entries.now) x) }
 {
-    let mut names = IndexMap::new(alloc);
+    let mut names = IndexMap::with_hasher(alloc, hash_key);
     for (place, entry) in entries.iter().enumerate() {
         note(&mut names, place, &entry.item)?;
     }
@@ -82,10 +91,10 @@ fn has_reserved(version: Version, name: &Name, params: &[(Name, Sexpr)]) -> bool
     any_reserved(version, params)
 }
 
-fn repeats(alloc: Global, params: &[(Name, Sexpr)]) -> Result<bool, AllocError>
+fn repeats(alloc: Global, hash_key: HashKey, params: &[(Name, Sexpr)]) -> Result<bool, AllocError>
     ensures { IfOk result (λ b. b ≡ stands_twice (map (λ p. p.0) params.now)) }
 {
-    let mut seen = IndexSet::new(alloc);
+    let mut seen = IndexSet::with_hasher(alloc, hash_key);
     for param in params {
         if seen.contains(&param.0) {
             return Ok(true);
@@ -95,7 +104,7 @@ fn repeats(alloc: Global, params: &[(Name, Sexpr)]) -> Result<bool, AllocError>
     Ok(false)
 }
 
-fn any_defined(names: &IndexMap<Name, usize>, params: &[(Name, Sexpr)]) -> bool
+fn any_defined(names: &IndexMap<Name, usize, HashKey>, params: &[(Name, Sexpr)]) -> bool
     ensures { result ≡ list_any (λ p. is_some (lookup same names.now p)) (map (λ p. p.0) params.now) }
 {
     for param in params {
@@ -106,7 +115,7 @@ fn any_defined(names: &IndexMap<Name, usize>, params: &[(Name, Sexpr)]) -> bool
     false
 }
 
-fn is_before(names: &IndexMap<Name, usize>, place: usize, name: &Name) -> bool
+fn is_before(names: &IndexMap<Name, usize, HashKey>, place: usize, name: &Name) -> bool
     ensures { result ≡ is_before place (lookup same names.now name.now) }
 {
     match names.get(name) {
@@ -117,7 +126,7 @@ fn is_before(names: &IndexMap<Name, usize>, place: usize, name: &Name) -> bool
 
 fn is_used(
     alloc: Global,
-    names: &IndexMap<Name, usize>,
+    names: &IndexMap<Name, usize, HashKey>,
     place: usize,
     name: &Name,
     params: &[(Name, Sexpr)],
@@ -127,7 +136,7 @@ fn is_used(
     if is_before(names, place, name) {
         return Ok(true);
     }
-    if repeats(alloc, params)? {
+    if repeats(alloc, *names.hasher(), params)? {
         return Ok(true);
     }
     Ok(any_defined(names, params))
@@ -291,12 +300,17 @@ fn forms_or_break(
     Ok(forms)
 }
 
-fn forms_of(alloc: Global, items: Vec<Sexpr>, version: Version) -> Result<Vec<Form>, Fault<Break>>
+fn forms_of(
+    alloc: Global,
+    hash_key: HashKey,
+    items: Vec<Sexpr>,
+    version: Version,
+) -> Result<Vec<Form>, Fault<Break>>
     ensures found { IfOk result (λ v. AreForms version items.items v.items) }
     ensures broken { IfRefused result (IsFirstBreak version items.items) }
 {
     let entries = look_at_all(alloc, items)?;
-    let first = first_places(alloc, &entries)?;
+    let first = first_places(alloc, hash_key, &entries)?;
     let names = Names { version, first };
     forms_or_break(alloc, &names, entries)
 }
@@ -305,18 +319,34 @@ fn forms_of(alloc: Global, items: Vec<Sexpr>, version: Version) -> Result<Vec<Fo
 ///
 /// An earlier item goes first, then within an item the span that ends first, then the rule with the least number: so a
 /// name that is left out (F4) is refused before what is wrong with its item. A definition is read by its shape (SIP-002);
-/// numbers in types are taken by their value. It takes a time near linear in the size of the items, with a table of the
-/// names that are defined, and recurs only into brackets.
+/// numbers in types are taken by their value. It recurs only into brackets, and takes a time near linear in the size of the
+/// items where no stranger chose their names: its tables hash by the key that everybody knows.
 pub fn forms(
     alloc: Global,
     items: Vec<Sexpr>,
     version: Version,
 ) -> Result<Vec<Form>, Fault<Refusal>>
     ensures found { IfOk result (λ v. AreForms version items.items v.items) }
-    ensures broken { IfRefused result (λ r. IsFirstBreak version items.items (record { rule = r.rule; span = r.span })) }
+    ensures broken { IfRefused result
+        (λ r. IsFirstBreak version items.items (record { rule = r.rule; span = r.span })) }
     ensures nameless { IfRefused result (λ r. r.names.items ≡ []) }
 {
-    match forms_of(alloc, items, version) {
+    forms_with_hash_key(alloc, HashKey::FIXED, items, version)
+}
+
+/// The same, with tables of names that hash by this key.
+pub fn forms_with_hash_key(
+    alloc: Global,
+    hash_key: HashKey,
+    items: Vec<Sexpr>,
+    version: Version,
+) -> Result<Vec<Form>, Fault<Refusal>>
+    ensures found { IfOk result (λ v. AreForms version items.items v.items) }
+    ensures broken { IfRefused result
+        (λ r. IsFirstBreak version items.items (record { rule = r.rule; span = r.span })) }
+    ensures nameless { IfRefused result (λ r. r.names.items ≡ []) }
+{
+    match forms_of(alloc, hash_key, items, version) {
         Ok(forms) => Ok(forms),
         Err(Fault::Refused(broken)) => Err(Fault::Refused(Refusal::of(alloc, broken))),
         Err(Fault::NoMemory) => Err(Fault::NoMemory),

@@ -19,7 +19,7 @@ mod version;
 mod weights;
 mod word;
 
-pub use definitions::forms;
+pub use definitions::{forms, forms_with_hash_key};
 pub use form::{Form, FormKind};
 pub use head::{Head, TokenNative};
 pub use keyword::Keyword;

@@ -6,17 +6,27 @@ ghost use Rattle.cl_values.specs.Computed.{Gives};
 ghost use Rattle.cl_values.specs.Tree.{TupleV};
 ghost use Rattle.cl_values.specs.Tuples.{sorted_entries};
 
+use cl_keyed::HashKey;
 use cl_seq::tuple_of;
 use cl_types::{Fault, Name};
 use cl_values::{NoValue, Val};
 use indexmap::IndexSet;
 use std::alloc::{AllocError, Global};
 
+/// A key for the table of these keys.
+fn hash_key_of(entries: &[(Name, Val)]) -> HashKey {
+    let mut hash_key = HashKey::FIXED;
+    for entry in entries {
+        hash_key = hash_key.with_bytes(entry.0.bytes());
+    }
+    hash_key
+}
+
 /// Whether a key stands twice.
 fn repeats(alloc: Global, entries: &[(Name, Val)]) -> Result<bool, AllocError>
     ensures { IfOk result (λ twice. twice ≡ stands_twice (map (λ e. e.0) entries.now)) }
 {
-    let mut seen = IndexSet::new(alloc);
+    let mut seen = IndexSet::with_hasher(alloc, hash_key_of(entries));
     for entry in entries {
         if seen.contains(&entry.0) {
             return Ok(true);

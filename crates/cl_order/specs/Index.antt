@@ -1,15 +1,14 @@
 -- An index of forms by the names that they define.
 use Rattle.std.specs.Prelude.{◌≡◌, ℕ, Bool, true, false, List, [], ◌∷◌, Option, Some, None, Vec}
 use Rattle.std.specs.declared.alloc.Global.{Global}
-use Rattle.std.specs.declared.hash.BuildHasherDefault.{BuildHasherDefault}
-use Rattle.std.specs.declared.hash.FoldHasher.{FoldHasher}
 use Rattle.indexmap.specs.IndexMap.{IndexMap, get}
+use Rattle.cl_keyed.specs.declared.hash_key.HashKey.{HashKey}
 use Rattle.cl_forms.specs.Forms.{Form}
 use Rattle.cl_forms.specs.Names.{same, places_from}
 
 -- the rows of places, each under its name
 abbrev pub Rows : Type 0
-Rows = IndexMap (List ℕ) (Vec ℕ Global) (BuildHasherDefault FoldHasher)
+Rows = IndexMap (List ℕ) (Vec ℕ Global) HashKey
 
 -- the places of a row, none where there is no row
 abbrev pub listed : Option (Vec ℕ Global) → List ℕ

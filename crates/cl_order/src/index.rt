@@ -4,12 +4,13 @@ ghost use Rattle.cl_forms.specs.Names.{same, is_among};
 ghost use Rattle.cl_order.specs.Index.{place_if, under, IsIndex};
 
 use cl_forms::Form;
+use cl_keyed::HashKey;
 use cl_types::Name;
 use indexmap::IndexMap;
 use std::alloc::{AllocError, Global};
 
 /// The places of the forms that define each name, in the order of the text.
-pub(crate) type Index = IndexMap<Name, Vec<u32>>;
+pub(crate) type Index = IndexMap<Name, Vec<u32>, HashKey>;
 
 // Adds a place behind those of a name.
 fn add(index: &mut Index, alloc: Global, name: &Name, place: u32) -> Result<(), AllocError>
@@ -36,11 +37,11 @@ fn add_form(index: &mut Index, alloc: Global, form: &Form, place: u32) -> Result
 }
 
 /// The index of forms.
-pub(crate) fn index(alloc: Global, forms: &[Form]) -> Result<Index, AllocError>
+pub(crate) fn index(alloc: Global, hash_key: HashKey, forms: &[Form]) -> Result<Index, AllocError>
     requires { length forms.now < 2 ^ 32 }
     ensures { IfOk result (IsIndex forms.now) }
 {
-    let mut index = IndexMap::new(alloc);
+    let mut index = IndexMap::with_hasher(alloc, hash_key);
     for (place, form) in forms.iter().enumerate() {
         add_form(&mut index, alloc, form, place as u32)?;
     }

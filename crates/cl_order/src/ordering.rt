@@ -8,6 +8,7 @@ ghost use Rattle.cl_forms.specs.Cycle.{first_span, IsOfTheCycle};
 use crate::index::index;
 use crate::search::in_order;
 use cl_forms::Form;
+use cl_keyed::HashKey;
 use cl_sexpr::{Refusal, Rule, Span};
 use cl_types::{Fault, Name};
 use std::alloc::{AllocError, Global};
@@ -66,7 +67,8 @@ fn refusal(alloc: Global, forms: &[Form], cycle: &[u32]) -> Result<Refusal, Allo
 /// Forms that name each other in a ring are refused by O1 `Cycle`: its span is that of the first form of the cycle that is
 /// met, and its names are those of the whole cycle, of which each form names the next, and the last names the first.
 ///
-/// The time is near linear in the forms and their atoms, and nothing recurs from form to form.
+/// Nothing recurs from form to form. The time is near linear in the forms and their atoms where no stranger chose their names:
+/// the table of these hashes by the key that everybody knows.
 pub fn order(alloc: Global, forms: &[Form]) -> Result<Vec<u32>, Fault<Refusal>>
     requires { length forms.now < 2 ^ 32 }
     ensures computed { IfOk result (λ order. ordered forms.now ≡ Ok order.items) }
@@ -74,7 +76,22 @@ pub fn order(alloc: Global, forms: &[Form]) -> Result<Vec<u32>, Fault<Refusal>>
     ensures cycle { IfRefused result (λ r. IsOfTheCycle forms.now r.rule r.span r.names.items) }
     ensures ring { IfRefused result (λ r. IsCycle forms.now r.names.items) }
 {
-    let index = index(alloc, forms)?;
+    order_with_hash_key(alloc, HashKey::FIXED, forms)
+}
+
+/// The same, with a table of names that hashes by this key.
+pub fn order_with_hash_key(
+    alloc: Global,
+    hash_key: HashKey,
+    forms: &[Form],
+) -> Result<Vec<u32>, Fault<Refusal>>
+    requires { length forms.now < 2 ^ 32 }
+    ensures computed { IfOk result (λ order. ordered forms.now ≡ Ok order.items) }
+    ensures good { IfOk result (λ order. IsGoodOrder forms.now order.items) }
+    ensures cycle { IfRefused result (λ r. IsOfTheCycle forms.now r.rule r.span r.names.items) }
+    ensures ring { IfRefused result (λ r. IsCycle forms.now r.names.items) }
+{
+    let index = index(alloc, hash_key, forms)?;
     match in_order(alloc, forms, &index) {
         Ok(order) => Ok(order),
         Err(Fault::Refused(cycle)) => Err(Fault::Refused(refusal(alloc, forms, &cycle)?)),

@@ -1,4 +1,5 @@
 //! Where the notes of a place are.
+use cl_keyed::HashKey;
 use cl_tables::Note;
 use cl_tokens::{Key, Stored, Table};
 use cl_types::NoMemory;
@@ -51,10 +52,10 @@ impl Drop for Hints {
 }
 
 impl Hints {
-    pub(crate) fn new(alloc: Global) -> Hints {
+    pub(crate) fn new(alloc: Global, hash_key: HashKey) -> Hints {
         Hints {
             alloc,
-            last: Table::new(alloc),
+            last: Table::new(alloc, hash_key),
             earlier: Vec::new(alloc),
             numbered: false,
             bytes: 0,
@@ -154,6 +155,6 @@ impl Hints {
         self.earlier.clear();
         self.numbered = false;
         self.bytes = 0;
-        self.last = Table::new(self.alloc);
+        self.last = Table::new(self.alloc, self.last.hash_key());
     }
 }

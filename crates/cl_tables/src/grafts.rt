@@ -15,6 +15,7 @@ use crate::place::Place;
 use crate::spot::Spot;
 use crate::tables::Tables;
 use crate::tokens::{Touched, is_valid};
+use cl_keyed::HashKey;
 use cl_tokens::{Fungible, Key, NonFungible, Stored, Table};
 use cl_types::NoMemory;
 use indexmap::IndexMap;
@@ -176,7 +177,7 @@ pub(crate) fn graft_entries(
         (λ t. t.content ≡ joined (names_entry spots.now) from.now.content old.now.content) }
 {
     let fronts = fronts_of(alloc, spots)?;
-    let mut table = Table::new(alloc);
+    let mut table = Table::new(alloc, old.hash_key());
     put_rows(&mut table, fronts.as_slice(), false, old.rows()?)?;
     put_rows(&mut table, fronts.as_slice(), true, from.rows()?)?;
     Ok(table)
@@ -205,7 +206,7 @@ fn is_token_in(at: &Place, spots: &[Spot]) -> bool
 
 // puts a token at a place, where it is as wanted whether the place is a spot
 fn put_token<L: Token>(
-    tokens: &mut IndexMap<Place, L>,
+    tokens: &mut IndexMap<Place, L, HashKey>,
     spots: &[Spot],
     wanted: bool,
     at: &Place,
@@ -227,10 +228,10 @@ fn put_token<L: Token>(
 
 // the last first, since of tokens at one place the first counts
 fn put_tokens<L: Token>(
-    tokens: &mut IndexMap<Place, L>,
+    tokens: &mut IndexMap<Place, L, HashKey>,
     spots: &[Spot],
     wanted: bool,
-    source: &IndexMap<Place, L>,
+    source: &IndexMap<Place, L, HashKey>,
 ) -> Result<(), NoMemory>
     requires { ArePlaced tokens.old.entries }
     ensures placed { OnOk result (ArePlaced tokens.new.entries) }
@@ -252,16 +253,16 @@ fn put_tokens<L: Token>(
 /// The tokens of one table, at the spots those of another.
 pub(crate) fn graft_tokens<L: Token>(
     alloc: Global,
-    old: &IndexMap<Place, L>,
-    from: &IndexMap<Place, L>,
+    old: &IndexMap<Place, L, HashKey>,
+    from: &IndexMap<Place, L, HashKey>,
     spots: &[Spot],
-) -> Result<IndexMap<Place, L>, NoMemory>
+) -> Result<IndexMap<Place, L, HashKey>, NoMemory>
     ensures placed { IfOk result (λ t. ArePlaced t.entries) }
     ensures joined { IfOk result
         (λ t. by_place t.entries ≡ joined (names_token spots.now)
         (by_place from.now.entries) (by_place old.now.entries)) }
 {
-    let mut tokens = IndexMap::new(alloc);
+    let mut tokens = IndexMap::with_hasher(alloc, *old.hasher());
     put_tokens(&mut tokens, spots, false, old)?;
     put_tokens(&mut tokens, spots, true, from)?;
     Ok(tokens)
@@ -270,12 +271,12 @@ pub(crate) fn graft_tokens<L: Token>(
 /// A copy of the tokens.
 pub(crate) fn copy_tokens<L: Token>(
     alloc: Global,
-    old: &IndexMap<Place, L>,
-) -> Result<IndexMap<Place, L>, NoMemory>
+    old: &IndexMap<Place, L, HashKey>,
+) -> Result<IndexMap<Place, L, HashKey>, NoMemory>
     ensures placed { IfOk result (λ t. ArePlaced t.entries) }
     ensures same { IfOk result (λ t. by_place t.entries ≡ by_place old.now.entries) }
 {
-    let mut tokens = IndexMap::new(alloc);
+    let mut tokens = IndexMap::with_hasher(alloc, *old.hasher());
     put_tokens(&mut tokens, &[], false, old)?;
     Ok(tokens)
 }

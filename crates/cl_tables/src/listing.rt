@@ -12,6 +12,7 @@ use crate::held::HeldValue;
 use crate::place::Place;
 use crate::reading::{place_of, spot_of, value_of};
 use crate::row::{RowKind, StateRow};
+use cl_keyed::HashKey;
 use cl_tokens::{Fungible, Key, NonFungible, Table};
 use cl_types::NoMemory;
 use cl_values::{Kind, Val, Value, one_spelling, read_back};
@@ -226,7 +227,7 @@ fn add_nonfungible(
 pub(crate) fn add_fungibles(
     out: &mut Vec<StateRow>,
     alloc: Global,
-    tokens: &IndexMap<Place, Fungible>,
+    tokens: &IndexMap<Place, Fungible, HashKey>,
 ) -> Result<(), NoMemory>
     requires placed { ArePlaced (ledgers_of tokens.now.entries) }
     requires held { Each (λ key l. AreHeld l) (by_place (ledgers_of tokens.now.entries)) }
@@ -247,7 +248,7 @@ pub(crate) fn add_fungibles(
 pub(crate) fn add_nonfungibles(
     out: &mut Vec<StateRow>,
     alloc: Global,
-    tokens: &IndexMap<Place, NonFungible>,
+    tokens: &IndexMap<Place, NonFungible, HashKey>,
 ) -> Result<(), NoMemory>
     requires placed { ArePlaced (owners_of tokens.now.entries) }
     requires owned { Each (λ key m. AreOwned m) (by_place (owners_of tokens.now.entries)) }

@@ -31,6 +31,7 @@ use crate::tokens;
 use crate::tokens::Touched;
 use cl_c32::Principal;
 use cl_events::Asset;
+use cl_keyed::HashKey;
 use cl_tokens::{Act, AssetAct, Fungible, Key, NonFungible, Stored, Table, TokenRefusal};
 use cl_types::{Fault, NoMemory};
 use cl_values::Val;
@@ -41,8 +42,8 @@ use std::alloc::Global;
 pub struct Tables {
     pub(crate) variables: Table<HeldValue>,
     pub(crate) entries: Table<HeldValue>,
-    pub(crate) fungibles: IndexMap<Place, Fungible>,
-    pub(crate) nonfungibles: IndexMap<Place, NonFungible>,
+    pub(crate) fungibles: IndexMap<Place, Fungible, HashKey>,
+    pub(crate) nonfungibles: IndexMap<Place, NonFungible, HashKey>,
     pub(crate) stx: Fungible,
     pub(crate) fungibles_touched: Touched,
     pub(crate) nonfungibles_touched: Touched,
@@ -81,11 +82,15 @@ fn pay(alloc: Global, stx: &mut Fungible, who: &Principal, amount: u128) -> Resu
     Ok(())
 }
 
-fn paid(alloc: Global, holders: &[(Principal, u128)]) -> Result<Fungible, NoMemory>
+fn paid(
+    alloc: Global,
+    hash_key: HashKey,
+    holders: &[(Principal, u128)],
+) -> Result<Fungible, NoMemory>
     ensures paid { IfOk result (λ stx. stx.ledger ≡ holdings holders.now) }
     ensures held { IfOk result (λ stx. AreHeld stx.ledger) }
 {
-    let mut stx = Fungible::new(alloc, None);
+    let mut stx = Fungible::with_hash_key(alloc, hash_key, None);
     let mut i = holders.len();
     while i > 0 {
         i -= 1;
@@ -96,21 +101,30 @@ fn paid(alloc: Global, holders: &[(Principal, u128)]) -> Result<Fungible, NoMemo
 }
 
 impl Tables {
-    /// The first tables of a node.
-    pub fn genesis(alloc: Global, holders: &[(Principal, u128)]) -> Result<Tables, NoMemory>
+    /// The first tables of a node, which hash by this key.
+    pub fn genesis(
+        alloc: Global,
+        hash_key: HashKey,
+        holders: &[(Principal, u128)],
+    ) -> Result<Tables, NoMemory>
         ensures state { IfOk result (λ t. state_of (held_in t) ≡ genesis holders.now) }
         ensures sound { IfOk result (λ t. IsSound (held_in t)) }
     {
-        let stx = paid(alloc, holders)?;
+        let stx = paid(alloc, hash_key, holders)?;
         Ok(Tables {
-            variables: Table::new(alloc),
-            entries: Table::new(alloc),
-            fungibles: IndexMap::new(alloc),
-            nonfungibles: IndexMap::new(alloc),
+            variables: Table::new(alloc, hash_key),
+            entries: Table::new(alloc, hash_key),
+            fungibles: IndexMap::with_hasher(alloc, hash_key),
+            nonfungibles: IndexMap::with_hasher(alloc, hash_key),
             stx,
             fungibles_touched: Touched::none(),
             nonfungibles_touched: Touched::none(),
         })
+    }
+
+    /// The key by which the tables hash.
+    pub fn hash_key(&self) -> HashKey {
+        self.entries.hash_key()
     }
 
     /// What a variable of this key holds.
@@ -304,7 +318,8 @@ impl Tables {
         ensures noted { IfOk result (λ note. Changes note self.old self.new) }
         ensures refused { OnErr result (Stays self.old self.new) }
     {
-        tokens::define(&mut self.fungibles, at, Fungible::new(alloc, cap))?;
+        let token = Fungible::with_hash_key(alloc, self.hash_key(), cap);
+        tokens::define(&mut self.fungibles, at, token)?;
         Ok(Note::FungibleDefined)
     }
 
@@ -316,7 +331,8 @@ impl Tables {
         ensures noted { IfOk result (λ note. Changes note self.old self.new) }
         ensures refused { OnErr result (Stays self.old self.new) }
     {
-        tokens::define(&mut self.nonfungibles, at, NonFungible::new(alloc))?;
+        let token = NonFungible::with_hash_key(alloc, self.hash_key());
+        tokens::define(&mut self.nonfungibles, at, token)?;
         Ok(Note::NonFungibleDefined)
     }
 

@@ -11,6 +11,7 @@ ghost use Rattle.cl_tables.specs.Numbered.{by_place, value_at, IsNumbered, IsNow
 ghost use Rattle.cl_tables.specs.Notes.{IsRefusedBy, Keeps};
 
 use crate::place::Place;
+use cl_keyed::HashKey;
 use cl_tokens::{Act, AssetAct, Fungible, Key, NonFungible, TokenRefusal};
 use cl_types::{Fault, NoMemory};
 use indexmap::IndexMap;
@@ -50,7 +51,7 @@ pub(crate) fn is_valid(at: &Place)
 }
 
 /// The number of the token that has a place.
-pub(crate) fn number_of<L>(tokens: &IndexMap<Place, L>, at: &Place) -> Option<usize>
+pub(crate) fn number_of<L>(tokens: &IndexMap<Place, L, HashKey>, at: &Place) -> Option<usize>
     requires { ArePlaced tokens.now.entries }
     ensures { IsNumbered (key_of at.now) tokens.now.entries result }
 {
@@ -59,7 +60,7 @@ pub(crate) fn number_of<L>(tokens: &IndexMap<Place, L>, at: &Place) -> Option<us
 }
 
 /// The token that has a place.
-pub(crate) fn token_at<'a, L>(tokens: &'a IndexMap<Place, L>, at: &Place) -> Option<&'a L>
+pub(crate) fn token_at<'a, L>(tokens: &'a IndexMap<Place, L, HashKey>, at: &Place) -> Option<&'a L>
     requires { ArePlaced tokens.now.entries }
     ensures { option_copied result ≡ get (key_of at.now) (by_place tokens.now.entries) }
 {
@@ -69,7 +70,7 @@ pub(crate) fn token_at<'a, L>(tokens: &'a IndexMap<Place, L>, at: &Place) -> Opt
 
 /// Puts a token behind the others.
 pub(crate) fn define<L: Drop>(
-    tokens: &mut IndexMap<Place, L>,
+    tokens: &mut IndexMap<Place, L, HashKey>,
     at: &Place,
     token: L,
 ) -> Result<(), NoMemory>
@@ -85,7 +86,7 @@ pub(crate) fn define<L: Drop>(
 }
 
 /// Takes the last token away.
-pub(crate) fn undefine<L: Drop>(tokens: &mut IndexMap<Place, L>)
+pub(crate) fn undefine<L: Drop>(tokens: &mut IndexMap<Place, L, HashKey>)
     requires { 0 < length tokens.old.entries }
     ensures { (e : Place × L) × (tokens.old.entries ≡ tokens.new.entries ++ e ∷ []) }
 {
@@ -112,7 +113,7 @@ pub(crate) fn perform(ledger: &mut Fungible, act: &Act) -> Result<(), Fault<Toke
 
 /// Does an act on the ledger of this number.
 pub(crate) fn perform_at(
-    tokens: &mut IndexMap<Place, Fungible>,
+    tokens: &mut IndexMap<Place, Fungible, HashKey>,
     number: usize,
     act: &Act,
 ) -> Result<(), Fault<TokenRefusal>>
@@ -132,7 +133,7 @@ pub(crate) fn perform_at(
 }
 
 /// Takes an act on the ledger of this number back.
-pub(crate) fn undo_at(tokens: &mut IndexMap<Place, Fungible>, number: usize, act: &Act)
+pub(crate) fn undo_at(tokens: &mut IndexMap<Place, Fungible, HashKey>, number: usize, act: &Act)
     requires within { number < length tokens.old.entries }
     requires ready { HasGiver (value_at no_ledger tokens.old.entries number).room act.now }
     ensures ledger { (value_at no_ledger tokens.new.entries number).ledger ≡ undone act.now (value_at no_ledger tokens.old.entries number).ledger }
@@ -167,7 +168,7 @@ fn transfer(
 
 /// Does an act on an asset of the token of this number, and gives who owned it before.
 pub(crate) fn transfer_at(
-    tokens: &mut IndexMap<Place, NonFungible>,
+    tokens: &mut IndexMap<Place, NonFungible, HashKey>,
     number: usize,
     asset: &Key,
     act: AssetAct,
@@ -189,7 +190,7 @@ pub(crate) fn transfer_at(
 
 /// Gives an asset of the token of this number back to who owned it, or to nobody.
 pub(crate) fn restore_at(
-    tokens: &mut IndexMap<Place, NonFungible>,
+    tokens: &mut IndexMap<Place, NonFungible, HashKey>,
     number: usize,
     asset: &Key,
     owner: Option<Key>,
@@ -206,7 +207,7 @@ pub(crate) fn restore_at(
     owners.restore(asset, owner);
 }
 
-fn tidy_ledger(tokens: &mut IndexMap<Place, Fungible>, number: usize)
+fn tidy_ledger(tokens: &mut IndexMap<Place, Fungible, HashKey>, number: usize)
     ensures { ledgers_of tokens.new.entries ≡ ledgers_of tokens.old.entries }
 {
     if let Some(ledger) = tokens.get_index_mut(number) {
@@ -215,7 +216,7 @@ fn tidy_ledger(tokens: &mut IndexMap<Place, Fungible>, number: usize)
 }
 
 /// Takes away the slots of those who hold nothing, where these may outnumber the others. Takes no memory.
-pub(crate) fn tidy_ledgers(tokens: &mut IndexMap<Place, Fungible>, touched: Touched)
+pub(crate) fn tidy_ledgers(tokens: &mut IndexMap<Place, Fungible, HashKey>, touched: Touched)
     ensures { ledgers_of tokens.new.entries ≡ ledgers_of tokens.old.entries }
 {
     let mut number = touched.first;
@@ -225,7 +226,7 @@ pub(crate) fn tidy_ledgers(tokens: &mut IndexMap<Place, Fungible>, touched: Touc
     }
 }
 
-fn tidy_assets(tokens: &mut IndexMap<Place, NonFungible>, number: usize)
+fn tidy_assets(tokens: &mut IndexMap<Place, NonFungible, HashKey>, number: usize)
     ensures { owners_of tokens.new.entries ≡ owners_of tokens.old.entries }
 {
     if let Some(owners) = tokens.get_index_mut(number) {
@@ -234,7 +235,7 @@ fn tidy_assets(tokens: &mut IndexMap<Place, NonFungible>, number: usize)
 }
 
 /// Takes away the slots of assets that nobody owns, where these may outnumber the others. Takes no memory.
-pub(crate) fn tidy_owners(tokens: &mut IndexMap<Place, NonFungible>, touched: Touched)
+pub(crate) fn tidy_owners(tokens: &mut IndexMap<Place, NonFungible, HashKey>, touched: Touched)
     ensures { owners_of tokens.new.entries ≡ owners_of tokens.old.entries }
 {
     let mut number = touched.first;

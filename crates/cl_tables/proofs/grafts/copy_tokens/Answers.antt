@@ -14,4 +14,4 @@ returns-clause-same g c =
     let test = λ (key : List ℕ). list_any (is_token_at key) none in
     let old = c.args.old.now.entries in
     tokens_copied test old (by_place c.put_tokens.new.tokens.entries) (λ q. refl)
-    (c.in_ok-put_tokens.ensures.put ∙ ap (with_tokens (is_wanted false test) old) (ap by_place c.new-tokens.ensures.empty ∙ by_place_none))
+    (c.in_ok-put_tokens.ensures.put ∙ ap (with_tokens (is_wanted false test) old) (ap by_place c.with_hasher-tokens.ensures.empty ∙ by_place_none))

@@ -12,4 +12,4 @@ returns-clause-joined g c =
     let test = λ (key : List ℕ). list_any (is_token_at key) c.args.spots.now in
     let old = c.args.old.now.entries in
     tokens_joined test c.args.from.now.entries old (by_place c.put_tokens.new.tokens.entries) (by_place c.put_tokens-2.new.tokens.entries)
-    (c.in_ok-put_tokens.ensures.put ∙ ap (with_tokens (is_wanted false test) old) (ap by_place c.new-tokens.ensures.empty ∙ by_place_none)) c.in_ok-put_tokens-2.ensures.put
+    (c.in_ok-put_tokens.ensures.put ∙ ap (with_tokens (is_wanted false test) old) (ap by_place c.with_hasher-tokens.ensures.empty ∙ by_place_none)) c.in_ok-put_tokens-2.ensures.put

@@ -21,10 +21,10 @@ pub returns-in_err-define-clause-refused : goal.returns-in_err-define-clause-ref
 returns-in_err-define-clause-refused c = refused c.from_residual.result (fungible_unchanged (held_in c.args.self.now) (rooms_in c.args.self.now) c.args.self.now.fungibles.entries c.define.new.tokens.entries c.in_err-define.ensures.refused)
 
 pub returns-clause-state : goal.returns-clause-state
-returns-clause-state c = fungible_defined_state (held_in c.args.self.now) c.args.self.now.fungibles.entries c.define.new.tokens.entries c.args.at.now c.new.result (no_tokens c.args.cap) c.requires.new c.in_ok-define.ensures.done c.new.ensures.ledger
+returns-clause-state c = fungible_defined_state (held_in c.args.self.now) c.args.self.now.fungibles.entries c.define.new.tokens.entries c.args.at.now c.with_hash_key-token.result (no_tokens c.args.cap) c.requires.new c.in_ok-define.ensures.done c.with_hash_key-token.ensures.ledger
 
 pub returns-clause-noted : goal.returns-clause-noted
 returns-clause-noted c =
-    let state = fungible_defined_state (held_in c.args.self.now) c.args.self.now.fungibles.entries c.define.new.tokens.entries c.args.at.now c.new.result (no_tokens c.args.cap) c.requires.new c.in_ok-define.ensures.done c.new.ensures.ledger in
+    let state = fungible_defined_state (held_in c.args.self.now) c.args.self.now.fungibles.entries c.define.new.tokens.entries c.args.at.now c.with_hash_key-token.result (no_tokens c.args.cap) c.requires.new c.in_ok-define.ensures.done c.with_hash_key-token.ensures.ledger in
     let spelled = subst IsSpelled (sym state) (with_spelled_token (state_of (held_in c.args.self.now)) (key_of c.args.at.now) (no_tokens c.args.cap) c.requires.sound.spelled (nobody_holds c.args.cap)) in
-    fungible_defined (held_in c.args.self.now) (rooms_in c.args.self.now) c.args.self.now.fungibles.entries c.define.new.tokens.entries c.args.at.now c.new.result c.requires.sound spelled c.in_ok-define.ensures.valid c.in_ok-define.ensures.done
+    fungible_defined (held_in c.args.self.now) (rooms_in c.args.self.now) c.args.self.now.fungibles.entries c.define.new.tokens.entries c.args.at.now c.with_hash_key-token.result c.requires.sound spelled c.in_ok-define.ensures.valid c.in_ok-define.ensures.done

@@ -22,10 +22,10 @@ pub returns-in_err-define-clause-refused : goal.returns-in_err-define-clause-ref
 returns-in_err-define-clause-refused c = refused c.from_residual.result (nonfungible_unchanged (held_in c.args.self.now) (rooms_in c.args.self.now) c.args.self.now.nonfungibles.entries c.define.new.tokens.entries c.in_err-define.ensures.refused)
 
 pub returns-clause-state : goal.returns-clause-state
-returns-clause-state c = nonfungible_defined_state (held_in c.args.self.now) c.args.self.now.nonfungibles.entries c.define.new.tokens.entries c.args.at.now c.new.result c.requires.new c.in_ok-define.ensures.done c.new.ensures.owners
+returns-clause-state c = nonfungible_defined_state (held_in c.args.self.now) c.args.self.now.nonfungibles.entries c.define.new.tokens.entries c.args.at.now c.with_hash_key-token.result c.requires.new c.in_ok-define.ensures.done c.with_hash_key-token.ensures.owners
 
 pub returns-clause-noted : goal.returns-clause-noted
 returns-clause-noted c =
-    let state = nonfungible_defined_state (held_in c.args.self.now) c.args.self.now.nonfungibles.entries c.define.new.tokens.entries c.args.at.now c.new.result c.requires.new c.in_ok-define.ensures.done c.new.ensures.owners in
+    let state = nonfungible_defined_state (held_in c.args.self.now) c.args.self.now.nonfungibles.entries c.define.new.tokens.entries c.args.at.now c.with_hash_key-token.result c.requires.new c.in_ok-define.ensures.done c.with_hash_key-token.ensures.owners in
     let spelled = subst IsSpelled (sym state) (with_spelled_assets (state_of (held_in c.args.self.now)) (key_of c.args.at.now) empty c.requires.sound.spelled (none_in (λ key owner. IsAsset key × IsHolder owner))) in
-    nonfungible_defined (held_in c.args.self.now) (rooms_in c.args.self.now) c.args.self.now.nonfungibles.entries c.define.new.tokens.entries c.args.at.now c.new.result c.requires.sound spelled c.in_ok-define.ensures.valid c.in_ok-define.ensures.done
+    nonfungible_defined (held_in c.args.self.now) (rooms_in c.args.self.now) c.args.self.now.nonfungibles.entries c.define.new.tokens.entries c.args.at.now c.with_hash_key-token.result c.requires.sound spelled c.in_ok-define.ensures.valid c.in_ok-define.ensures.done

@@ -12,13 +12,13 @@ use Rattle.cl_tables.proofs.tables.Tables.genesis.Goals as goal
 
 pub returns-clause-state : goal.returns-clause-state
 returns-clause-state c =
-    (λ i. with_variables (c.new.ensures.content i) (with_entries (c.new-2.ensures.content i) (with_fungibles (by_place (ledgers_of (c.new-3.ensures.empty i))) (with_nonfungibles (by_place (owners_of (c.new-4.ensures.empty i))) (with_stx (c.in_ok-stx.ensures.paid i) empty_state)))))
+    (λ i. with_variables (c.new.ensures.content i) (with_entries (c.new-2.ensures.content i) (with_fungibles (by_place (ledgers_of (c.with_hasher.ensures.empty i))) (with_nonfungibles (by_place (owners_of (c.with_hasher-2.ensures.empty i))) (with_stx (c.in_ok-stx.ensures.paid i) empty_state)))))
     ∙ (λ i. with_fungibles (by_place_none i) (with_nonfungibles (by_place_none i) (genesis c.args.holders.now)))
 
 pub returns-clause-sound : goal.returns-clause-sound
 returns-clause-sound c = record {
   variables = subst (λ m. Each (λ k v. IsPlaceKey k) m) (sym c.new.ensures.content) (none_in (λ k v. IsPlaceKey k));
-  fungibles = subst (λ (es : List (Place × LedgerHeld)). ArePlaced (ledgers_of es)) (sym c.new-3.ensures.empty) tt;
-  nonfungibles = subst (λ (es : List (Place × Owned)). ArePlaced (owners_of es)) (sym c.new-4.ensures.empty) tt;
-  spelled = spelled_at_first c.new-2.result.content (ledgers_of c.new-3.result.entries) (owners_of c.new-4.result.entries) c.new.result.content c.in_ok-stx.stx.ledger c.new-2.ensures.content (ap ledgers_of c.new-3.ensures.empty) (ap owners_of c.new-4.ensures.empty) c.in_ok-stx.ensures.held;
+  fungibles = subst (λ (es : List (Place × LedgerHeld)). ArePlaced (ledgers_of es)) (sym c.with_hasher.ensures.empty) tt;
+  nonfungibles = subst (λ (es : List (Place × Owned)). ArePlaced (owners_of es)) (sym c.with_hasher-2.ensures.empty) tt;
+  spelled = spelled_at_first c.new-2.result.content (ledgers_of c.with_hasher.result.entries) (owners_of c.with_hasher-2.result.entries) c.new.result.content c.in_ok-stx.stx.ledger c.new-2.ensures.content (ap ledgers_of c.with_hasher.ensures.empty) (ap owners_of c.with_hasher-2.ensures.empty) c.in_ok-stx.ensures.held;
 }

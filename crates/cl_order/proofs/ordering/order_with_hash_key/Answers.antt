@@ -1,6 +1,6 @@
 use Rattle.cl_order.proofs.Good.{order_good}
 use Rattle.cl_order.proofs.Refused.{of_cycle_ring}
-use Rattle.cl_order.proofs.ordering.order.Goals as goal
+use Rattle.cl_order.proofs.ordering.order_with_hash_key.Goals as goal
 
 pub returns-in-Ok-clause-good : goal.returns-in-Ok-clause-good
 returns-in-Ok-clause-good c = order_good c.args.forms.now c.in-Ok.order.items c.in-Ok.ensures.order

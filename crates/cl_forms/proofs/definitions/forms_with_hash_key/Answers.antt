@@ -3,7 +3,7 @@ use Rattle.cl_types.specs.Fault.{IsRefusal}
 use Rattle.cl_types.specs.declared.fault.Fault.{Fault}
 use Rattle.cl_sexpr.specs.declared.rule.Break.{Break}
 use Rattle.cl_forms.specs.FormBreaks.{IsFirstBreak}
-use Rattle.cl_forms.proofs.definitions.forms.Goals as goal
+use Rattle.cl_forms.proofs.definitions.forms_with_hash_key.Goals as goal
 
 pub returns-in-Err-Refused-clause-broken : goal.returns-in-Err-Refused-clause-broken
 returns-in-Err-Refused-clause-broken c =
