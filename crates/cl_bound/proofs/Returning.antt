@@ -64,13 +64,13 @@ module _ (c : Contract) (k : Known) (known : IsKnownAs c k) (indexed : IsIndexed
   returns_so n (NonFungible d) there = tt
   returns_so n (TopLevel d) there = tt
 
-pub all_return : KnownAsDeployed → (d : Deployed) (callers : List Known) (i : ℕ) (p : Principal) (c : Contract) → AreIndexed d → Knows d callers → IsDistinct eq-value.it (keys_of d.contracts.entries) → slice_get d.contracts.entries i ≡ Some (p, c) → AllReturnAs (functions_at p callers) c.checked.definitions.items
+pub all_return : KnownAsDeployed → (d : Deployed) (callers : List Known) (i : ℕ) (p : Principal) (c : Contract) → AreIndexed d → Knows d callers → IsDistinct eq-value.it (keys_of d.contracts) → slice_get d.contracts i ≡ Some (p, c) → AllReturnAs (functions_at p callers) c.checked.definitions.items
 all_return law d callers i p c indexed knows distinct there =
-    by (contract_under p d.contracts.entries) (known_at p callers) (law d callers indexed knows p) (found_there d.contracts.entries i p c distinct there)
+    by (contract_under p d.contracts) (known_at p callers) (law d callers indexed knows p) (found_there d.contracts i p c distinct there)
   where
     by : (o : Option Contract) (q : Option Known) → AreKnownAs o q → o ≡ Some c → AllReturnAs (functions_of q) c.checked.definitions.items
     by None q h e = absurd cc
     by (Some e) None h is = absurd h
     by (Some e) (Some k) h is =
         let same : e ≡ c = cc in
-        returns_so c k (subst (λ (x : Contract). IsKnownAs x k) same h) (entry_at d.contracts.entries i (p, c) indexed.each there).indexed
+        returns_so c k (subst (λ (x : Contract). IsKnownAs x k) same h) (entry_at d.contracts i (p, c) indexed.each there).indexed

@@ -1,11 +1,11 @@
 //! The bounds of the functions of all deployed contracts, as a block gives them.
-ghost use Rattle.std.specs.Prelude.{◌≡◌, ◌++◌, List, OnOk, IfOk, option_map};
+ghost use Rattle.std.specs.Prelude.{◌≡◌, ◌++◌, List, [], OnOk, IfOk, map, option_map};
 ghost use Rattle.std.specs.List.{filter_map, flat_map};
 ghost use Rattle.cl_code.specs.Definitions.{form_defined};
 ghost use Rattle.cl_code.specs.declared.definition.Definition.TheVariants.{Function as AFunction};
 ghost use Rattle.cl_rules.specs.Context.{CostTable as Table, Known, Signature, signature_in};
-ghost use Rattle.cl_contracts.specs.Seen.{AreIndexed, contract_seen, deployed_seen, forms_of};
-ghost use Rattle.cl_contracts.specs.Standings.{Knows};
+ghost use Rattle.cl_contracts.specs.Seen.{AreEntries, contract_seen, deployed_seen, forms_of};
+ghost use Rattle.cl_contracts.specs.Standings.{AreStanding, Knows};
 ghost use Rattle.cl_tx.specs.Rebounds.{functions_at, line_of, rebound_line, rebounds_of};
 ghost use Rattle.cl_bound.specs.Known.{AreBounds};
 ghost use Rattle.cl_bound.specs.Seen.{ShowFunctions, ShowDeployed};
@@ -15,9 +15,11 @@ use crate::known::{ContractBounds, KnownBounds};
 use crate::repricing::reach_at;
 use cl_c32::Principal;
 use cl_code::{Definition, Function};
-use cl_contracts::{Checked, Contract, Deployed, what_callers_know};
+use cl_contracts::{Contract, Deployed, Parts, what_callers_know};
+use cl_keyed::HashKey;
 use cl_tx::Rebound;
 use cl_types::NoMemory;
+use indexmap::IndexMap;
 use std::alloc::Global;
 
 /// The line of a function of a contract.
@@ -65,17 +67,17 @@ fn push_lines(
     alloc: Global,
     lines: &mut Vec<Rebound>,
     bounds: &ContractBounds,
-    checked: &Checked,
+    parts: &Parts,
 ) -> Result<(), NoMemory>
     ensures { OnOk result ((table : Table) (fs : List Signature) →
-        let c = checked.now in
+        let c = parts.now in
         ShowFunctions table fs bounds.now.functions.entries →
         AllReturnAs fs c.definitions.items →
         let more = filter_map (rebound_line table c.principal fs) (forms_of c) in
         lines.new.items ≡ lines.old.items ++ more) }
 {
-    for definition in &checked.definitions {
-        if let Some(line) = definition_line(alloc, &checked.principal, bounds, definition)? {
+    for definition in &parts.definitions {
+        if let Some(line) = definition_line(alloc, &parts.principal, bounds, definition)? {
             lines.push(line)?;
         }
     }
@@ -96,10 +98,33 @@ fn push_contract(
         let more = rebounds_of table callers (contract_seen (c.principal, contract.now)) in
         lines.new.items ≡ lines.old.items ++ more) }
 {
-    match known.contracts.get(&contract.checked.principal) {
-        Some(bounds) => push_lines(alloc, lines, bounds, &contract.checked),
+    let own = contract.parts();
+    match known.contracts.get(&own.principal) {
+        Some(bounds) => push_lines(alloc, lines, bounds, own),
         None => Ok(()),
     }
+}
+
+/// The same of contracts by their principals, the oldest first, whose bounds are known.
+fn lines_of(
+    alloc: Global,
+    contracts: &IndexMap<Principal, Contract, HashKey>,
+    known: &KnownBounds,
+) -> Result<Vec<Rebound>, NoMemory>
+    requires { AreEntries contracts.now.entries }
+    ensures { IfOk result (λ lines. (table : Table) (callers : List Known) →
+        let es = contracts.now.entries in
+        AreStanding [] es callers → AreBounds table es known.now →
+        lines.items ≡ flat_map (rebounds_of table callers) (map contract_seen es)) }
+{
+    what_callers_know();
+    let mut lines = Vec::new(alloc);
+    for place in 0..contracts.len() {
+        if let Some((_principal, contract)) = contracts.get_index(place) {
+            push_contract(alloc, &mut lines, known, contract)?;
+        }
+    }
+    Ok(lines)
 }
 
 /// Each function of each deployed contract with its bound, in the order of the deployments and then
@@ -110,16 +135,9 @@ pub fn rebounds(
     known: &KnownBounds,
 ) -> Result<Vec<Rebound>, NoMemory>
     ensures { IfOk result (λ lines. (table : Table) (callers : List Known) →
-        AreIndexed deployed.now → Knows deployed.now callers →
-        AreBounds table deployed.now.contracts.entries known.now →
+        Knows deployed.now callers → AreBounds table deployed.now.contracts known.now →
         lines.items ≡ flat_map (rebounds_of table callers) (deployed_seen deployed.now)) }
 {
-    what_callers_know();
-    let mut lines = Vec::new(alloc);
-    for place in 0..deployed.contracts.len() {
-        if let Some((_principal, contract)) = deployed.contracts.get_index(place) {
-            push_contract(alloc, &mut lines, known, contract)?;
-        }
-    }
-    Ok(lines)
+    deployed.are_known();
+    lines_of(alloc, deployed.contracts(), known)
 }

@@ -26,8 +26,9 @@ use crate::known::{ContractBounds, KnownBounds};
 use crate::prices::{Application, Prices};
 use crate::stop::first_stop;
 use cl_code::Definition;
-use cl_contracts::{Checked, what_callers_know};
+use cl_contracts::{Checked, Parts, what_callers_know};
 use cl_costs::CostTable;
+use cl_keyed::HashKey;
 use cl_rules::the_first_bound_is_found;
 use cl_sexpr::{Break, Refusal, Rule};
 use cl_shapes::Cost5;
@@ -57,12 +58,16 @@ fn line(prices: &Prices, definition: &Definition) -> Option<(Name, Cost5)>
     }
 }
 
-/// Each function's name with its bound, in the order of the text, where no bound is above the limit.
-fn lines(alloc: Global, prices: &Prices, checked: &Checked) -> Result<Vec<(Name, Cost5)>, NoMemory>
-    ensures { IfOk result (λ lines. (D : Defined) → ShowsPrices prices.now D.context → Bounded D (forms_of checked.now) (function_of prices.now.costs) → lines.items ≡ filter_map (bound_line (function_of prices.now.costs) D) (forms_of checked.now)) }
+/// Each function's name with its bound, in the order of the text, where no bound is above the
+/// limit.
+fn lines(alloc: Global, prices: &Prices, parts: &Parts) -> Result<Vec<(Name, Cost5)>, NoMemory>
+    ensures { IfOk result (λ lines. (D : Defined) → ShowsPrices prices.now D.context →
+        Bounded D (forms_of parts.now) (function_of prices.now.costs) →
+        lines.items
+        ≡ filter_map (bound_line (function_of prices.now.costs) D) (forms_of parts.now)) }
 {
     let mut lines = Vec::new(alloc);
-    for definition in &checked.definitions {
+    for definition in &parts.definitions {
         if let Some(line) = line(prices, definition) {
             lines.push(line)?;
         }
@@ -71,32 +76,33 @@ fn lines(alloc: Global, prices: &Prices, checked: &Checked) -> Result<Vec<(Name,
 }
 
 /// The bounds of a contract's functions as they are kept for those that call it.
-fn kept(checked: &Checked, functions: IndexMap<Name, Application>) -> ContractBounds
-    ensures principal { result.principal ≡ checked.now.principal }
-    ensures length { result.length ≡ checked.now.source_length }
+fn kept(parts: &Parts, functions: IndexMap<Name, Application, HashKey>) -> ContractBounds
+    ensures principal { result.principal ≡ parts.now.principal }
+    ensures length { result.length ≡ parts.now.source_length }
     ensures functions { result.functions ≡ functions }
 {
     ContractBounds {
-        principal: checked.principal,
-        length: checked.source_length,
+        principal: parts.principal,
+        length: parts.source_length,
         functions,
     }
 }
 
-/// The same under a table, where `known` are the bounds of the contracts before it, under the same table.
+/// The same under a table, where `known` are the bounds of the contracts before it, under the same
+/// table.
 pub(crate) fn contract_bounds(
     alloc: Global,
-    checked: &Checked,
+    parts: &Parts,
     known: &KnownBounds,
     costs: &CostTable,
 ) -> Result<ContractBounds, NoMemory>
     ensures { IfOk result (λ bounds. (contracts : List (APrincipal × Contract)) →
         AreBounds (function_of costs.now) contracts known.now →
-        AreBoundsOf (function_of costs.now) contracts checked.now bounds) }
+        AreBoundsOf (function_of costs.now) contracts parts.now bounds) }
 {
-    let mut prices = Prices::new(alloc, costs, known, &checked.principal);
-    deployment(&mut prices, checked)?;
-    Ok(kept(checked, prices.functions))
+    let mut prices = Prices::new(alloc, costs, known, &parts.principal);
+    deployment(&mut prices, parts)?;
+    Ok(kept(parts, prices.functions))
 }
 
 /// The bounds of a contract: as they are told, and as they are kept for those that call it.
@@ -106,27 +112,45 @@ pub struct Priced {
     pub contract: ContractBounds,
 }
 
-/// The bounds of a deployment and of each function of a contract, the functions in the order of its text; or the first bound
-/// that is above 2^128-1 (`B1`): with the span of the function that it is of, by the order of evaluation, and in the first such
-/// dimension, or at no place if it is the deployment's. Each bound is computed once: those of deployed contracts are known, under
-/// the same table. What each function returns is `Function::returns`.
+/// The bounds of a deployment and of each function of a contract, the functions in the order of its
+/// text; or the first bound that is above 2^128-1 (`B1`): with the span of the function that it is
+/// of, by the order of evaluation, and in the first such dimension, or at no place if it is the
+/// deployment's. Each bound is computed once: those of deployed contracts are known, under the same
+/// table. What each function returns is `Function::returns`.
 pub fn bound(
     alloc: Global,
     checked: &Checked,
     known: &KnownBounds,
     costs: &CostTable,
 ) -> Result<Priced, Fault<Refusal>>
-    ensures bounded { IfOk result (λ priced. (deployed : Deployed) (callers : List Known) (D : Defined) → AreBounds (function_of costs.now) deployed.contracts.entries known.now → Knows deployed callers → StandsAfter callers checked.now D → Bounded D (forms_of checked.now) (function_of costs.now)) }
-    ensures told { IfOk result (λ priced. (deployed : Deployed) (callers : List Known) (D : Defined) → AreBounds (function_of costs.now) deployed.contracts.entries known.now → Knows deployed callers → StandsAfter callers checked.now D → (told_of (function_of costs.now) D (forms_of checked.now)).bounds ≡ Some priced.bounds) }
-    ensures kept { IfOk result (λ priced. (deployed : Deployed) → AreBounds (function_of costs.now) deployed.contracts.entries known.now → AreBoundsOf (function_of costs.now) deployed.contracts.entries checked.now priced.contract) }
-    ensures broken { IfRefused result (λ refusal. (dimension : ADimension) × (refusal.rule ≡ BoundTooLarge dimension) × ((deployed : Deployed) (callers : List Known) (D : Defined) → AreBounds (function_of costs.now) deployed.contracts.entries known.now → Knows deployed callers → StandsAfter callers checked.now D → IsFirstAboveLimit D (forms_of checked.now) checked.now.order.items (function_of costs.now) dimension refusal.span)) }
+    ensures bounded { IfOk result
+        (λ priced. (deployed : Deployed) (callers : List Known) (D : Defined) →
+        AreBounds (function_of costs.now) deployed.contracts known.now → Knows deployed callers →
+        StandsAfter callers checked.now D →
+        Bounded D (forms_of checked.now) (function_of costs.now)) }
+    ensures told { IfOk result
+        (λ priced. (deployed : Deployed) (callers : List Known) (D : Defined) →
+        AreBounds (function_of costs.now) deployed.contracts known.now → Knows deployed callers →
+        StandsAfter callers checked.now D →
+        (told_of (function_of costs.now) D (forms_of checked.now)).bounds ≡ Some priced.bounds) }
+    ensures kept { IfOk result (λ priced. (deployed : Deployed) →
+        AreBounds (function_of costs.now) deployed.contracts known.now →
+        AreBoundsOf (function_of costs.now) deployed.contracts checked.now priced.contract) }
+    ensures broken { IfRefused result (λ refusal. (dimension : ADimension)
+        × (refusal.rule ≡ BoundTooLarge dimension)
+        × ((deployed : Deployed) (callers : List Known) (D : Defined) →
+        AreBounds (function_of costs.now) deployed.contracts known.now → Knows deployed callers →
+        StandsAfter callers checked.now D →
+        IsFirstAboveLimit D (forms_of checked.now) checked.now.order.items (function_of costs.now)
+        dimension refusal.span)) }
     ensures names { IfRefused result (λ refusal. refusal.names.items ≡ []) }
 {
     what_callers_know();
     the_first_bound_is_found();
-    let mut prices = Prices::new(alloc, costs, known, &checked.principal);
-    let deployment = deployment(&mut prices, checked)?;
-    match first_stop(&prices, checked, &deployment) {
+    let own = checked.parts();
+    let mut prices = Prices::new(alloc, costs, known, &own.principal);
+    let deployment = deployment(&mut prices, own)?;
+    match first_stop(&prices, own, &deployment) {
         Some((dimension, span)) => Err(Fault::Refused(Refusal::of(
             alloc,
             Break {
@@ -135,13 +159,13 @@ pub fn bound(
             },
         ))),
         None => {
-            let functions = lines(alloc, &prices, checked)?;
+            let functions = lines(alloc, &prices, own)?;
             Ok(Priced {
                 bounds: Bounds {
                     deploy: deployment.saturated(),
                     functions: Row::new(functions),
                 },
-                contract: kept(checked, prices.functions),
+                contract: kept(own, prices.functions),
             })
         }
     }

@@ -19,29 +19,31 @@ ghost use Rattle.cl_bound.specs.Seen.{ShowsPrices};
 use crate::forms::{application, charges};
 use crate::prices::{Application, Prices};
 use cl_code::{Definition, Function};
-use cl_contracts::Checked;
+use cl_contracts::Parts;
+use cl_keyed::HashKey;
 use cl_shapes::CostName;
 use cl_sums::Sum;
 use cl_types::{Name, NoMemory};
 use indexmap::IndexMap;
 
 /// The definition at a place.
-pub(crate) fn definition_at(checked: &Checked, place: usize) -> Option<&Definition>
-    ensures { option_copied result ≡ slice_get checked.now.definitions.items place }
+pub(crate) fn definition_at(parts: &Parts, place: usize) -> Option<&Definition>
+    ensures { option_copied result ≡ slice_get parts.now.definitions.items place }
 {
-    checked.definitions.get(place)
+    parts.definitions.get(place)
 }
 
-/// Keeps an application under a name, which no other has.
+/// Keeps an application under a name, unless another has it.
 fn keep(
-    functions: &mut IndexMap<Name, Application>,
+    functions: &mut IndexMap<Name, Application, HashKey>,
     name: Name,
     application: Application,
 ) -> Result<(), NoMemory>
     ensures { OnOk result ((x : List ℕ) → lookup same functions.new x ≡ option_or (lookup same functions.old x) (if same x name then Some application else None)) }
 {
-    if !functions.contains_key(&name) {
-        functions.insert(name, application)?;
+    // One look-up where no other has the name, which is always so in what is checked.
+    if let Some(first) = functions.insert(name, application)? {
+        functions.insert(name, first)?;
     }
     Ok(())
 }
@@ -72,17 +74,21 @@ fn take_in(prices: &mut Prices, definition: &Definition) -> Result<Sum, NoMemory
     Ok(sum)
 }
 
-/// Takes in the definitions of a contract in the order of evaluation. Gives the bound of its deployment.
-pub(crate) fn deployment(prices: &mut Prices, checked: &Checked) -> Result<Sum, NoMemory>
+/// Takes in the definitions of a contract in the order of evaluation. Gives the bound of its
+/// deployment.
+pub(crate) fn deployment(prices: &mut Prices, parts: &Parts) -> Result<Sum, NoMemory>
     ensures costs { prices.new.costs ≡ prices.old.costs }
-    ensures defined { IfOk result (λ sum. (known : List Known) (principal : Principal) (E : Defined) →
-        let before = nothing_defined known principal checked.now.version checked.now.source_length in
-        ShowsPrices prices.old before.context → AllStand before (definitions_in_order checked.now) E →
-        ShowsPrices prices.new E.context × (sum ≡ told (cost_under (function_of prices.old.costs) E.deploy))) }
+    ensures defined { IfOk result
+        (λ sum. (known : List Known) (principal : Principal) (E : Defined) →
+        let before = nothing_defined known principal parts.now.version parts.now.source_length in
+        ShowsPrices prices.old before.context →
+        AllStand before (definitions_in_order parts.now) E →
+        ShowsPrices prices.new E.context
+        × (sum ≡ told (cost_under (function_of prices.old.costs) E.deploy))) }
 {
-    let mut sum = prices.charge_length(CostName::Deploy, checked.source_length);
-    for place in &checked.order {
-        if let Some(definition) = definition_at(checked, *place) {
+    let mut sum = prices.charge_length(CostName::Deploy, parts.source_length);
+    for place in &parts.order {
+        if let Some(definition) = definition_at(parts, *place) {
             let charge = take_in(prices, definition)?;
             sum = sum.add(&charge);
         }

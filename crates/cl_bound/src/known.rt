@@ -10,6 +10,7 @@ ghost use Rattle.cl_bound.specs.Known.{AreBounds, AreBoundsOf, HasRoom};
 
 use crate::prices::Application;
 use cl_c32::Principal;
+use cl_keyed::HashKey;
 use cl_types::{Name, NoMemory};
 use indexmap::IndexMap;
 use std::alloc::Global;
@@ -19,18 +20,18 @@ use std::alloc::Global;
 pub struct ContractBounds {
     pub(crate) principal: Principal,
     pub(crate) length: u32,
-    pub(crate) functions: IndexMap<Name, Application>,
+    pub(crate) functions: IndexMap<Name, Application, HashKey>,
 }
 
 /// The bounds of the deployed contracts, under one cost table.
 #[derive(Drop)]
 pub struct KnownBounds {
-    pub(crate) contracts: IndexMap<Principal, ContractBounds>,
+    pub(crate) contracts: IndexMap<Principal, ContractBounds, HashKey>,
 }
 
 /// Keeps a contract under a principal, unless one stands there.
 fn put(
-    contracts: &mut IndexMap<Principal, ContractBounds>,
+    contracts: &mut IndexMap<Principal, ContractBounds, HashKey>,
     principal: Principal,
     contract: ContractBounds,
 )
@@ -46,13 +47,25 @@ fn put(
 }
 
 impl KnownBounds {
-    /// No contracts.
+    /// No contracts. The tables hash by the key that everybody knows.
     pub fn new(alloc: Global) -> KnownBounds
         ensures { (table : CostTable) → AreBounds table [] result }
     {
+        KnownBounds::with_hash_key(alloc, HashKey::FIXED)
+    }
+
+    /// No contracts. The tables hash by this key.
+    pub fn with_hash_key(alloc: Global, hash_key: HashKey) -> KnownBounds
+        ensures { (table : CostTable) → AreBounds table [] result }
+    {
         KnownBounds {
-            contracts: IndexMap::new(alloc),
+            contracts: IndexMap::with_hasher(alloc, hash_key),
         }
+    }
+
+    /// The key by which the tables hash.
+    pub(crate) fn hash_key(&self) -> HashKey {
+        *self.contracts.hasher()
     }
 
     /// Makes room for one more contract.

@@ -17,6 +17,7 @@ use cl_c32::Principal;
 use cl_code::Target;
 use cl_contracts::contract_of_literal;
 use cl_costs::CostTable;
+use cl_keyed::HashKey;
 use cl_shapes::CostName;
 use cl_sums::Sum;
 use cl_types::{Access, Name};
@@ -36,11 +37,11 @@ pub(crate) struct Prices<'a> {
     pub(crate) costs: CostTable,
     pub(crate) deployed: &'a KnownBounds,
     pub(crate) principal: Principal,
-    pub(crate) functions: IndexMap<Name, Application>,
+    pub(crate) functions: IndexMap<Name, Application, HashKey>,
 }
 
 /// One application of a function that other contracts may call.
-fn callable(functions: &IndexMap<Name, Application>, name: &Name) -> Sum
+fn callable(functions: &IndexMap<Name, Application, HashKey>, name: &Name) -> Sum
     ensures { (table : Table) (fs : List Signature) → ShowFunctions table fs functions.now.entries → result ≡ told (cost_under table (applied (if_callable (signature_in name.now fs)))) }
 {
     match functions.get(name) {
@@ -69,7 +70,7 @@ impl<'a> Prices<'a> {
             costs: *costs,
             deployed,
             principal: *principal,
-            functions: IndexMap::new(alloc),
+            functions: IndexMap::with_hasher(alloc, deployed.hash_key()),
         }
     }
 

@@ -22,6 +22,7 @@ use crate::prices::Application;
 use cl_code::Definition;
 use cl_contracts::Checked;
 use cl_costs::CostTable;
+use cl_keyed::HashKey;
 use cl_sums::Sum;
 use cl_tx::Reach;
 use cl_types::{Name, NoMemory};
@@ -39,7 +40,10 @@ fn reach_of(sum: &Sum) -> Reach
 }
 
 /// The bound of the function of a name.
-pub(crate) fn reach_at(functions: &IndexMap<Name, Application>, name: &Name) -> Option<Reach>
+pub(crate) fn reach_at(
+    functions: &IndexMap<Name, Application, HashKey>,
+    name: &Name,
+) -> Option<Reach>
     ensures { (table : Table) (fs : List Signature) →
         ShowFunctions table fs functions.now.entries →
         result ≡ reach_at table (signature_in name.now fs) }
@@ -118,7 +122,8 @@ pub fn rebound(
         AreBounds (function_of costs.now) contracts known.now →
         AreBoundsOf (function_of costs.now) contracts checked.now repriced.contract) }
 {
-    let contract = contract_bounds(alloc, checked, known, costs)?;
-    let reaches = reaches(alloc, &contract, &checked.definitions)?;
+    let own = checked.parts();
+    let contract = contract_bounds(alloc, own, known, costs)?;
+    let reaches = reaches(alloc, &contract, &own.definitions)?;
     Ok(Repriced { reaches, contract })
 }

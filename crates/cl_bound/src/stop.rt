@@ -16,7 +16,7 @@ ghost use Rattle.cl_bound.specs.Seen.{ShowsPrices};
 use crate::contract::definition_at;
 use crate::prices::Prices;
 use cl_code::Definition;
-use cl_contracts::Checked;
+use cl_contracts::Parts;
 use cl_sexpr::Span;
 use cl_shapes::Dimension;
 use cl_sums::Sum;
@@ -56,26 +56,32 @@ fn function_stop(prices: &Prices, definition: &Definition) -> Option<(Dimension,
 }
 
 /// Where a look at the definition at a place stops.
-fn stop_at(prices: &Prices, checked: &Checked, place: usize) -> Option<(Dimension, Span)>
-    ensures { (D : Defined) (places : List ℕ) → ShowsPrices prices.now D.context → bound_stop (function_of prices.now.costs) D (forms_at (forms_of checked.now) (place ∷ places)) ≡ or_later result (bound_stop (function_of prices.now.costs) D (forms_at (forms_of checked.now) places)) }
+fn stop_at(prices: &Prices, parts: &Parts, place: usize) -> Option<(Dimension, Span)>
+    ensures { (D : Defined) (places : List ℕ) → ShowsPrices prices.now D.context →
+        let costs = function_of prices.now.costs in
+        bound_stop costs D (forms_at (forms_of parts.now) (place ∷ places))
+        ≡ or_later result (bound_stop costs D (forms_at (forms_of parts.now) places)) }
 {
-    match definition_at(checked, place) {
+    match definition_at(parts, place) {
         Some(definition) => function_stop(prices, definition),
         None => None,
     }
 }
 
-/// The first function, in the order of evaluation, whose bound is above the limit, with the first such dimension; or the
-/// deployment, which is nowhere.
+/// The first function, in the order of evaluation, whose bound is above the limit, with the first
+/// such dimension; or the deployment, which is nowhere.
 pub(crate) fn first_stop(
     prices: &Prices,
-    checked: &Checked,
+    parts: &Parts,
     deployment: &Sum,
 ) -> Option<(Dimension, Span)>
-    ensures { (D : Defined) → ShowsPrices prices.now D.context → deployment.now ≡ told (cost_under (function_of prices.now.costs) D.deploy) → result ≡ bound_stop (function_of prices.now.costs) D (forms_at (forms_of checked.now) checked.now.order.items) }
+    ensures { (D : Defined) → ShowsPrices prices.now D.context →
+        let costs = function_of prices.now.costs in
+        deployment.now ≡ told (cost_under costs D.deploy) →
+        result ≡ bound_stop costs D (forms_at (forms_of parts.now) parts.now.order.items) }
 {
-    for place in &checked.order {
-        if let Some(stop) = stop_at(prices, checked, *place) {
+    for place in &parts.order {
+        if let Some(stop) = stop_at(prices, parts, *place) {
             return Some(stop);
         }
     }

@@ -4,7 +4,7 @@ ghost use Rattle.cl_c32.specs.declared.principal.Principal.{Principal as APrinci
 ghost use Rattle.cl_costs.specs.Tables.{function_of};
 ghost use Rattle.cl_rules.specs.Context.{CostTable as Table, Known};
 ghost use Rattle.cl_contracts.specs.declared.contract.Contract.{Contract as AContract};
-ghost use Rattle.cl_contracts.specs.Seen.{AreIndexed};
+ghost use Rattle.cl_contracts.specs.Seen.{AreEntries};
 ghost use Rattle.cl_contracts.specs.Standings.{AreStanding};
 ghost use Rattle.cl_tx.specs.Rebounds.{first_over};
 ghost use Rattle.cl_bound.specs.Known.{AreBounds};
@@ -16,9 +16,11 @@ use crate::repricing::reach_at;
 use cl_c32::Principal;
 use cl_contracts::{Contract, Deployed};
 use cl_costs::CostTable;
+use cl_keyed::HashKey;
 use cl_shapes::Dimension;
 use cl_tx::Reach;
 use cl_types::{Name, NoMemory};
+use indexmap::IndexMap;
 use std::alloc::Global;
 
 /// Keeps the bounds of a contract behind those of the contracts before it.
@@ -33,10 +35,29 @@ fn take_in(
         AreBounds (function_of costs.now) contracts known.old →
         AreBounds (function_of costs.now) (contracts ++ (c.checked.principal, c) ∷ []) known.new) }
 {
-    let bounds = contract_bounds(alloc, &contract.checked, known, costs)?;
+    let bounds = contract_bounds(alloc, contract.parts(), known, costs)?;
     known.reserve()?;
     known.add(bounds);
     Ok(())
+}
+
+/// The bounds of contracts by their principals, the oldest first.
+fn bounds_of(
+    alloc: Global,
+    contracts: &IndexMap<Principal, Contract, HashKey>,
+    costs: &CostTable,
+) -> Result<KnownBounds, NoMemory>
+    requires { AreEntries contracts.now.entries }
+    ensures { IfOk result
+        (λ known. AreBounds (function_of costs.now) contracts.now.entries known) }
+{
+    let mut known = KnownBounds::with_hash_key(alloc, *contracts.hasher());
+    for place in 0..contracts.len() {
+        if let Some((_principal, contract)) = contracts.get_index(place) {
+            take_in(alloc, &mut known, contract, costs)?;
+        }
+    }
+    Ok(known)
 }
 
 /// The first dimension in which a bound is above the limit.
@@ -58,16 +79,11 @@ impl KnownBounds {
         deployed: &Deployed,
         costs: &CostTable,
     ) -> Result<KnownBounds, NoMemory>
-        ensures { IfOk result (λ known. AreIndexed deployed.now →
-            AreBounds (function_of costs.now) deployed.now.contracts.entries known) }
+        ensures { IfOk result
+            (λ known. AreBounds (function_of costs.now) deployed.now.contracts known) }
     {
-        let mut known = KnownBounds::new(alloc);
-        for place in 0..deployed.contracts.len() {
-            if let Some((_principal, contract)) = deployed.contracts.get_index(place) {
-                take_in(alloc, &mut known, contract, costs)?;
-            }
-        }
-        Ok(known)
+        deployed.are_known();
+        bounds_of(alloc, deployed.contracts(), costs)
     }
 
     /// The first dimension in which the bound of a function of a deployed contract is above 2^128-1;

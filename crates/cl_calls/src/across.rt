@@ -2,12 +2,12 @@
 ghost use Rattle.std.specs.Prelude.{◌≡◌, [], true, option_map, option_and_then, IfSome};
 ghost use Rattle.cl_values.specs.Valid.{IsPrincipal};
 ghost use Rattle.cl_code.specs.Typed.{goes_by};
-ghost use Rattle.cl_contracts.specs.Seen.{AreIndexed, IsIndexed, forms_of, function_seen, deployed_seen};
+ghost use Rattle.cl_contracts.specs.Seen.{forms_of, function_seen, deployed_seen};
 ghost use Rattle.cl_events.specs.State.{is_principal};
 ghost use Rattle.cl_forms.specs.Shapes.{beside};
 ghost use Rattle.cl_meaning.specs.Deployed.{contract_at, function_in};
 ghost use Rattle.cl_meaning.specs.Calls.{callable};
-ghost use Rattle.cl_frames.specs.Homes.{home_seen, with_opening, IsOpening};
+ghost use Rattle.cl_frames.specs.Homes.{home_seen, with_opening};
 ghost use Rattle.cl_frames.specs.Across.{principal_in, there};
 
 use cl_c32::{ContractName, Principal};
@@ -59,12 +59,12 @@ pub fn same(one: &Principal, other: &Principal) -> bool
 
 /// The contract that is being deployed, if it has this principal.
 fn opening_at<'a>(context: &'a Context, principal: &Principal) -> Option<Home<'a>>
-    ensures found { option_map home_seen result ≡ contract_at principal.now (with_opening context.now.opening []) }
-    ensures indexed { IsOpening context.now.opening → IfSome result (λ h. IsIndexed h.checked.now) }
+    ensures { option_map home_seen result
+        ≡ contract_at principal.now (with_opening context.now.opening []) }
 {
     match context.opening {
         Some(opening) => {
-            if same(&opening.checked.principal, principal) {
+            if same(&opening.checked.parts().principal, principal) {
                 Some(opening)
             } else {
                 None
@@ -76,13 +76,13 @@ fn opening_at<'a>(context: &'a Context, principal: &Principal) -> Option<Home<'a
 
 /// The contract that is deployed under a principal.
 fn deployed_at<'a>(deployed: &'a Deployed, principal: &Principal) -> Option<Home<'a>>
-    ensures found { AreIndexed deployed.now → option_map home_seen result ≡ contract_at principal.now (deployed_seen deployed.now) }
-    ensures indexed { AreIndexed deployed.now → IfSome result (λ h. IsIndexed h.checked.now) }
+    ensures { option_map home_seen result
+        ≡ contract_at principal.now (deployed_seen deployed.now) }
 {
     match deployed.find(principal) {
         Some(contract) => Some(Home {
-            checked: &contract.checked,
-            constants: &contract.constants,
+            checked: contract.checked(),
+            constants: contract.constants(),
         }),
         None => None,
     }
@@ -90,8 +90,7 @@ fn deployed_at<'a>(deployed: &'a Deployed, principal: &Principal) -> Option<Home
 
 /// The contract of a principal.
 pub fn contract_there<'a>(context: &'a Context, principal: &Principal) -> Option<Home<'a>>
-    ensures found { AreIndexed context.now.deployed.now → option_map home_seen result ≡ there context.now principal.now }
-    ensures indexed { AreIndexed context.now.deployed.now → IsOpening context.now.opening → IfSome result (λ h. IsIndexed h.checked.now) }
+    ensures { option_map home_seen result ≡ there context.now principal.now }
 {
     match opening_at(context, principal) {
         Some(opening) => Some(opening),
@@ -101,9 +100,9 @@ pub fn contract_there<'a>(context: &'a Context, principal: &Principal) -> Option
 
 /// A function of a contract that other contracts may call.
 pub fn callable<'a>(checked: &'a Checked, name: &Name) -> Option<&'a Function>
-    ensures seen { IsIndexed checked.now → option_map (λ f. function_seen f.now) result ≡ option_and_then callable (function_in name.now (forms_of checked.now)) }
-    ensures goes { IsIndexed checked.now →
-        IfSome result (λ f. goes_by checked.now.version f.now.body ≡ true) }
+    ensures seen { option_map (λ f. function_seen f.now) result
+        ≡ option_and_then callable (function_in name.now (forms_of checked.now)) }
+    ensures goes { IfSome result (λ f. goes_by checked.now.version f.now.body ≡ true) }
 {
     match checked.function(name) {
         Some(function) => match function.access {

@@ -1,5 +1,5 @@
 -- What is found of whole texts.
-use Rattle.std.proofs.Common.{◌≡◌, ℕ, false, List, [], length, Option, Some, None, sym, subst, ◌∙◌}
+use Rattle.std.proofs.Common.{◌≡◌, ◌≤◌, ℕ, false, List, [], length, Option, Some, None, sym, subst, ◌∙◌}
 use Rattle.std.specs.Prelude.{◌||◌, IfSome}
 use Rattle.std.specs.List.{list_any}
 use Rattle.cl_types.specs.Fault.{IsRefusal}
@@ -26,7 +26,7 @@ use Rattle.cl_rules.specs.Acceptance.{Ordered, TypedAs, NoneWrites, FirstWriting
 use Rattle.cl_contracts.specs.declared.checked.Checked.{Checked}
 use Rattle.cl_contracts.specs.declared.deployed.Deployed.{Deployed}
 use Rattle.cl_contracts.specs.Seen.{forms_of}
-use Rattle.cl_contracts.specs.Standings.{AllStand, Knows, StandsAfter, definitions_in_order}
+use Rattle.cl_contracts.specs.Standings.{AllStand, FitsAfter, IsWellFormed, IsKnown, Knows, StandsAfter, definitions_in_order}
 use Rattle.cl_judging.specs.declared.context.Signature.{Signature as CodeSignature}
 use Rattle.cl_judging.specs.declared.context.Context.{Context as CodeContext}
 use Rattle.cl_judging.specs.Seen.{Shows}
@@ -93,6 +93,16 @@ module _ (d : Deployed) (p : Principal) (text : Text) (c : Checked) (principal :
   text_found none = λ known k.
       let t = typed known k in
       (t.0, t.1, subst (λ (q : Principal). NoneWrites known q (forms_of c)) principal (none known t.0 k (stands_after known t.0 t.2)), t.2)
+
+  pub text_fits : FitsAfter d c
+  text_fits = λ known k.
+      let t = typed known k in
+      (t.0, stands_after known t.0 t.2)
+
+  pub text_well_formed : IsKnown d → c.source_length ≤ 1048576 → ((known : List Known) (E : Defined) → Knows d known → StandsAfter known c E → NoneWrites known c.principal (forms_of c)) → IsWellFormed c
+  text_well_formed known small none =
+      let fit = text_fits known.known known.knows in
+      record { before = known.known; defined = fit.0; stands = fit.1; none_writes = none known.known fit.0 known.knows fit.1; small = small }
 
   pub text_writes : (span : Span) (b : Break) (given : Fault Refusal) → b.rule ≡ WritesInReadOnly → b.span ≡ span → IsRefusalOf (Refused b) given →
       ((known : List Known) (E : Defined) → Knows d known → StandsAfter known c E → FirstWriting known c.principal (forms_of c) c.order.items span) → IsFirstOf d p text given

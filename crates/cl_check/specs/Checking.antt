@@ -45,11 +45,6 @@ BreaksForms deployed principal version forms b =
 
 -- ---- texts
 
--- callers know something of the deployed contracts: each of them stands for typed forms, after those before it
-pub record IsKnown (deployed : Deployed) : Type 0 where
-  pub known : List Known
-  pub knows : Knows deployed known
-
 -- the definitions of a contract, in the order of evaluation, stand for the typed forms of this text, and define this
 abbrev pub StandsFor : List Known → Principal → Text → Checked → Defined → Type 0
 StandsFor known principal text c defined =

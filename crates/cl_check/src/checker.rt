@@ -7,11 +7,11 @@ ghost use Rattle.cl_forms.specs.Texts.{text_of};
 ghost use Rattle.cl_code.specs.Definitions.{form_defined};
 ghost use Rattle.cl_rules.specs.Context.{Known};
 ghost use Rattle.cl_rules.specs.FormRules.{nothing_defined};
-ghost use Rattle.cl_contracts.specs.Seen.{AreIndexed, IsIndexed, forms_of, goes};
-ghost use Rattle.cl_contracts.specs.Standings.{Knows, definitions_in_order};
+ghost use Rattle.cl_contracts.specs.Seen.{IsIndexed, forms_of, goes};
+ghost use Rattle.cl_contracts.specs.Standings.{FitsAfter, Knows, definitions_in_order};
 ghost use Rattle.cl_judging.specs.Seen.{Shows, top_level_in};
 ghost use Rattle.cl_readonly.specs.Functions.{HaveOwnNames};
-ghost use Rattle.cl_check.specs.Checking.{BreaksForms, IsContractOf, IsFirstBreak, IsKnown, IsRefusalOf, StandForForms, StandsForTyped, forms_in_order};
+ghost use Rattle.cl_check.specs.Checking.{BreaksForms, IsContractOf, IsFirstBreak, IsRefusalOf, StandForForms, StandsForTyped, forms_in_order};
 ghost use Rattle.cl_check.specs.JudgingForms.{AreKnown};
 
 use crate::placing::{in_text_order, places};
@@ -19,7 +19,7 @@ use crate::reading::{Program, ordered_forms};
 use crate::walk::walk;
 use cl_c32::Principal;
 use cl_code::Definition;
-use cl_contracts::{Checked, Deployed};
+use cl_contracts::{Checked, Deployed, Parts};
 use cl_forms::Version;
 use cl_judging::Context;
 use cl_readonly::first_writing;
@@ -36,17 +36,17 @@ fn nothing<'a>(
     principal: &Principal,
     version: Version,
 ) -> Context<'a>
-    requires { AreIndexed deployed.now }
     ensures empty { (x : List ℕ) → top_level_in result x ≡ false }
     ensures shown { (known : List Known) (size : ℕ) → Knows deployed.now known →
         Shows result (nothing_defined known principal.now version size).context }
 {
-    let constants = IndexMap::new(alloc);
-    let variables = IndexMap::new(alloc);
-    let maps = IndexMap::new(alloc);
-    let fungibles = IndexSet::new(alloc);
-    let nonfungibles = IndexMap::new(alloc);
-    let functions = IndexMap::new(alloc);
+    let hash_key = deployed.hash_key();
+    let constants = IndexMap::with_hasher(alloc, hash_key);
+    let variables = IndexMap::with_hasher(alloc, hash_key);
+    let maps = IndexMap::with_hasher(alloc, hash_key);
+    let fungibles = IndexSet::with_hasher(alloc, hash_key);
+    let nonfungibles = IndexMap::with_hasher(alloc, hash_key);
+    let functions = IndexMap::with_hasher(alloc, hash_key);
     Context {
         principal: *principal,
         version,
@@ -69,7 +69,6 @@ fn typed(
     version: Version,
     program: &Program,
 ) -> Result<Vec<Definition>, Fault<Break>>
-    requires indexed { AreIndexed deployed.now }
     requires known { AreKnown program.now.forms.items }
     requires good { IsGoodOrder program.now.forms.items program.now.order.items }
     ensures forms { IfOk result (λ ds. map form_defined ds.items ≡ forms_in_order program.now) }
@@ -87,8 +86,8 @@ fn typed(
     Ok(done)
 }
 
-/// A contract with the forms of a program, whose definitions are in the order of evaluation. Its
-/// text has this version and this length.
+/// The parts of a contract with the forms of a program, whose definitions are in the order of
+/// evaluation. Its text has this version and this length.
 fn made(
     alloc: Global,
     principal: &Principal,
@@ -96,7 +95,7 @@ fn made(
     size: u32,
     program: Program,
     done: Vec<Definition>,
-) -> Result<Checked, NoMemory>
+) -> Result<Parts, NoMemory>
     requires known { AreKnown program.forms.items }
     requires good { IsGoodOrder program.forms.items program.order.items }
     requires defined { map form_defined done.items ≡ forms_in_order program }
@@ -109,10 +108,14 @@ fn made(
     ensures version { IfOk result (λ c. c.version ≡ version) }
     ensures length { IfOk result (λ c. c.source_length ≡ size) }
 {
-    let Program { forms, order } = program;
+    let Program {
+        hash_key,
+        forms,
+        order,
+    } = program;
     let definitions = in_text_order(alloc, done, &forms, &order)?;
-    let places = places(alloc, &definitions)?;
-    Ok(Checked {
+    let places = places(alloc, hash_key, &definitions)?;
+    Ok(Parts {
         principal: *principal,
         version,
         definitions,
@@ -138,16 +141,15 @@ fn size_of(source: &[u8]) -> u32
     source.len() as u32
 }
 
-/// A text whose forms are typed, or its first break before functions that write are looked for.
+/// The parts of a text whose forms are typed, or its first break before functions that write are
+/// looked for.
 fn typed_text(
     alloc: Global,
     deployed: &Deployed,
     principal: &Principal,
     source: &[u8],
     version: Version,
-) -> Result<Checked, Fault<Refusal>>
-    requires indexed { AreIndexed deployed.now }
-    requires known { IsKnown deployed.now }
+) -> Result<Parts, Fault<Refusal>>
     ensures found { IfOk result
         (λ c. StandsForTyped deployed.now principal.now (text_of source.now version) c) }
     ensures own { IfOk result (λ c. HaveOwnNames c.version (forms_of c)) }
@@ -155,12 +157,14 @@ fn typed_text(
     ensures principal { IfOk result (λ c. c.principal ≡ principal.now) }
     ensures version { IfOk result (λ c. c.version ≡ version) }
     ensures length { IfOk result (λ c. c.source_length ≡ length source.now) }
+    ensures small { IfOk result (λ c. c.source_length ≤ 1048576) }
     ensures broken { IfRefused result
         (λ r. IsFirstBreak deployed.now principal.now (text_of source.now version) r) }
 {
+    deployed.are_known();
     the_plain_program_is_right();
     forms_of_texts_are_decided();
-    let program = match ordered_forms(alloc, source, version) {
+    let program = match ordered_forms(alloc, deployed.hash_key(), source, version) {
         Ok(program) => program,
         Err(fault) => return Err(fault),
     };
@@ -168,16 +172,17 @@ fn typed_text(
         Ok(done) => done,
         Err(fault) => return Err(refusal(alloc, fault)),
     };
-    let checked = made(alloc, principal, version, size_of(source), program, done)?;
-    Ok(checked)
+    let parts = made(alloc, principal, version, size_of(source), program, done)?;
+    Ok(parts)
 }
 
-/// The contract of a text of this version under this principal, after the deployed contracts, which
-/// are accepted ones: its definitions with typed trees. Or the first rule that the text breaks, with
-/// its span, and for a cycle the names of the forms in it: of texts, forms and their order, of
-/// typing, or C25 `WritesInReadOnly`.
+/// The contract of a text of this version under this principal, which fits the deployed contracts:
+/// its definitions with typed trees. Or the first rule that the text breaks, with its span, and for
+/// a cycle the names of the forms in it: of texts, forms and their order, of typing, or C25
+/// `WritesInReadOnly`.
 ///
-/// The time is near linear in the text; it recurs only into brackets.
+/// It recurs only into brackets. The time is near linear in the text, if who wrote it doesn't know
+/// the key by which the tables of the deployed contracts hash.
 pub fn check(
     alloc: Global,
     deployed: &Deployed,
@@ -185,22 +190,21 @@ pub fn check(
     source: &[u8],
     version: Version,
 ) -> Result<Checked, Fault<Refusal>>
-    requires indexed { AreIndexed deployed.now }
-    requires known { IsKnown deployed.now }
     ensures found { IfOk result
         (λ c. IsContractOf deployed.now principal.now (text_of source.now version) c) }
-    ensures indexed { IfOk result (λ c. IsIndexed c) }
+    ensures fits { IfOk result (λ c. FitsAfter deployed.now c) }
     ensures principal { IfOk result (λ c. c.principal ≡ principal.now) }
     ensures version { IfOk result (λ c. c.version ≡ version) }
     ensures length { IfOk result (λ c. c.source_length ≡ length source.now) }
     ensures broken { IfRefused result
         (λ r. IsFirstBreak deployed.now principal.now (text_of source.now version) r) }
 {
-    let checked = match typed_text(alloc, deployed, principal, source, version) {
-        Ok(checked) => checked,
+    deployed.are_known();
+    let parts = match typed_text(alloc, deployed, principal, source, version) {
+        Ok(parts) => parts,
         Err(fault) => return Err(fault),
     };
-    let writing = match first_writing(alloc, deployed, &checked) {
+    let writing = match first_writing(alloc, deployed, &parts) {
         Ok(writing) => writing,
         Err(_) => return Err(Fault::NoMemory),
     };
@@ -212,6 +216,6 @@ pub fn check(
             };
             Err(refusal(alloc, Fault::Refused(broken)))
         }
-        None => Ok(checked),
+        None => Ok(Checked::new(parts)),
     }
 }

@@ -12,6 +12,7 @@ ghost use Rattle.cl_sexpr.specs.Fits.{Fits};
 ghost use Rattle.cl_check.specs.JudgingForms.{Checks, FindsKind, FindsBody, Returns, return_fault, return_rule};
 
 use cl_judging::{Context, judge};
+use cl_keyed::HashKey;
 use cl_sexpr::{Break, Rule, Sexpr, Span};
 use cl_types::{Access, Fault, Name, NoMemory, SizedTy, TyRefusal, admits, lub};
 use cl_typing::{Checked, is_response};
@@ -45,7 +46,7 @@ fn unbound(alloc: Global, ctx: &Context, e: &Sexpr) -> Result<Checked, Fault<Bre
     ensures found { Checks ctx.now [] e.now result }
     ensures text { IfOk result (λ c. expression_of c.code ≡ e.now) }
 {
-    let mut scope = IndexMap::new(alloc);
+    let mut scope = IndexMap::with_hasher(alloc, ctx.hash_key());
     match judge(alloc, ctx, &mut scope, e) {
         Ok(checked) => Ok(checked),
         Err(fault) => Err(fault),
@@ -105,11 +106,15 @@ pub(crate) fn declared(
 }
 
 /// The parameters are bound.
-fn bound(alloc: Global, params: &[(Name, SizedTy)]) -> Result<IndexMap<Name, SizedTy>, NoMemory>
+fn bound(
+    alloc: Global,
+    hash_key: HashKey,
+    params: &[(Name, SizedTy)],
+) -> Result<IndexMap<Name, SizedTy, HashKey>, NoMemory>
     requires { stands_twice (map (λ p. p.0) params.now) ≡ false }
     ensures { IfOk result (λ scope. scope.entries ≡ params.now) }
 {
-    let mut scope = IndexMap::new(alloc);
+    let mut scope = IndexMap::with_hasher(alloc, hash_key);
     for param in params {
         let ty = param.1.copy(alloc)?;
         scope.insert(param.0, ty)?;
@@ -170,7 +175,7 @@ fn with_params(
     ensures found { Checks ctx.now params.now e.now result }
     ensures text { IfOk result (λ c. expression_of c.code ≡ e.now) }
 {
-    let mut scope = match bound(alloc, params) {
+    let mut scope = match bound(alloc, ctx.hash_key(), params) {
         Ok(scope) => scope,
         Err(_) => return Err(Fault::NoMemory),
     };

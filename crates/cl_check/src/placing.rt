@@ -9,6 +9,7 @@ ghost use Rattle.cl_check.specs.Placing.{AreNamedApart, ArePlaces, PlacedTo, put
 
 use cl_code::Definition;
 use cl_forms::Form;
+use cl_keyed::HashKey;
 use cl_types::{Name, NoMemory};
 use indexmap::IndexMap;
 use std::alloc::Global;
@@ -17,7 +18,7 @@ use std::alloc::Global;
 fn empty_slots(alloc: Global, forms: &[Form]) -> Result<Vec<Option<Definition>>, NoMemory>
     ensures { IfOk result (λ slots. slots.items ≡ map (λ _. None) forms.now) }
 {
-    let mut slots = Vec::new(alloc);
+    let mut slots = Vec::with_capacity(alloc, forms.len())?;
     for _form in forms {
         slots.push(None)?;
     }
@@ -66,7 +67,7 @@ fn keep(definitions: &mut Vec<Definition>, slot: Option<Definition>) -> Result<(
 fn in_slots(alloc: Global, slots: Vec<Option<Definition>>) -> Result<Vec<Definition>, NoMemory>
     ensures { IfOk result (λ ds. ds.items ≡ filter_map (λ s. s) slots.items) }
 {
-    let mut definitions = Vec::new(alloc);
+    let mut definitions = Vec::with_capacity(alloc, slots.len())?;
     for slot in slots {
         keep(&mut definitions, slot)?;
     }
@@ -105,7 +106,7 @@ fn name_of(definition: &Definition) -> Option<&Name>
 }
 
 fn add_place(
-    places: &mut IndexMap<Name, usize>,
+    places: &mut IndexMap<Name, usize, HashKey>,
     definition: &Definition,
     place: usize,
 ) -> Result<(), NoMemory>
@@ -123,12 +124,13 @@ fn add_place(
 /// The place of each name that is defined.
 pub(crate) fn places(
     alloc: Global,
+    hash_key: HashKey,
     definitions: &[Definition],
-) -> Result<IndexMap<Name, usize>, NoMemory>
+) -> Result<IndexMap<Name, usize, HashKey>, NoMemory>
     requires { AreNamedApart (map form_defined definitions.now) }
     ensures { IfOk result (λ places. ArePlaces (map form_defined definitions.now) places.entries) }
 {
-    let mut places = IndexMap::new(alloc);
+    let mut places = IndexMap::with_hasher(alloc, hash_key);
     for (place, definition) in definitions.iter().enumerate() {
         add_place(&mut places, definition, place)?;
     }

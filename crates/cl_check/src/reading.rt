@@ -9,17 +9,19 @@ ghost use Rattle.cl_readonly.specs.Functions.{HaveOwnNames};
 ghost use Rattle.cl_check.specs.JudgingForms.{AreKnown};
 
 use cl_forms::{
-    Form, Version, expressions_are_within_limits, expressions_nest_as_items, forms,
-    forms_have_few_parts,
+    Form, Version, expressions_are_within_limits, expressions_nest_as_items, forms_have_few_parts,
+    forms_with_hash_key,
 };
-use cl_order::order;
+use cl_keyed::HashKey;
+use cl_order::order_with_hash_key;
 use cl_sexpr::{Refusal, literals_are_within_limits, one_reading, read};
 use cl_types::{Fault, NoMemory};
 use std::alloc::Global;
 
-/// The forms of a source, and their places in the order of evaluation.
+/// The forms of a source, and their places in the order of evaluation; the tables of their names hash by the key.
 #[derive(Drop)]
 pub(crate) struct Program {
+    pub(crate) hash_key: HashKey,
     pub(crate) forms: Vec<Form>,
     pub(crate) order: Vec<usize>,
 }
@@ -35,13 +37,13 @@ fn widened(alloc: Global, places: &[u32]) -> Result<Vec<usize>, NoMemory>
 }
 
 /// The places of forms in the order of evaluation, or a cycle of forms.
-fn ordered(alloc: Global, forms: &[Form]) -> Result<Vec<usize>, Fault<Refusal>>
+fn ordered(alloc: Global, hash_key: HashKey, forms: &[Form]) -> Result<Vec<usize>, Fault<Refusal>>
     requires { length forms.now < 2 ^ 32 }
     ensures computed { IfOk result (λ places. ordered forms.now ≡ Ok places.items) }
     ensures good { IfOk result (λ places. IsGoodOrder forms.now places.items) }
     ensures cycle { IfRefused result (λ r. IsOfTheCycle forms.now r.rule r.span r.names.items) }
 {
-    let places = match order(alloc, forms) {
+    let places = match order_with_hash_key(alloc, hash_key, forms) {
         Ok(places) => places,
         Err(fault) => return Err(fault),
     };
@@ -53,6 +55,7 @@ fn ordered(alloc: Global, forms: &[Form]) -> Result<Vec<usize>, Fault<Refusal>>
 /// breaks.
 pub(crate) fn ordered_forms(
     alloc: Global,
+    hash_key: HashKey,
     source: &[u8],
     version: Version,
 ) -> Result<Program, Fault<Refusal>>
@@ -71,7 +74,11 @@ pub(crate) fn ordered_forms(
     expressions_are_within_limits();
     expressions_nest_as_items();
     let items = read(alloc, source)?;
-    let forms = forms(alloc, items, version)?;
-    let order = ordered(alloc, &forms)?;
-    Ok(Program { forms, order })
+    let forms = forms_with_hash_key(alloc, hash_key, items, version)?;
+    let order = ordered(alloc, hash_key, &forms)?;
+    Ok(Program {
+        hash_key,
+        forms,
+        order,
+    })
 }

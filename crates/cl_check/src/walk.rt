@@ -31,7 +31,7 @@ pub(crate) fn walk(
     ensures standing { IfOk result (λ ds. (D : Defined) → Shows ctx.old D.context → StandingAs D (forms_at forms.now order.now) ds.items) }
     ensures broken { IfRefused result (λ b. (D : Defined) → Shows ctx.old D.context → forms_judged D (forms_at forms.now order.now) ≡ Fails b.rule b.span) }
 {
-    let mut definitions = Vec::new(alloc);
+    let mut definitions = Vec::with_capacity(alloc, order.len())?;
     for place in order {
         match check_form(alloc, ctx, &forms[*place]) {
             Ok(definition) => definitions.push(definition)?,

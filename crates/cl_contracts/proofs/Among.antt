@@ -13,7 +13,7 @@ use Rattle.cl_meaning.specs.Deployed.{has_name}
 use Rattle.cl_rules.specs.Context.{named_in}
 use Rattle.cl_rules.specs.Verdicts.{Found}
 use Rattle.cl_rules.specs.FormRules.{Defined, defined_after}
-use Rattle.cl_contracts.specs.declared.checked.Checked.{Checked}
+use Rattle.cl_contracts.specs.declared.parts.Parts.{Parts as Checked}
 use Rattle.cl_contracts.specs.Seen.{forms_of, definition_under, IsIndexed}
 use Rattle.cl_contracts.specs.Standings.{AllStand, StandsAs, definitions_in_order}
 use Rattle.cl_contracts.proofs.Places.{get_map, within, has_it, self_same}

@@ -15,8 +15,8 @@ use Rattle.cl_meaning.specs.Deployed.{value_of}
 use Rattle.cl_rules.specs.Context.{Context, Names, named_in}
 use Rattle.cl_rules.specs.Verdicts.{Found}
 use Rattle.cl_rules.specs.FormRules.{Defined, nothing_defined, defined_after}
-use Rattle.cl_contracts.specs.declared.checked.Checked.{Checked}
-use Rattle.cl_contracts.specs.declared.contract.Contract.{Contract}
+use Rattle.cl_contracts.specs.declared.parts.Parts.{Parts as Checked}
+use Rattle.cl_contracts.specs.Contents.{ContractParts as Contract}
 use Rattle.cl_contracts.specs.Known.{ConstantsAsKept}
 use Rattle.cl_contracts.specs.Seen.{as_constant, constant_under, definition_under, type_given, IsConstant, AreConstants}
 use Rattle.cl_contracts.specs.Standing.{Stands}
@@ -88,7 +88,7 @@ is_constant x c t v h typed = by (definition_under x c) refl h
     by (Some (TopLevel d)) e k = absurd cc
 
 -- a contract without values
-pub no_constants : (c : Contract) → c.constants.entries ≡ [] → AreConstants c
+pub no_constants : (c : Contract) → c.constants ≡ [] → AreConstants c
 no_constants c e = record { each = λ x v h. absurd (none x v (sym (ap (value_of x) e) ∙ h)) }
   where
     none : (x : List ℕ) (v : Val) → None ≡ Some v → ⊥

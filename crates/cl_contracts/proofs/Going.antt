@@ -10,7 +10,7 @@ use Rattle.cl_code.specs.declared.definition.Definition.{Definition}
 use Rattle.cl_code.specs.declared.definition.Definition.TheVariants.{Constant, Variable, MapOf, Fungible, NonFungible, Function, TopLevel}
 use Rattle.cl_code.specs.Typed.{goes_by}
 use Rattle.cl_rules.specs.Context.{named_in}
-use Rattle.cl_contracts.specs.declared.checked.Checked.{Checked}
+use Rattle.cl_contracts.specs.declared.parts.Parts.{Parts as Checked}
 use Rattle.cl_contracts.specs.Seen.{IsIndexed, as_function, definition_under, function_under, goes}
 
 -- each definition of a contract whose trees all can

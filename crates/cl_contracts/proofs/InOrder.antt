@@ -8,7 +8,7 @@ use Rattle.cl_code.specs.declared.definition.Definition.{Definition}
 use Rattle.cl_rules.specs.Context.{Context, Names}
 use Rattle.cl_rules.specs.Verdicts.{Found}
 use Rattle.cl_rules.specs.Shapes.{Ends, Part}
-use Rattle.cl_contracts.specs.declared.checked.Checked.{Checked}
+use Rattle.cl_contracts.specs.declared.parts.Parts.{Parts as Checked}
 use Rattle.cl_contracts.specs.Standing.{Stands, StandAll}
 
 -- the tree of a plan with one part

@@ -13,8 +13,8 @@ use Rattle.cl_rules.specs.Context.{Signature, Known, known_at, signature_in, sam
 use Rattle.cl_rules.specs.Verdicts.{Found}
 use Rattle.cl_rules.specs.FormRules.{Defined, nothing_defined, defined_after, return_of, signature_of}
 use Rattle.cl_rules.specs.Acceptance.{known_of}
-use Rattle.cl_contracts.specs.declared.checked.Checked.{Checked}
-use Rattle.cl_contracts.specs.declared.contract.Contract.{Contract}
+use Rattle.cl_contracts.specs.declared.parts.Parts.{Parts as Checked}
+use Rattle.cl_contracts.specs.Contents.{ContractParts as Contract}
 use Rattle.cl_contracts.specs.Seen.{function_under, as_function, contract_under, IsIndexed, AreEntries}
 use Rattle.cl_contracts.specs.Standings.{AllStand, StandsAs, AreStanding, definitions_in_order}
 use Rattle.cl_contracts.proofs.Among.{or_none, one_of, all_defined, among_is}
@@ -108,7 +108,7 @@ agree p before after (e ∷ es) ok s h = by (same_principal e.0 p) refl (agree p
     by false is rest = rest (known_more p before one h ∙ ap (λ (b : Bool). if b then Some one else None) is)
 
 pub known_is : KnownAsDeployed
-known_is d known ok knows p = agree p [] known d.contracts.entries ok.each knows refl
+known_is d known ok knows p = agree p [] known d.contracts ok.each knows refl
 
 pub kept_is : DefinedAsKept
 kept_is before c defined ok stands x = known_one before c.principal c defined ok stands x

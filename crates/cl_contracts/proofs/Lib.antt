@@ -7,3 +7,4 @@ pub mod KnownLaws
 pub mod Constants
 pub mod Once
 pub mod InOrder
+pub mod Fitting

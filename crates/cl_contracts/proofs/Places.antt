@@ -15,7 +15,7 @@ use Rattle.cl_code.specs.declared.definition.Definition.TheVariants.{Constant, V
 use Rattle.cl_code.specs.Definitions.{form_defined}
 use Rattle.cl_meaning.specs.Deployed.{has_name, form_of, value_of, function_in, as_function as function_by, Function as FunctionSeen}
 use Rattle.cl_rules.specs.Context.{named_in}
-use Rattle.cl_contracts.specs.declared.checked.Checked.{Checked}
+use Rattle.cl_contracts.specs.declared.parts.Parts.{Parts as Checked}
 use Rattle.cl_contracts.specs.Seen.{forms_of, kind_at, definition_under, as_function, function_under, function_seen, IsIndexed}
 
 -- a table's look-up is that of the definitions

@@ -15,7 +15,7 @@ use Rattle.cl_values.proofs.Parts.{principal_is_val}
 use Rattle.cl_events.specs.State.{holder, is_principal}
 use Rattle.cl_meaning.specs.Deployed.{contract_at}
 use Rattle.cl_rules.specs.Context.{same_principal}
-use Rattle.cl_contracts.specs.declared.contract.Contract.{Contract}
+use Rattle.cl_contracts.specs.Contents.{ContractParts as Contract}
 use Rattle.cl_contracts.specs.Seen.{contract_seen, contract_under, IsEntry, AreEntries}
 
 -- ---- principals

@@ -6,9 +6,8 @@ use Rattle.cl_c32.specs.declared.principal.Principal.{Principal}
 use Rattle.cl_code.specs.declared.definition.Function.{Function as TypedFunction}
 use Rattle.cl_rules.specs.Context.{Signature, Known, known_at, named_in, signature_in}
 use Rattle.cl_rules.specs.FormRules.{Defined}
-use Rattle.cl_contracts.specs.declared.checked.Checked.{Checked}
-use Rattle.cl_contracts.specs.declared.contract.Contract.{Contract}
-use Rattle.cl_contracts.specs.declared.deployed.Deployed.{Deployed}
+use Rattle.cl_contracts.specs.declared.parts.Parts.{Parts as Checked}
+use Rattle.cl_contracts.specs.Contents.{ContractParts as Contract, DeployedParts as Deployed}
 use Rattle.cl_contracts.specs.Seen.{constant_under, function_under, type_given, contract_under, AreIndexed, IsIndexed}
 use Rattle.cl_contracts.specs.Standings.{Knows, StandsAfter}
 
@@ -37,7 +36,7 @@ AreKnownAs c k = ⊥
 
 -- callers know a contract at a principal just where one is deployed, and as it is
 abbrev pub KnownAsDeployed : Type 0
-KnownAsDeployed = (d : Deployed) (known : List Known) → AreIndexed d → Knows d known → (p : Principal) → AreKnownAs (contract_under p d.contracts.entries) (known_at p known)
+KnownAsDeployed = (d : Deployed) (known : List Known) → AreIndexed d → Knows d known → (p : Principal) → AreKnownAs (contract_under p d.contracts) (known_at p known)
 
 -- what stands for a contract defines its functions as it has them
 abbrev pub DefinedAsKept : Type 0

@@ -1,3 +1,4 @@
+pub mod Contents
 pub mod Seen
 pub mod Standing
 pub mod Standings

@@ -18,9 +18,8 @@ use Rattle.cl_code.specs.Typed.{Typed, expression_of, type_of, typeds, all_go_by
 use Rattle.cl_code.specs.Definitions.{form_defined}
 use Rattle.cl_meaning.specs.Deployed.{Contract as ContractSeen, Deployed as DeployedSeen, Function as FunctionSeen, value_of}
 use Rattle.cl_rules.specs.Context.{named_in, same_principal}
-use Rattle.cl_contracts.specs.declared.checked.Checked.{Checked}
-use Rattle.cl_contracts.specs.declared.contract.Contract.{Contract}
-use Rattle.cl_contracts.specs.declared.deployed.Deployed.{Deployed}
+use Rattle.cl_contracts.specs.declared.parts.Parts.{Parts as Checked}
+use Rattle.cl_contracts.specs.Contents.{ContractParts as Contract, DeployedParts as Deployed}
 
 -- the forms of a contract, in the order of its text
 abbrev pub forms_of : Checked → List Form
@@ -28,11 +27,11 @@ forms_of c = map form_defined c.definitions.items
 
 -- a deployed contract
 abbrev pub contract_seen : Principal × Contract → ContractSeen
-contract_seen e = record { principal = e.0; version = e.1.checked.version; forms = forms_of e.1.checked; source_length = e.1.checked.source_length; constants = e.1.constants.entries }
+contract_seen e = record { principal = e.0; version = e.1.checked.version; forms = forms_of e.1.checked; source_length = e.1.checked.source_length; constants = e.1.constants }
 
 -- the deployed contracts, the oldest first
 abbrev pub deployed_seen : Deployed → DeployedSeen
-deployed_seen d = map contract_seen d.contracts.entries
+deployed_seen d = map contract_seen d.contracts
 
 -- ---- what is defined under a name
 
@@ -100,7 +99,7 @@ pub record IsConstant (c : Checked) (x : List ℕ) (v : Val) : Type 0 where
 
 -- each value that is kept is of the type of the constant of its name
 pub record AreConstants (c : Contract) : Type 0 where
-  pub each : (x : List ℕ) (v : Val) → value_of x c.constants.entries ≡ Some v → IsConstant c.checked x v
+  pub each : (x : List ℕ) (v : Val) → value_of x c.constants ≡ Some v → IsConstant c.checked x v
 
 -- ---- the contract of a principal
 
@@ -122,4 +121,4 @@ AreEntries (e ∷ es) = IsEntry e × AreEntries es
 
 -- each deployed contract is such a one
 pub record AreIndexed (d : Deployed) : Type 0 where
-  pub each : AreEntries d.contracts.entries
+  pub each : AreEntries d.contracts

@@ -1,5 +1,5 @@
 -- Definitions with typed trees stand for typed forms; and what callers know of deployed contracts is what these define.
-use Rattle.std.specs.Prelude.{◌≡◌, suc, List, [], ◌∷◌, ◌++◌, map, filter_map, slice_get, Option, Some, None}
+use Rattle.std.specs.Prelude.{◌≡◌, ◌≤◌, suc, List, [], ◌∷◌, ◌++◌, map, filter_map, slice_get, Option, Some, None}
 use Rattle.cl_c32.specs.declared.principal.Principal.{Principal}
 use Rattle.cl_code.specs.declared.definition.Definition.{Definition}
 use Rattle.cl_code.specs.declared.definition.Definition.TheVariants.{Constant, Variable, MapOf, Fungible, NonFungible, Function, TopLevel}
@@ -10,11 +10,10 @@ use Rattle.cl_rules.specs.Context.{Known}
 use Rattle.cl_rules.specs.Verdicts.{Found}
 use Rattle.cl_rules.specs.FormRules.{Defined, nothing_defined, form_plan, form_faults, defined_after, return_of}
 use Rattle.cl_rules.specs.FormTyping.{FormsTyped}
-use Rattle.cl_rules.specs.Acceptance.{known_of}
-use Rattle.cl_contracts.specs.declared.checked.Checked.{Checked}
-use Rattle.cl_contracts.specs.declared.contract.Contract.{Contract}
-use Rattle.cl_contracts.specs.declared.deployed.Deployed.{Deployed}
-use Rattle.cl_contracts.specs.Seen.{kind_at, trees_of}
+use Rattle.cl_rules.specs.Acceptance.{NoneWrites, known_of}
+use Rattle.cl_contracts.specs.declared.parts.Parts.{Parts as Checked}
+use Rattle.cl_contracts.specs.Contents.{ContractParts as Contract, DeployedParts as Deployed}
+use Rattle.cl_contracts.specs.Seen.{forms_of, kind_at, trees_of}
 use Rattle.cl_contracts.specs.Standing.{StandAll}
 
 -- ---- one definition
@@ -45,6 +44,15 @@ definitions_in_order c = filter_map (slice_get c.definitions.items) c.order.item
 abbrev pub StandsAfter : List Known → Checked → Defined → Type 0
 StandsAfter before c defined = AllStand (nothing_defined before c.principal c.version c.source_length) (definitions_in_order c) defined
 
+-- the definitions of a contract stand for typed forms after some deployed contracts, none of its read-only functions writes, and
+-- its text is within the limit
+pub record IsWellFormed (c : Checked) : Type 0 where
+  pub before : List Known
+  pub defined : Defined
+  pub stands : StandsAfter before c defined
+  pub none_writes : NoneWrites before c.principal (forms_of c)
+  pub small : c.source_length ≤ 1048576
+
 -- ---- deployed contracts
 
 -- one deployed contract after another stands for typed forms, after those before it; to callers they are these
@@ -56,7 +64,16 @@ AreStanding before (e ∷ es) after =
 
 -- what callers know of the deployed contracts
 abbrev pub Knows : Deployed → List Known → Type 0
-Knows d known = AreStanding [] d.contracts.entries known
+Knows d known = AreStanding [] d.contracts known
+
+-- callers know something of the deployed contracts: each of them stands for typed forms, after those before it
+pub record IsKnown (deployed : Deployed) : Type 0 where
+  pub known : List Known
+  pub knows : Knows deployed known
+
+-- a contract fits these deployed ones: after them, its definitions stand for typed forms
+abbrev pub FitsAfter : Deployed → Checked → Type 0
+FitsAfter d c = (known : List Known) → Knows d known → (defined : Defined) × StandsAfter known c defined
 
 -- ---- what stands is typed
 

@@ -1,4 +1,4 @@
-//! Contracts whose definitions are typed, and the deployed ones.
+//! Checked contracts, and the deployed ones.
 #![tactic(auto)]
 
 mod checked;
@@ -6,9 +6,11 @@ mod contract;
 mod deployed;
 mod laws;
 mod literal;
+mod parts;
 
 pub use checked::Checked;
 pub use contract::Contract;
 pub use deployed::Deployed;
 pub use laws::{keys_stand_once, what_callers_know};
 pub use literal::contract_of_literal;
+pub use parts::Parts;

@@ -73,13 +73,18 @@ fn enter_there<W: Watch>(
     watch: &mut W,
 ) -> Result<Val, Stop>
     requires { length values.items < 1048576 }
-    ensures meant { (bound : BoundValues) → Fits context.now → IsAt context.now home.now → Walks context.now meter.old (W.seen watch.old) (enter_there (applied below) (scope_of context.now bound) name.now values.items (home_seen home.now) world.old.stack.top) result meter.new (W.seen watch.new) world.new.stack.top }
+    ensures meant { (bound : BoundValues) → Fits context.now → IsAt context.now home.now →
+        Walks context.now meter.old (W.seen watch.old)
+        (enter_there (applied below) (scope_of context.now bound) name.now values.items
+        (home_seen home.now) world.old.stack.top)
+        result meter.new (W.seen watch.new) world.new.stack.top }
     ensures below { world.new.stack.below ≡ world.old.stack.below }
     ensures grew { amount (W.seen watch.old) ≤ amount (W.seen watch.new) }
 {
-    let length = u64::from(home.checked.source_length);
+    let contract = home.checked.parts();
+    let length = u64::from(contract.source_length);
     pay(context.costs, meter, CostName::ContractCall, length)?;
-    let frame = called(context.frame, home.checked.principal);
+    let frame = called(context.frame, contract.principal);
     match callable(home.checked, name) {
         Some(function) => {
             let inner = Context {

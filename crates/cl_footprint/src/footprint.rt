@@ -1,7 +1,7 @@
 //! The spots that a call touches and writes.
 ghost use Rattle.std.specs.Prelude.{◌≡◌, ◌∷◌, [], false, true, List, ℕ, OnOk, IfOk, IfSome, option_map, slice_get};
 ghost use Rattle.cl_c32.specs.declared.principal.Principal.{Principal as Who};
-ghost use Rattle.cl_contracts.specs.Seen.{AreIndexed, deployed_seen, function_seen};
+ghost use Rattle.cl_contracts.specs.Seen.{deployed_seen, function_seen};
 ghost use Rattle.cl_meaning.specs.Deployed.{contract_at, function_of};
 ghost use Rattle.cl_spots.specs.Spots.{IsSpot};
 ghost use Rattle.std.specs.List.{AllByRecursion};
@@ -19,6 +19,7 @@ use cl_c32::Principal;
 use cl_code::Function;
 use cl_contracts::Deployed;
 use cl_file::Row;
+use cl_keyed::HashKey;
 use cl_spots::Spot;
 use cl_tables::Place;
 use cl_types::{Access, Name, NoMemory};
@@ -38,7 +39,6 @@ fn function_at<'a>(
     contract: &Principal,
     name: &Name,
 ) -> Option<&'a Function>
-    requires { AreIndexed deployed.now }
     ensures seen { option_map (λ f. function_seen f.now) result
         ≡ function_of name.now (contract_at contract.now (deployed_seen deployed.now)) }
     ensures goes { IfSome result (λ f.
@@ -53,12 +53,11 @@ fn function_at<'a>(
 /// Adds what the function of a place uses.
 fn visit(
     deployed: &Deployed,
-    reached: &mut IndexSet<Place>,
-    touched: &mut IndexSet<Spot>,
-    written: &mut IndexSet<Spot>,
+    reached: &mut IndexSet<Place, HashKey>,
+    touched: &mut IndexSet<Spot, HashKey>,
+    written: &mut IndexSet<Spot, HashKey>,
     at: &Place,
 ) -> Result<(), NoMemory>
-    requires { AreIndexed deployed.now }
     ensures { OnOk result (
         gathered reached.new.keys touched.new.keys written.new.keys
         ≡ with_uses (deployed_seen deployed.now) at.now.contract
@@ -93,11 +92,10 @@ fn place_at(places: &[Place], index: usize) -> Option<Place>
 /// Adds what each function uses that is reached, one function after another.
 fn gather(
     deployed: &Deployed,
-    reached: &mut IndexSet<Place>,
-    touched: &mut IndexSet<Spot>,
-    written: &mut IndexSet<Spot>,
+    reached: &mut IndexSet<Place, HashKey>,
+    touched: &mut IndexSet<Spot, HashKey>,
+    written: &mut IndexSet<Spot, HashKey>,
 ) -> Result<(), NoMemory>
-    requires { AreIndexed deployed.now }
     ensures { OnOk result ((p : Who) (f : List ℕ) →
         gathered reached.old.keys touched.old.keys written.old.keys
         ≡ gathered (of_own p f ∷ []) [] [] →
@@ -127,7 +125,6 @@ fn are_spots(spots: &[Spot])
 /// Whether the contract is deployed and has the function, which isn't private: else the call is
 /// refused with E1, E2 or E3.
 fn is_callable(deployed: &Deployed, contract: &Principal, name: &Name) -> bool
-    requires { AreIndexed deployed.now }
     ensures yes { result ≡ true →
         IsCallable (deployed_seen deployed.now) contract.now name.now }
     ensures no { result ≡ false →
@@ -149,14 +146,13 @@ fn footprint_at(
     contract: &Principal,
     function: &Name,
 ) -> Result<Footprint, NoMemory>
-    requires { AreIndexed deployed.now }
     ensures { IfOk result (λ s. IsFootprint (deployed_seen deployed.now) contract.now
         function.now s.touched s.written) }
 {
-    let mut touched = IndexSet::new(alloc);
-    let mut written = IndexSet::new(alloc);
+    let mut touched = IndexSet::with_hasher(alloc, deployed.hash_key());
+    let mut written = IndexSet::with_hasher(alloc, deployed.hash_key());
     if is_callable(deployed, contract, function) {
-        let mut reached = IndexSet::new(alloc);
+        let mut reached = IndexSet::with_hasher(alloc, deployed.hash_key());
         add_function(&mut reached, &at_own(contract, function))?;
         gather(deployed, &mut reached, &mut touched, &mut written)?;
     }
@@ -178,7 +174,6 @@ pub fn footprint_of(
     contract: &Principal,
     function: &[u8],
 ) -> Result<Footprint, NoMemory>
-    requires { AreIndexed deployed.now }
     ensures { IfOk result (λ s. IsFootprint (deployed_seen deployed.now) contract.now
         function.now s.touched s.written) }
 {

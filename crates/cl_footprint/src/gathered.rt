@@ -4,6 +4,7 @@ ghost use Rattle.cl_tables.specs.Variables.{IsPlace};
 ghost use Rattle.cl_spots.specs.Spots.{IsSpot};
 ghost use Rattle.cl_footprint.specs.Gathering.{and_place, and_spot};
 
+use cl_keyed::HashKey;
 use cl_spots::Spot;
 use cl_tables::Place;
 use cl_types::NoMemory;
@@ -21,7 +22,10 @@ fn is_valid(at: &Place)
 }
 
 /// Adds a function that is reached, unless it is there.
-pub(crate) fn add_function(reached: &mut IndexSet<Place>, at: &Place) -> Result<(), NoMemory>
+pub(crate) fn add_function(
+    reached: &mut IndexSet<Place, HashKey>,
+    at: &Place,
+) -> Result<(), NoMemory>
     ensures { OnOk result (reached.new.keys ≡ and_place reached.old.keys at.now) }
 {
     // The set's proof needs the types inside a place to be named in this function.
@@ -42,7 +46,7 @@ pub(crate) fn is_spot(spot: &Spot)
 }
 
 /// Adds a spot, unless it is there.
-pub(crate) fn add_spot(spots: &mut IndexSet<Spot>, spot: &Spot) -> Result<(), NoMemory>
+pub(crate) fn add_spot(spots: &mut IndexSet<Spot, HashKey>, spot: &Spot) -> Result<(), NoMemory>
     ensures { OnOk result (spots.new.keys ≡ and_spot spots.old.keys spot.now) }
 {
     // As in `add_function`.
@@ -55,8 +59,8 @@ pub(crate) fn add_spot(spots: &mut IndexSet<Spot>, spot: &Spot) -> Result<(), No
 
 /// Adds a spot that is read and written.
 pub(crate) fn add_written(
-    touched: &mut IndexSet<Spot>,
-    written: &mut IndexSet<Spot>,
+    touched: &mut IndexSet<Spot, HashKey>,
+    written: &mut IndexSet<Spot, HashKey>,
     spot: &Spot,
 ) -> Result<(), NoMemory>
     ensures touched { OnOk result (touched.new.keys ≡ and_spot touched.old.keys spot.now) }

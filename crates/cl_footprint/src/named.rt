@@ -1,7 +1,7 @@
 //! Functions of contracts, and what names them.
 ghost use Rattle.std.specs.List.{AllByRecursion};
 ghost use Rattle.cl_types.specs.Name.{IsName};
-ghost use Rattle.cl_contracts.specs.Seen.{AreIndexed, deployed_seen};
+ghost use Rattle.cl_contracts.specs.Seen.{deployed_seen};
 ghost use Rattle.cl_touch.specs.CallSpots.{IsCallable};
 ghost use Rattle.cl_footprint.specs.Named.{IsNamed};
 
@@ -29,11 +29,10 @@ fn are_named(definitions: &[Definition])
 
 /// A law of deployed contracts: bytes that are no name of the language name no function.
 pub(crate) fn has_no_function(deployed: &Deployed, contract: &Principal, function: &[u8])
-    requires indexed { AreIndexed deployed.now }
-    requires no_name { IsName function.now → ⊥ }
+    requires { IsName function.now → ⊥ }
     ensures { IsCallable (deployed_seen deployed.now) contract.now function.now → ⊥ }
 {
     if let Some(found) = deployed.find(contract) {
-        are_named(found.checked.definitions.as_slice());
+        are_named(found.parts().definitions.as_slice());
     }
 }

@@ -6,7 +6,7 @@ ghost use Rattle.cl_code.specs.Typed.{expression_of};
 ghost use Rattle.cl_forms.specs.Shapes.{beside, principal_named};
 ghost use Rattle.cl_tables.specs.declared.place.Place.{Place as PlaceSeen};
 ghost use Rattle.cl_meaning.specs.Deployed.{Deployed as DeployedSeen, contract_at};
-ghost use Rattle.cl_contracts.specs.Seen.{AreIndexed, deployed_seen};
+ghost use Rattle.cl_contracts.specs.Seen.{deployed_seen};
 ghost use Rattle.cl_tables.specs.declared.spot.Spot.{Spot as SpotSeen};
 ghost use Rattle.cl_touch.specs.Touches.{natives_at};
 ghost use Rattle.cl_touch.specs.Uses.{Applies, Crosses, crossing, of_own, uses_in};
@@ -18,6 +18,7 @@ use crate::gathered::{add_function, add_spot, add_written};
 use cl_c32::{ContractName, Principal};
 use cl_code::{Applied, Code, NameNative, Op, PartsNative, Target};
 use cl_contracts::Deployed;
+use cl_keyed::HashKey;
 use cl_spots::Spot;
 use cl_tables::Place;
 use cl_types::{Name, NoMemory};
@@ -25,8 +26,8 @@ use indexmap::IndexSet;
 
 /// Adds what a native without a name uses.
 fn add_parts_native(
-    touched: &mut IndexSet<Spot>,
-    written: &mut IndexSet<Spot>,
+    touched: &mut IndexSet<Spot, HashKey>,
+    written: &mut IndexSet<Spot, HashKey>,
     native: PartsNative,
 ) -> Result<(), NoMemory>
     ensures { OnOk result ((W : DeployedSeen) (p : Who) (reached : List PlaceSeen) →
@@ -54,8 +55,8 @@ pub(crate) fn at_own(own: &Principal, name: &Name) -> Place
 /// Adds what a native with a name uses.
 fn add_name_native(
     own: &Principal,
-    touched: &mut IndexSet<Spot>,
-    written: &mut IndexSet<Spot>,
+    touched: &mut IndexSet<Spot, HashKey>,
+    written: &mut IndexSet<Spot, HashKey>,
     native: NameNative,
     name: &Name,
 ) -> Result<(), NoMemory>
@@ -85,7 +86,11 @@ fn add_name_native(
 }
 
 /// Adds a function of the contract.
-fn add_own(own: &Principal, reached: &mut IndexSet<Place>, name: &Name) -> Result<(), NoMemory>
+fn add_own(
+    own: &Principal,
+    reached: &mut IndexSet<Place, HashKey>,
+    name: &Name,
+) -> Result<(), NoMemory>
     ensures { OnOk result ((W : DeployedSeen) (touched written : List SpotSeen) →
         gathered reached.new.keys touched written
         ≡ with_uses W own.now (Applies name.now ∷ [])
@@ -98,7 +103,7 @@ fn add_own(own: &Principal, reached: &mut IndexSet<Place>, name: &Name) -> Resul
 /// Adds the function that is given by name to `map`, `filter` or `fold`.
 fn add_applied(
     own: &Principal,
-    reached: &mut IndexSet<Place>,
+    reached: &mut IndexSet<Place, HashKey>,
     applied: &Applied,
 ) -> Result<(), NoMemory>
     ensures { OnOk result ((W : DeployedSeen) (touched written : List SpotSeen) →
@@ -118,11 +123,10 @@ fn add_applied(
 /// Adds a function of the contract of a principal, if one is deployed there.
 fn add_deployed(
     deployed: &Deployed,
-    reached: &mut IndexSet<Place>,
+    reached: &mut IndexSet<Place, HashKey>,
     principal: &Principal,
     name: &Name,
 ) -> Result<(), NoMemory>
-    requires { AreIndexed deployed.now }
     ensures { OnOk result ((p : Who) (touched written : List SpotSeen) →
         gathered reached.new.keys touched written
         ≡ with_uses (deployed_seen deployed.now) p (Crosses principal.now name.now ∷ [])
@@ -151,11 +155,10 @@ fn beside(own: &Principal, name: &ContractName) -> Principal
 fn add_target(
     deployed: &Deployed,
     own: &Principal,
-    reached: &mut IndexSet<Place>,
+    reached: &mut IndexSet<Place, HashKey>,
     target: &Target,
     name: &Name,
 ) -> Result<(), NoMemory>
-    requires { AreIndexed deployed.now }
     ensures { OnOk result ((touched written : List SpotSeen) →
         gathered reached.new.keys touched written
         ≡ with_uses (deployed_seen deployed.now)
@@ -179,12 +182,11 @@ fn add_target(
 fn add_node(
     deployed: &Deployed,
     own: &Principal,
-    reached: &mut IndexSet<Place>,
-    touched: &mut IndexSet<Spot>,
-    written: &mut IndexSet<Spot>,
+    reached: &mut IndexSet<Place, HashKey>,
+    touched: &mut IndexSet<Spot, HashKey>,
+    written: &mut IndexSet<Spot, HashKey>,
     op: &Op,
 ) -> Result<(), NoMemory>
-    requires { AreIndexed deployed.now }
     ensures { OnOk result (
         gathered reached.new.keys touched.new.keys written.new.keys
         ≡ with_uses (deployed_seen deployed.now) own.now (uses_of_node own.now op.now)
@@ -224,13 +226,12 @@ fn add_node(
 pub(crate) fn walk(
     deployed: &Deployed,
     own: &Principal,
-    reached: &mut IndexSet<Place>,
-    touched: &mut IndexSet<Spot>,
-    written: &mut IndexSet<Spot>,
+    reached: &mut IndexSet<Place, HashKey>,
+    touched: &mut IndexSet<Spot, HashKey>,
+    written: &mut IndexSet<Spot, HashKey>,
     code: &Code,
 ) -> Result<(), NoMemory>
-    requires indexed { AreIndexed deployed.now }
-    requires goes { GoesIn (contract_at own.now (deployed_seen deployed.now)) code.now }
+    requires { GoesIn (contract_at own.now (deployed_seen deployed.now)) code.now }
     ensures { OnOk result (
         gathered reached.new.keys touched.new.keys written.new.keys
         ≡ with_uses (deployed_seen deployed.now)
@@ -248,13 +249,12 @@ pub(crate) fn walk(
 fn walk_parts(
     deployed: &Deployed,
     own: &Principal,
-    reached: &mut IndexSet<Place>,
-    touched: &mut IndexSet<Spot>,
-    written: &mut IndexSet<Spot>,
+    reached: &mut IndexSet<Place, HashKey>,
+    touched: &mut IndexSet<Spot, HashKey>,
+    written: &mut IndexSet<Spot, HashKey>,
     parts: &[Code],
 ) -> Result<(), NoMemory>
-    requires indexed { AreIndexed deployed.now }
-    requires goes { AllGoIn (contract_at own.now (deployed_seen deployed.now)) parts.now }
+    requires { AllGoIn (contract_at own.now (deployed_seen deployed.now)) parts.now }
     ensures { OnOk result (
         gathered reached.new.keys touched.new.keys written.new.keys
         ≡ with_uses (deployed_seen deployed.now)

@@ -1,3 +1,4 @@
+mod EmptyTables
 pub mod Finishing
 pub mod Plans
 pub mod NativeNames

@@ -29,7 +29,7 @@ use Rattle.cl_code.specs.declared.op.Word.{Word}
 use Rattle.cl_code.specs.Expression.{word}
 use Rattle.cl_contracts.specs.declared.contract.Contract.{Contract}
 use Rattle.cl_contracts.specs.Known.{Shown, seen, shown, IsKnownAs, AreKnownAs}
-use Rattle.cl_contracts.specs.Seen.{function_under, contract_under}
+use Rattle.cl_contracts.specs.Seen.{AreIndexed, function_under, contract_under}
 use Rattle.cl_contracts.proofs.KnownLaws.{known_is}
 use Rattle.cl_typing.specs.declared.concluding.Checked.{Checked}
 use Rattle.cl_typing.specs.declared.concluding.Concluded.{Concluded}
@@ -146,19 +146,19 @@ module _ (c : CodeContext) (B : Names) (args : List Tree) (at : Span) (enough : 
   target_odd f odd fails = whole (Err f) (shape_fails c call_shape at deep LiteralExpected f (λ G shows.
       ap (λ (t : First Known). first_rule (shape_rules (called_at row B args t (function_of t args)).faults)) (target_here None odd G shows) ∙ odd_first (first_named (λ x. Some x) (drop 1 args)) row args B enough) fails)
 
-  module _ (p : Principal) (literal : literal_of c.principal e ≡ Some p) where
-    known : (G : Context) → Shows c G → AreKnownAs (contract_under p c.deployed.now.contracts.entries) (known_at p G.deployed)
-    known G shows = known_is c.deployed.now G.deployed shows.indexed shows.deployed p
+  module _ (p : Principal) (literal : literal_of c.principal e ≡ Some p) (indexed : AreIndexed c.deployed.now) where
+    known : (G : Context) → Shows c G → AreKnownAs (contract_under p c.deployed.now.contracts) (known_at p G.deployed)
+    known G shows = known_is c.deployed.now G.deployed indexed shows.deployed p
 
-    pub target_none : (f : Fault Break) → None ≡ another_under c.principal c.deployed.now.contracts.entries p → f ≡ Refused (record { rule = NoSuchContract; span = at }) → ChecksHead c ContractCall B args at (Err f)
+    pub target_none : (f : Fault Break) → None ≡ another_under c.principal c.deployed.now.contracts p → f ≡ Refused (record { rule = NoSuchContract; span = at }) → ChecksHead c ContractCall B args at (Err f)
     target_none f none fails = whole (Err f) (shape_fails c call_shape at deep NoSuchContract f (λ G shows.
-        ap (λ (t : First Known). first_rule (shape_rules (called_at row B args t (function_of t args)).faults)) (target_here (Some p) literal G shows ∙ ap there_or_not (ap (λ (own : Principal). if same_principal p own then None else known_at p G.deployed) shows.principal ∙ none_target (same_principal p c.principal) (contract_under p c.deployed.now.contracts.entries) (known_at p G.deployed) (known G shows) none))
+        ap (λ (t : First Known). first_rule (shape_rules (called_at row B args t (function_of t args)).faults)) (target_here (Some p) literal G shows ∙ ap there_or_not (ap (λ (own : Principal). if same_principal p own then None else known_at p G.deployed) shows.principal ∙ none_target (same_principal p c.principal) (contract_under p c.deployed.now.contracts) (known_at p G.deployed) (known G shows) none))
         ∙ none_first (first_named (λ x. Some x) (drop 1 args)) row args B enough) fails)
 
-    module _ (contract : Contract) (there : Some contract ≡ another_under c.principal c.deployed.now.contracts.entries p) where
+    module _ (contract : Contract) (there : Some contract ≡ another_under c.principal c.deployed.now.contracts p) where
       found_target : (G : Context) → Shows c G → (k : Known) × (target_of G args ≡ There k) × IsKnownAs contract k
       found_target G shows =
-          let found = some_target (same_principal p c.principal) (contract_under p c.deployed.now.contracts.entries) (known_at p G.deployed) contract (known G shows) there in
+          let found = some_target (same_principal p c.principal) (contract_under p c.deployed.now.contracts) (known_at p G.deployed) contract (known G shows) there in
           (found.0, target_here (Some p) literal G shows ∙ ap there_or_not (ap (λ (own : Principal). if same_principal p own then None else known_at p G.deployed) shows.principal ∙ found.1), found.2)
 
       named_rest : (find : List ℕ → Option Signature) → first_named find (drop 1 args) ≡ first_named find (d ∷ rest)

@@ -6,7 +6,6 @@ use Rattle.cl_forms.specs.Heads.{native, is_reserved, define_words}
 use Rattle.cl_types.specs.Types.{NoType}
 use Rattle.cl_rules.specs.Context.{Signature, Context, Names, same, is_named, bind}
 pub use Rattle.cl_contracts.specs.Known.{Shown, seen}
-use Rattle.cl_contracts.specs.Seen.{AreIndexed}
 use Rattle.cl_contracts.specs.Standings.{Knows}
 use Rattle.cl_judging.specs.declared.context.Signature.{Signature as CodeSignature}
 use Rattle.cl_judging.specs.declared.context.Context.{Context as CodeContext}
@@ -24,7 +23,6 @@ shown_entry e = (e.0, shown e.1)
 pub record Shows (c : CodeContext) (G : Context) : Type 0 where
   pub principal : G.principal ≡ c.principal
   pub version : G.version ≡ c.version
-  pub indexed : AreIndexed c.deployed.now
   pub deployed : Knows c.deployed.now G.deployed
   pub constants : G.constants ≡ c.constants.entries
   pub variables : G.variables ≡ c.variables.entries

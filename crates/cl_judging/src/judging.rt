@@ -15,6 +15,7 @@ ghost use Rattle.cl_judging.specs.Judgement.{Judges};
 
 use crate::context::Context;
 use crate::walk::check_expr;
+use cl_keyed::HashKey;
 use cl_rules::{a_walk_stops_at_the_first_break, the_plain_program_is_right};
 use cl_sexpr::{Break, Sexpr};
 use cl_types::{Fault, Name, SizedTy};
@@ -27,7 +28,7 @@ use std::alloc::Global;
 pub fn judge(
     alloc: Global,
     ctx: &Context,
-    names: &mut IndexMap<Name, SizedTy>,
+    names: &mut IndexMap<Name, SizedTy, HashKey>,
     e: &Sexpr,
 ) -> Result<Checked, Fault<Break>>
     requires small { tree_size e.now ≤ 2 ^ 21 }

@@ -15,6 +15,7 @@ use crate::names::{is_no_value, keyword_of, keyword_type};
 use crate::node::{broken, finish, node};
 use cl_code::Op;
 use cl_forms::Keyword;
+use cl_keyed::HashKey;
 use cl_sexpr::{Break, Rule, Span};
 use cl_types::{Fault, Name, SizedTy};
 use cl_typing::{Checked, Concluded, conclude};
@@ -90,7 +91,7 @@ fn keyword(alloc: Global, keyword: Keyword, span: Span) -> Result<Checked, Fault
 pub(crate) fn check_name(
     alloc: Global,
     ctx: &Context,
-    scope: &IndexMap<Name, SizedTy>,
+    scope: &IndexMap<Name, SizedTy, HashKey>,
     name: &Name,
     span: Span,
 ) -> Result<Checked, Fault<Break>>

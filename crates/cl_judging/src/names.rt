@@ -8,6 +8,7 @@ ghost use Rattle.cl_judging.specs.Seen.{no_value_in, top_level_in, taken_in};
 
 use crate::context::{Context, Signature, function_under, is_in, map_under, type_under};
 use cl_forms::{Keyword, Version, is_one_of, is_reserved, native};
+use cl_keyed::HashKey;
 use cl_types::{Name, NoMemory, SizedTy, TyKind};
 use cl_typing::{none_type, of};
 use indexmap::IndexMap;
@@ -84,19 +85,19 @@ fn is_native(version: Version, name: &Name) -> bool
     native(name, version).is_some()
 }
 
-fn has_type(types: &IndexMap<Name, SizedTy>, name: &Name) -> bool
+fn has_type(types: &IndexMap<Name, SizedTy, HashKey>, name: &Name) -> bool
     ensures { result ≡ is_named name.now types.now.entries }
 {
     type_under(types, name).is_some()
 }
 
-fn has_map(maps: &IndexMap<Name, (SizedTy, SizedTy)>, name: &Name) -> bool
+fn has_map(maps: &IndexMap<Name, (SizedTy, SizedTy), HashKey>, name: &Name) -> bool
     ensures { result ≡ is_named name.now maps.now.entries }
 {
     map_under(maps, name).is_some()
 }
 
-fn has_function(functions: &IndexMap<Name, Signature>, name: &Name) -> bool
+fn has_function(functions: &IndexMap<Name, Signature, HashKey>, name: &Name) -> bool
     ensures { result ≡ is_named name.now functions.now.entries }
 {
     function_under(functions, name).is_some()
@@ -127,7 +128,7 @@ fn is_top_level(ctx: &Context, name: &Name) -> bool
 }
 
 /// Whether no binding may have a name.
-pub(crate) fn is_taken(ctx: &Context, scope: &IndexMap<Name, SizedTy>, name: &Name) -> bool
+pub(crate) fn is_taken(ctx: &Context, scope: &IndexMap<Name, SizedTy, HashKey>, name: &Name) -> bool
     ensures { result ≡ taken_in ctx.now scope.now.entries name.now }
 {
     is_reserved(ctx.version, name) || is_top_level(ctx, name) || has_type(scope, name)

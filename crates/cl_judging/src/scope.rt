@@ -19,6 +19,7 @@ ghost use Rattle.cl_judging.specs.Walking.{is_headed};
 use crate::context::Context;
 use crate::names::is_taken;
 use cl_code::{Binding, Word};
+use cl_keyed::HashKey;
 use cl_sexpr::{Node, Rule, Sexpr, Span};
 use cl_types::{Name, NoMemory, SizedTy, TyKind};
 use cl_typing::of;
@@ -26,7 +27,7 @@ use indexmap::IndexMap;
 use std::alloc::Global;
 
 /// The names that are bound, with their types, the innermost last.
-pub(crate) type Scope = IndexMap<Name, SizedTy>;
+pub(crate) type Scope = IndexMap<Name, SizedTy, HashKey>;
 
 /// One more name is bound.
 pub(crate) fn bind(scope: &mut Scope, name: Name, ty: SizedTy) -> Result<(), NoMemory>

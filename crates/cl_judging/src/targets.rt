@@ -5,6 +5,7 @@ ghost use Rattle.cl_code.specs.Expression.{target};
 ghost use Rattle.cl_judging.specs.Targets.{another_under, literal_of, open_function};
 ghost use Rattle.cl_judging.specs.Calls.{JudgesCallee};
 ghost use Rattle.cl_rules.specs.Context.{same_principal};
+ghost use Rattle.cl_contracts.specs.Seen.{AreIndexed};
 
 use crate::context::Context;
 use cl_c32::{ContractName, Principal};
@@ -50,8 +51,11 @@ fn is_same(p: &Principal, q: &Principal) -> bool
 
 /// The contract that is deployed under another principal than the own one.
 pub(crate) fn another_at<'a>(ctx: &'a Context, principal: &Principal) -> Option<&'a Contract>
-    ensures { option_copied result ≡ another_under ctx.now.principal ctx.now.deployed.now.contracts.entries principal.now }
+    ensures found { option_copied result
+        ≡ another_under ctx.now.principal ctx.now.deployed.now.contracts principal.now }
+    ensures indexed { AreIndexed ctx.now.deployed.now }
 {
+    ctx.deployed.are_known();
     if is_same(principal, &ctx.principal) {
         None
     } else {

@@ -6,8 +6,10 @@ ghost use Rattle.cl_judging.specs.LetWalk.{exprs_of};
 ghost use Rattle.cl_rules.specs.DataShapes.{keys_of, stands_twice, tuple_row};
 ghost use Rattle.cl_typing.specs.Verdicts.{ConcludesRow};
 
+use crate::context::Context;
 use crate::scope::binding_at;
 use cl_contracts::keys_stand_once;
+use cl_keyed::HashKey;
 use cl_sexpr::{Rule, Sexpr};
 use cl_types::{Fault, Name};
 use cl_typing::{Checked, Concluded, conclude, tuple_type, types_of};
@@ -74,7 +76,7 @@ pub(crate) fn bound_exprs<'a>(
 
 /// Whether a key stands twice. Those before it are noted in a set that is borrowed, so none of the
 /// ways out lets go of it.
-fn repeats_in(keys: &[Name], seen: &mut IndexSet<Name>) -> Result<bool, AllocError>
+fn repeats_in(keys: &[Name], seen: &mut IndexSet<Name, HashKey>) -> Result<bool, AllocError>
     requires { seen.old.keys ≡ [] }
     ensures { IfOk result (λ b. b ≡ stands_twice keys.now) }
 {
@@ -87,20 +89,20 @@ fn repeats_in(keys: &[Name], seen: &mut IndexSet<Name>) -> Result<bool, AllocErr
     Ok(false)
 }
 
-fn repeats(alloc: Global, keys: &[Name]) -> Result<bool, AllocError>
+fn repeats(alloc: Global, hash_key: HashKey, keys: &[Name]) -> Result<bool, AllocError>
     ensures { IfOk result (λ b. b ≡ stands_twice keys.now) }
 {
-    let mut seen = IndexSet::new(alloc);
+    let mut seen = IndexSet::with_hasher(alloc, hash_key);
     repeats_in(keys, &mut seen)
 }
 
 /// Whether a key stands twice.
-pub(crate) fn stand_twice(alloc: Global, keys: &[Name]) -> Result<bool, AllocError>
+pub(crate) fn stand_twice(alloc: Global, ctx: &Context, keys: &[Name]) -> Result<bool, AllocError>
     ensures twice { IfOk result (λ b. b ≡ stands_twice keys.now) }
     ensures once { IfOk result (λ b. are_once keys.now ≡ not b) }
 {
     keys_stand_once();
-    let twice = repeats(alloc, keys)?;
+    let twice = repeats(alloc, ctx.hash_key(), keys)?;
     Ok(twice)
 }
 

@@ -260,7 +260,7 @@ fn check_tuple(
     ensures kept { IfOk result (λ _. scope.new.entries ≡ scope.old.entries) }
 {
     let keys = keys_in(alloc, pairs)?;
-    if stand_twice(alloc, &keys)? {
+    if stand_twice(alloc, ctx, &keys)? {
         return Err(broken(Rule::KeyTwice, span));
     }
     let exprs = exprs_in(alloc, pairs)?;
@@ -293,7 +293,7 @@ fn check_pairs(
         return Err(broken(Rule::BadBinding, span));
     }
     let keys = bound_keys(alloc, args)?;
-    if stand_twice(alloc, &keys)? {
+    if stand_twice(alloc, ctx, &keys)? {
         return Err(broken(Rule::KeyTwice, span));
     }
     let pairs = bindings_in(alloc, args)?;
@@ -638,7 +638,8 @@ fn check_contract_call(
     requires fits { AllFit (forest args.now) }
     requires enough { takes (row_of heads.ContractCall).arity (length args.now) ≡ true }
     ensures found { ChecksHead ctx.now heads.ContractCall scope.old.entries args.now span result }
-    ensures text { IfOk result (λ c. expression_of c.code ≡ headed (codes "contract-call?") head args.now span) }
+    ensures text { IfOk result
+        (λ c. expression_of c.code ≡ headed (codes "contract-call?") head args.now span) }
     ensures kept { IfOk result (λ _. scope.new.entries ≡ scope.old.entries) }
 {
     let Some((first, second, rest)) = split_two(args) else {
@@ -659,7 +660,7 @@ fn check_contract_call(
     if !has_as_many(rest, f) {
         return Err(broken(Rule::ArgumentCount, span));
     }
-    let callee = callee_of(alloc, f, contract.checked.source_length)?;
+    let callee = callee_of(alloc, f, contract.parts().source_length)?;
     let parts = match check_parts(alloc, ctx, scope, rest) {
         Ok(parts) => parts,
         Err(fault) => return Err(fault),

@@ -30,6 +30,6 @@ known_public x (Some c) (Some k) h = ours (function_under x c.checked) ∙ ap pu
 known_public x None (Some k) h = absurd h
 known_public x (Some c) None h = absurd h
 
-pub other_public : KnownAsDeployed → (d : Deployed) (own p : Principal) (known : List Known) (x : List ℕ) (b : Bool) → AreIndexed d → same_principal p own ≡ false → Knows d known → b ≡ public_under x (contract_under p d.contracts.entries) → b ≡ is_public_in (another_at own known p) x
+pub other_public : KnownAsDeployed → (d : Deployed) (own p : Principal) (known : List Known) (x : List ℕ) (b : Bool) → AreIndexed d → same_principal p own ≡ false → Knows d known → b ≡ public_under x (contract_under p d.contracts) → b ≡ is_public_in (another_at own known p) x
 other_public law d own p known x b ok h knows is =
-    is ∙ known_public x (contract_under p d.contracts.entries) (known_at p known) (law d known ok knows p) ∙ ap (λ (c : Bool). is_public_in (if c then None else known_at p known) x) (sym h)
+    is ∙ known_public x (contract_under p d.contracts) (known_at p known) (law d known ok knows p) ∙ ap (λ (c : Bool). is_public_in (if c then None else known_at p known) x) (sym h)

@@ -7,7 +7,7 @@ ghost use Rattle.cl_code.specs.Expression.{target_leaf};
 ghost use Rattle.cl_code.specs.OpNames.{name_head, parts_head};
 ghost use Rattle.cl_rules.specs.Acceptance.{calls_public, is_public_in};
 ghost use Rattle.cl_rules.specs.Context.{Known, another_at, same_principal};
-ghost use Rattle.cl_contracts.specs.Seen.{AreIndexed, contract_under};
+ghost use Rattle.cl_contracts.specs.Seen.{contract_under};
 ghost use Rattle.cl_contracts.specs.Standings.{Knows};
 ghost use Rattle.cl_readonly.specs.Publics.{public_in, public_under};
 ghost use Rattle.cl_readonly.specs.Writing.{applied_writes, node_writes};
@@ -15,6 +15,7 @@ ghost use Rattle.cl_readonly.specs.Writing.{applied_writes, node_writes};
 use cl_c32::Principal;
 use cl_code::{Applied, NameNative, Op, PartsNative, Target};
 use cl_contracts::{Contract, Deployed, contract_of_literal, what_callers_know};
+use cl_keyed::HashKey;
 use cl_types::{Access, Name};
 use indexmap::IndexSet;
 
@@ -46,13 +47,13 @@ fn name_native_writes(native: NameNative) -> bool
 }
 
 /// Whether a function is among those that write.
-pub(crate) fn is_among(writing: &IndexSet<Name>, name: &Name) -> bool
+pub(crate) fn is_among(writing: &IndexSet<Name, HashKey>, name: &Name) -> bool
     ensures { result ≡ is_one_of writing.now.keys name.now }
 {
     writing.contains(name)
 }
 
-fn applied_writes(writing: &IndexSet<Name>, applied: &Applied) -> bool
+fn applied_writes(writing: &IndexSet<Name, HashKey>, applied: &Applied) -> bool
     ensures { result ≡ applied_writes writing.now.keys applied.now }
 {
     match applied {
@@ -81,7 +82,8 @@ fn has_public(contract: &Contract, name: &Name) -> bool
 }
 
 fn is_public_there(deployed: &Deployed, principal: &Principal, name: &Name) -> bool
-    ensures { result ≡ public_under name.now (contract_under principal.now deployed.now.contracts.entries) }
+    ensures { result
+        ≡ public_under name.now (contract_under principal.now deployed.now.contracts) }
 {
     match deployed.find(principal) {
         Some(contract) => has_public(contract, name),
@@ -90,10 +92,11 @@ fn is_public_there(deployed: &Deployed, principal: &Principal, name: &Name) -> b
 }
 
 fn is_public_at(deployed: &Deployed, own: &Principal, principal: &Principal, name: &Name) -> bool
-    requires { AreIndexed deployed.now }
-    ensures { (known : List Known) → Knows deployed.now known → result ≡ is_public_in (another_at own.now known principal.now) name.now }
+    ensures { (known : List Known) → Knows deployed.now known →
+        result ≡ is_public_in (another_at own.now known principal.now) name.now }
 {
     what_callers_know();
+    deployed.are_known();
     if is_same(principal, own) {
         return false;
     }
@@ -102,8 +105,8 @@ fn is_public_at(deployed: &Deployed, own: &Principal, principal: &Principal, nam
 
 /// Whether a literal and a name stand for a public function of another contract.
 fn is_public(deployed: &Deployed, own: &Principal, target: &Target, name: &Name) -> bool
-    requires { AreIndexed deployed.now }
-    ensures { (known : List Known) → Knows deployed.now known → result ≡ calls_public known own.now (target_leaf target.now) name.now }
+    ensures { (known : List Known) → Knows deployed.now known →
+        result ≡ calls_public known own.now (target_leaf target.now) name.now }
 {
     match contract_of_literal(own, target) {
         Some(principal) => is_public_at(deployed, own, &principal, name),
@@ -115,11 +118,11 @@ fn is_public(deployed: &Deployed, own: &Principal, target: &Target, name: &Name)
 pub(crate) fn node_writes(
     deployed: &Deployed,
     own: &Principal,
-    writing: &IndexSet<Name>,
+    writing: &IndexSet<Name, HashKey>,
     op: &Op,
 ) -> bool
-    requires { AreIndexed deployed.now }
-    ensures { (known : List Known) → Knows deployed.now known → result ≡ node_writes writing.now.keys (calls_public known own.now) op.now }
+    ensures { (known : List Known) → Knows deployed.now known →
+        result ≡ node_writes writing.now.keys (calls_public known own.now) op.now }
 {
     match op {
         Op::OnParts { native, .. } => parts_native_writes(*native),

@@ -9,6 +9,7 @@ ghost use Rattle.cl_meaning.specs.Deploying.{with_cap};
 ghost use Rattle.cl_frames.specs.Deploys.{Makes, contract_so_far, defined_by, cap_of};
 
 use cl_frames::{Deploying, Stop, pay, pay_for};
+use cl_keyed::HashKey;
 use cl_shapes::{CostName, Meter};
 use cl_state::World;
 use cl_tables::Place;
@@ -22,7 +23,7 @@ pub fn place_of(deploying: &Deploying, name: &Name) -> Place
     ensures name { result.name ≡ name.now }
 {
     Place {
-        contract: deploying.checked.principal,
+        contract: deploying.checked.parts().principal,
         name: *name,
     }
 }
@@ -40,7 +41,7 @@ fn cap_of(value: &Val) -> Option<u128>
 /// Charges the supply cap of a token, and puts the token in the world.
 pub fn put_capped(
     deploying: &Deploying,
-    constants: &IndexMap<Name, Val>,
+    constants: &IndexMap<Name, Val, HashKey>,
     name: &Name,
     cap: &Val,
     world: &mut World,
@@ -62,7 +63,7 @@ pub fn put_capped(
 
 pub fn define_uncapped(
     deploying: &Deploying,
-    constants: &IndexMap<Name, Val>,
+    constants: &IndexMap<Name, Val, HashKey>,
     name: &Name,
     world: &mut World,
     meter: &mut Meter,
@@ -78,7 +79,7 @@ pub fn define_uncapped(
 
 pub fn define_nonfungible(
     deploying: &Deploying,
-    constants: &IndexMap<Name, Val>,
+    constants: &IndexMap<Name, Val, HashKey>,
     name: &Name,
     world: &mut World,
     meter: &mut Meter,

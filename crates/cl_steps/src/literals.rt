@@ -16,6 +16,7 @@ ghost use Rattle.cl_frames.specs.Seen.{scope, Fits};
 use cl_c32::Principal;
 use cl_forms::Keyword;
 use cl_frames::{Context, Names, Stop, pay_for};
+use cl_keyed::HashKey;
 use cl_seq::{bool_value, int_value, none, uint_value};
 use cl_shapes::{CostName, Meter};
 use cl_types::{Name, NoMemory};
@@ -145,7 +146,7 @@ pub fn keyword(
 
 /// The value of a constant.
 #[tactic(auto, using(cl_contracts::proofs::Places::value_under))]
-fn constant<'a>(constants: &'a IndexMap<Name, Val>, name: &Name) -> Option<&'a Val>
+fn constant<'a>(constants: &'a IndexMap<Name, Val, HashKey>, name: &Name) -> Option<&'a Val>
     ensures { option_copied result ≡ value_of name.now constants.now.entries }
 {
     constants.get(name)

@@ -10,12 +10,13 @@ use Rattle.cl_state.specs.Stack.{Stack}
 use Rattle.cl_code.specs.declared.op.Binding.{Binding}
 use Rattle.cl_code.specs.Nodes.{are_once}
 use Rattle.cl_code.specs.Typed.{Typed, expression_of}
+use Rattle.cl_contracts.specs.declared.parts.Parts.{Parts}
 use Rattle.cl_contracts.specs.Seen.{function_seen}
 use Rattle.cl_meaning.specs.Answers.{and_then, returning}
 use Rattle.cl_shapes.specs.declared.name.CostName.TheVariants.{Literal}
 use Rattle.cl_meaning.specs.Names.{standing, literal}
 use Rattle.cl_values.specs.Valid.{made}
-use Rattle.cl_meaning.specs.Scope.{Frame, OwnFunction, in_frame, as_contract}
+use Rattle.cl_meaning.specs.Scope.{Frame, OwnFunction, called, in_frame, as_contract}
 use Rattle.cl_meaning.specs.Calls.{closing}
 use Rattle.cl_frames.specs.Watching.{watched, truthful}
 use Rattle.cl_meaning.specs.Meaning.{means, applied}
@@ -560,21 +561,21 @@ across::evaluate_contract_call-returns-then-same-clause-meant g t c fits = ap (w
 
 pub across::evaluate_contract_call-returns-in-Some-clause-meant : goal.across::evaluate_contract_call-returns-in-Some-clause-meant
 across::evaluate_contract_call-returns-in-Some-clause-meant g t c fits =
-    ends_so _ _ _ _ _ _ (ap (watched _ _ _) (Forms.contract_call_at _ _ _ _ _ _ _) ∙ then_gave _ _ _ _ _ _ _ _ _ (c.in_ok-values.ensures.meant fits) ∙ known_some _ _ _ _ _ _ _ (HomeLaws.another (scope c.args.context.now c.args.names.now) c.args.literal.now _ _ c.principal_of-principal.ensures (sym c.same.ensures ∙ c.if-same.false) (sym (c.contract_there.ensures.found fits.all) ∙ ap (option_map home_seen) c.in-Some.is))) (c.enter_there.ensures.meant c.args.names.now.values fits (HomeLaws.is_at _ _ _ (sym (c.contract_there.ensures.found fits.all) ∙ ap (option_map home_seen) c.in-Some.is) (HomeLaws.one_indexed _ _ c.in-Some.is (c.contract_there.ensures.indexed fits.all fits.opened))))
+    ends_so _ _ _ _ _ _ (ap (watched _ _ _) (Forms.contract_call_at _ _ _ _ _ _ _) ∙ then_gave _ _ _ _ _ _ _ _ _ (c.in_ok-values.ensures.meant fits) ∙ known_some _ _ _ _ _ _ _ (HomeLaws.another (scope c.args.context.now c.args.names.now) c.args.literal.now _ _ c.principal_of-principal.ensures (sym c.same.ensures ∙ c.if-same.false) (sym c.contract_there.ensures ∙ ap (option_map home_seen) c.in-Some.is))) (c.enter_there.ensures.meant c.args.names.now.values fits (HomeLaws.is_at _ _ _ (sym c.contract_there.ensures ∙ ap (option_map home_seen) c.in-Some.is)))
 
 pub across::evaluate_contract_call-returns-in-None-clause-meant : goal.across::evaluate_contract_call-returns-in-None-clause-meant
 across::evaluate_contract_call-returns-in-None-clause-meant g t c fits =
-    ap (watched _ _ _) (Forms.contract_call_at _ _ _ _ _ _ _) ∙ then_gave _ _ _ _ _ _ _ _ _ (c.in_ok-values.ensures.meant fits) ∙ known_none _ _ _ _ _ _ (HomeLaws.another (scope c.args.context.now c.args.names.now) c.args.literal.now _ _ c.principal_of-principal.ensures (sym c.same.ensures ∙ c.if-same.false) (sym (c.contract_there.ensures.found fits.all) ∙ ap (option_map home_seen) c.in-None.is))
+    ap (watched _ _ _) (Forms.contract_call_at _ _ _ _ _ _ _) ∙ then_gave _ _ _ _ _ _ _ _ _ (c.in_ok-values.ensures.meant fits) ∙ known_none _ _ _ _ _ _ (HomeLaws.another (scope c.args.context.now c.args.names.now) c.args.literal.now _ _ c.principal_of-principal.ensures (sym c.same.ensures ∙ c.if-same.false) (sym c.contract_there.ensures ∙ ap (option_map home_seen) c.in-None.is))
 
 pub across::enter_there-returns-in_err-pay-clause-meant : goal.across::enter_there-returns-in_err-pay-clause-meant
-across::enter_there-returns-in_err-pay-clause-meant g t c bound fits at = pay_fails_at _ _ c.in_err-pay.field-0.0 _ _ _ _ _ _ _ _ _ (err_from_is_err_and c.from_residual.result c.from_residual.ensures.1) c.from-length.ensures refl c.in_err-pay.ensures
+across::enter_there-returns-in_err-pay-clause-meant g t c bound fits at = pay_fails_at _ _ c.in_err-pay.field-0.0 _ _ _ _ _ _ _ _ _ (err_from_is_err_and c.from_residual.result c.from_residual.ensures.1) (c.from-length.ensures ∙ ap (λ (q : Parts). q.source_length) c.parts-contract.ensures) refl c.in_err-pay.ensures
 
 pub across::enter_there-returns-in-Some-clause-meant : goal.across::enter_there-returns-in-Some-clause-meant
 across::enter_there-returns-in-Some-clause-meant g t c bound fits at =
-    ends_so _ _ _ _ _ _ (charge_spent _ _ _ _ _ _ _ _ c.from-length.ensures c.in_ok-pay.ensures ∙ known_some _ _ _ _ _ _ _ (sym (c.callable.ensures.seen at.indexed) ∙ ap (option_map (λ f. function_seen f.now)) c.in-Some.is) ∙ ap (λ F. watched (costs_of c.args.context.now) c.pay.new.meter (g.W.Watch.seen c.args.watch.now) (applied c.args.below (in_frame F (scope_of c.args.context.now bound)) (OwnFunction (function_seen c.in-Some.function.now)) c.args.values.items c.args.world.now.stack.top)) (sym c.called-frame.ensures)) (c.enter.ensures.meant bound (HomeLaws.fits_there c.args.context.now c.args.home.now _ (ap (λ (F : Frame). F.contract) c.called-frame.ensures) at fits))
+    ends_so _ _ _ _ _ _ (charge_spent _ _ _ _ _ _ _ _ (c.from-length.ensures ∙ ap (λ (q : Parts). q.source_length) c.parts-contract.ensures) c.in_ok-pay.ensures ∙ known_some _ _ _ _ _ _ _ (sym c.callable.ensures.seen ∙ ap (option_map (λ f. function_seen f.now)) c.in-Some.is) ∙ ap (λ F. watched (costs_of c.args.context.now) c.pay.new.meter (g.W.Watch.seen c.args.watch.now) (applied c.args.below (in_frame F (scope_of c.args.context.now bound)) (OwnFunction (function_seen c.in-Some.function.now)) c.args.values.items c.args.world.now.stack.top)) (sym (c.called-frame.ensures ∙ ap (λ (q : Parts). called q.principal (frame_seen c.args.context.now.frame.now)) c.parts-contract.ensures))) (c.enter.ensures.meant bound (HomeLaws.fits_there c.args.context.now c.args.home.now _ (ap (λ (F : Frame). F.contract) c.called-frame.ensures ∙ ap (λ (q : Parts). q.principal) c.parts-contract.ensures) at fits))
 
 pub across::enter_there-returns-in-None-clause-meant : goal.across::enter_there-returns-in-None-clause-meant
-across::enter_there-returns-in-None-clause-meant g t c bound fits at = charge_spent _ _ _ _ _ _ _ _ c.from-length.ensures c.in_ok-pay.ensures ∙ known_none _ _ _ _ _ _ (sym (c.callable.ensures.seen at.indexed) ∙ ap (option_map (λ f. function_seen f.now)) c.in-None.is)
+across::enter_there-returns-in-None-clause-meant g t c bound fits at = charge_spent _ _ _ _ _ _ _ _ (c.from-length.ensures ∙ ap (λ (q : Parts). q.source_length) c.parts-contract.ensures) c.in_ok-pay.ensures ∙ known_none _ _ _ _ _ _ (sym c.callable.ensures.seen ∙ ap (option_map (λ f. function_seen f.now)) c.in-None.is)
 
 pub walk::evaluate_node-named-requires : goal.walk::evaluate_node-named-requires
 walk::evaluate_node-named-requires g t c = Nodes.no_keyword _ _ c.code.invariant.named c.in-Bound.is
@@ -1079,7 +1080,7 @@ pub across::evaluate_contract_call-evaluate_parts-requires : goal.across::evalua
 across::evaluate_contract_call-evaluate_parts-requires g t c = λ κs alive. (omega arith, (alive, c.requires.goes))
 
 pub across::enter_there-enter-requires : goal.across::enter_there-enter-requires
-across::enter_there-enter-requires g t c = λ κs alive. (omega arith, (alive, (omega (arith, c.requires), λ inside. Going.found_goes _ _ _ c.in-Some.is (c.callable.ensures.goes inside.indexed))))
+across::enter_there-enter-requires g t c = λ κs alive. (omega arith, (alive, (omega (arith, c.requires), λ inside. Going.found_goes _ _ _ c.in-Some.is c.callable.ensures.goes)))
 
 pub tuples::evaluate_as_max_len-evaluate-requires : goal.tuples::evaluate_as_max_len-evaluate-requires
 tuples::evaluate_as_max_len-evaluate-requires g t c = λ κs alive. (omega arith, (alive, Going.part_in c.args.context.now c.args.codes.now 0 _ c.requires.goes (omega (arith, c.requires.fit)) c.index-codes-0.is))

@@ -9,8 +9,8 @@ use Rattle.cl_bound.proofs.block.push_lines.Goals.{in-Some+in_ok-push, in_defaul
 
 pub loop-definition-preserved : goal.loop-definition-preserved
 loop-definition-preserved c table fs shows returns =
-    let all : List Definition = c.args.checked.now.definitions.items in
-    let whole : List Rebound = c.args.lines.now.items ++ lines_of (rebound_line table c.args.checked.now.principal fs) all in
+    let all : List Definition = c.args.parts.now.definitions.items in
+    let whole : List Rebound = c.args.lines.now.items ++ lines_of (rebound_line table c.args.parts.now.principal fs) all in
     let i : ℕ = c.loop-definition.definition-index in
     let d : Definition = c.definition-item.result in
     let lt : i < length all = subst (λ (ds : List Definition). i < length ds) c.deref-definition-items.ensures.value c.loop-definition-test.true in
@@ -18,10 +18,10 @@ loop-definition-preserved c table fs shows returns =
     let here = c.in_ok-line.ensures table fs shows (returns i d (slice_get-get_or all i d lt ∙ ap Some at)) in
     elim c.match-branch-2.branch [
       | in-Some+in_ok-push w ↦
-          line_more (rebound_line table c.args.checked.now.principal fs) c.args.checked.now.definitions.items (c.args.lines.now.items ++ lines_of (rebound_line table c.args.checked.now.principal fs) c.args.checked.now.definitions.items) c.loop-definition.definition-index w.in-Some.line c.loop-definition.lines.items c.match-branch-2.lines.items
+          line_more (rebound_line table c.args.parts.now.principal fs) c.args.parts.now.definitions.items (c.args.lines.now.items ++ lines_of (rebound_line table c.args.parts.now.principal fs) c.args.parts.now.definitions.items) c.loop-definition.definition-index w.in-Some.line c.loop-definition.lines.items c.match-branch-2.lines.items
           ((λ j. (w.lines-is j).items) ∙ w.in_ok-push.ensures.items)
-          (line_next (rebound_line table c.args.checked.now.principal fs) all whole i d (Some w.in-Some.line) c.loop-definition.lines.items lt at (sym w.in-Some.is ∙ here) (c.loop-definition.invariant table fs shows returns))
+          (line_next (rebound_line table c.args.parts.now.principal fs) all whole i d (Some w.in-Some.line) c.loop-definition.lines.items lt at (sym w.in-Some.is ∙ here) (c.loop-definition.invariant table fs shows returns))
       | in_default w ↦
-          line_past (rebound_line table c.args.checked.now.principal fs) all whole i c.loop-definition.lines.items c.match-branch-2.lines.items (λ j. (w.lines-is j).items)
-          (line_next (rebound_line table c.args.checked.now.principal fs) all whole i d None c.loop-definition.lines.items lt at (sym w.in_default.is ∙ here) (c.loop-definition.invariant table fs shows returns))
+          line_past (rebound_line table c.args.parts.now.principal fs) all whole i c.loop-definition.lines.items c.match-branch-2.lines.items (λ j. (w.lines-is j).items)
+          (line_next (rebound_line table c.args.parts.now.principal fs) all whole i d None c.loop-definition.lines.items lt at (sym w.in_default.is ∙ here) (c.loop-definition.invariant table fs shows returns))
     ]

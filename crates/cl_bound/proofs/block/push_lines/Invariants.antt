@@ -8,5 +8,5 @@ use Rattle.cl_bound.proofs.block.push_lines.Given as goal
 
 abbrev pub invariant-loop-definition : goal.invariant-loop-definition
 invariant-loop-definition l =
-    (table : CostTable) (fs : List Signature) → ShowFunctions table fs l.bounds.functions.entries → AllReturnAs fs l.checked.definitions.items →
-    l.lines.items ++ lines_of (rebound_line table l.checked.principal fs) (drop l.definition-index l.checked.definitions.items) ≡ l.fn.lines.items ++ lines_of (rebound_line table l.checked.principal fs) l.checked.definitions.items
+    (table : CostTable) (fs : List Signature) → ShowFunctions table fs l.bounds.functions.entries → AllReturnAs fs l.parts.definitions.items →
+    l.lines.items ++ lines_of (rebound_line table l.parts.principal fs) (drop l.definition-index l.parts.definitions.items) ≡ l.fn.lines.items ++ lines_of (rebound_line table l.parts.principal fs) l.parts.definitions.items

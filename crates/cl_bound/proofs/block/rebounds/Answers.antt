@@ -1,26 +1,19 @@
-use Rattle.std.proofs.Common.{List, ap, map, sym, subst, ◌∙◌}
+use Rattle.std.proofs.Common.{◌≡◌, List, [], map, sym, subst}
 use Rattle.std.specs.List.{flat_map}
-use Rattle.std.specs.Prelude.{option_map}
-use Rattle.std.specs.Map.Iter.{deref_pair}
+use Rattle.std.specs.Prelude.{IfOk}
 use Rattle.cl_c32.specs.declared.principal.Principal.{Principal}
-use Rattle.cl_contracts.specs.declared.contract.Contract.{Contract}
-use Rattle.cl_contracts.specs.Seen.{contract_seen}
-use Rattle.cl_tx.specs.Rebounds.{functions_at, rebounds_of}
-use Rattle.cl_bound.specs.Reaches.{AllReturnAs}
-use Rattle.cl_bound.proofs.Reaching.{entry_at, lines_of_more, no_more}
-use Rattle.cl_bound.proofs.Returning.{all_return}
+use Rattle.cl_rules.specs.Context.{CostTable, Known}
+use Rattle.cl_contracts.specs.Contents.{ContractParts as Contract}
+use Rattle.cl_contracts.specs.Seen.{AreEntries, contract_seen}
+use Rattle.cl_contracts.specs.Standings.{AreStanding}
+use Rattle.cl_tx.specs.Rebounds.{rebounds_of}
+use Rattle.cl_bound.specs.Known.{AreBounds}
 use Rattle.cl_bound.proofs.block.rebounds.Goals as goal
-use Rattle.cl_bound.proofs.block.rebounds.Goals.{in-Some+in_ok-push_contract, in_default}
 
-pub loop-place-preserved : goal.loop-place-preserved
-loop-place-preserved c table callers indexed knows are =
-    elim c.match-get_index.branch [
-      | in-Some+in_ok-push_contract w ↦
-          lines_of_more (rebounds_of table callers) c.args.deployed.now.contracts.entries c.loop-place.place _ w.in-Some.contract.now c.loop-place.lines.items c.match-get_index.lines.items indexed.each w.in-Some.ensures.entry (c.loop-place.invariant table callers indexed knows are)
-          ((λ j. (w.lines-is j).items) ∙ w.in_ok-push_contract.ensures table callers (are callers knows)
-          (subst (λ (p : Principal). AllReturnAs (functions_at p callers) w.in-Some.contract.now.checked.definitions.items) (sym (entry_at c.args.deployed.now.contracts.entries c.loop-place.place (_, w.in-Some.contract.now) indexed.each (sym w.in-Some.ensures.entry)).principal)
-          (all_return c.what_callers_know.ensures.known c.args.deployed.now callers c.loop-place.place _ w.in-Some.contract.now indexed knows c.len-place-end.ensures.unique (sym w.in-Some.ensures.entry))))
-      | in_default w ↦
-          (λ j. (w.lines-is j).items) ∙ c.loop-place.invariant table callers indexed knows are
-          ∙ ap (λ (es : List (Principal × Contract)). flat_map (rebounds_of table callers) (map contract_seen es)) (sym (no_more c.args.deployed.now.contracts.entries c.loop-place.place (sym c.get_index.ensures.entry ∙ ap (option_map deref_pair) w.in_default.is)))
-    ]
+pub lines_of-requires : goal.lines_of-requires
+lines_of-requires c = subst AreEntries (sym c.contracts.ensures) c.are_known.ensures.indexed.each
+
+pub returns : goal.returns
+returns c =
+    subst (λ (es : List (Principal × Contract)). IfOk c.lines_of.result (λ lines. (table : CostTable) (callers : List Known) → AreStanding [] es callers → AreBounds table es c.args.known.now →
+    lines.items ≡ flat_map (rebounds_of table callers) (map contract_seen es))) c.contracts.ensures c.lines_of.ensures

@@ -4,5 +4,5 @@ use Rattle.cl_bound.proofs.bounds.contract_bounds.Goals as goal
 
 pub returns : goal.returns
 returns c contracts are =
-    are_kept contracts c.args.checked.now c.deployment.new.prices c.args.costs.now c.kept.result c.kept.ensures.principal c.kept.ensures.length c.kept.ensures.functions (c.in_ok-deployment.ensures.costs ∙ c.new-prices.ensures.costs)
-    (λ known D stand stands. (c.in_ok-deployment.ensures.defined known c.args.checked.now.principal D (c.new-prices.ensures.shown known c.args.checked.now.version c.args.checked.now.source_length (are known stand)) stands).0)
+    are_kept contracts c.args.parts.now c.deployment.new.prices c.args.costs.now c.kept.result c.kept.ensures.principal c.kept.ensures.length c.kept.ensures.functions (c.in_ok-deployment.ensures.costs ∙ c.new-prices.ensures.costs)
+    (λ known D stand stands. (c.in_ok-deployment.ensures.defined known c.args.parts.now.principal D (c.new-prices.ensures.shown known c.args.parts.now.version c.args.parts.now.source_length (are known stand)) stands).0)

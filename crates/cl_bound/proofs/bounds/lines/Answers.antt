@@ -10,15 +10,15 @@ pub loop-definition-preserved : goal.loop-definition-preserved
 loop-definition-preserved c D shows bounded =
     let i : ℕ = c.loop-definition.definition-index in
     let d : Definition = c.definition-item.result in
-    let lt : i < length c.args.checked.now.definitions.items = subst (λ (ds : List Definition). i < length ds) c.deref-definition-items.ensures.value c.loop-definition-test.true in
-    let at : get_or c.args.checked.now.definitions.items i d ≡ d = subst (λ (ds : List Definition). get_or ds i d ≡ d) c.deref-definition-items.ensures.value (sym c.definition-item.is) in
-    let here = c.line.ensures D shows (one_within c.args.checked.now (function_of c.args.prices.now.costs) D i d lt at bounded) in
+    let lt : i < length c.args.parts.now.definitions.items = subst (λ (ds : List Definition). i < length ds) c.deref-definition-items.ensures.value c.loop-definition-test.true in
+    let at : get_or c.args.parts.now.definitions.items i d ≡ d = subst (λ (ds : List Definition). get_or ds i d ≡ d) c.deref-definition-items.ensures.value (sym c.definition-item.is) in
+    let here = c.line.ensures D shows (one_within c.args.parts.now (function_of c.args.prices.now.costs) D i d lt at bounded) in
     elim c.match-line.branch [
       | in-Some+in_ok-push w ↦
-          line_more (bound_line (function_of c.args.prices.now.costs) D) c.args.checked.now.definitions.items (lines_of (bound_line (function_of c.args.prices.now.costs) D) c.args.checked.now.definitions.items) i w.in-Some.line c.loop-definition.lines.items c.match-line.lines.items
+          line_more (bound_line (function_of c.args.prices.now.costs) D) c.args.parts.now.definitions.items (lines_of (bound_line (function_of c.args.prices.now.costs) D) c.args.parts.now.definitions.items) i w.in-Some.line c.loop-definition.lines.items c.match-line.lines.items
           ((λ j. (w.lines-is j).items) ∙ w.in_ok-push.ensures.items)
-          (line_next (bound_line (function_of c.args.prices.now.costs) D) c.args.checked.now.definitions.items (lines_of (bound_line (function_of c.args.prices.now.costs) D) c.args.checked.now.definitions.items) i d (Some w.in-Some.line) c.loop-definition.lines.items lt at (sym w.in-Some.is ∙ here) (c.loop-definition.invariant D shows bounded))
+          (line_next (bound_line (function_of c.args.prices.now.costs) D) c.args.parts.now.definitions.items (lines_of (bound_line (function_of c.args.prices.now.costs) D) c.args.parts.now.definitions.items) i d (Some w.in-Some.line) c.loop-definition.lines.items lt at (sym w.in-Some.is ∙ here) (c.loop-definition.invariant D shows bounded))
       | in_default w ↦
-          line_past (bound_line (function_of c.args.prices.now.costs) D) c.args.checked.now.definitions.items (lines_of (bound_line (function_of c.args.prices.now.costs) D) c.args.checked.now.definitions.items) i c.loop-definition.lines.items c.match-line.lines.items (λ j. (w.lines-is j).items)
-          (line_next (bound_line (function_of c.args.prices.now.costs) D) c.args.checked.now.definitions.items (lines_of (bound_line (function_of c.args.prices.now.costs) D) c.args.checked.now.definitions.items) i d None c.loop-definition.lines.items lt at (sym w.in_default.is ∙ here) (c.loop-definition.invariant D shows bounded))
+          line_past (bound_line (function_of c.args.prices.now.costs) D) c.args.parts.now.definitions.items (lines_of (bound_line (function_of c.args.prices.now.costs) D) c.args.parts.now.definitions.items) i c.loop-definition.lines.items c.match-line.lines.items (λ j. (w.lines-is j).items)
+          (line_next (bound_line (function_of c.args.prices.now.costs) D) c.args.parts.now.definitions.items (lines_of (bound_line (function_of c.args.prices.now.costs) D) c.args.parts.now.definitions.items) i d None c.loop-definition.lines.items lt at (sym w.in_default.is ∙ here) (c.loop-definition.invariant D shows bounded))
     ]

@@ -9,4 +9,4 @@ use Rattle.cl_bound.proofs.Lines.{lines_of}
 use Rattle.cl_bound.proofs.bounds.lines.Given as goal
 
 abbrev pub invariant-loop-definition : goal.invariant-loop-definition
-invariant-loop-definition l = (D : Defined) → ShowsPrices l.prices D.context → Bounded D (forms_of l.checked) (function_of l.prices.costs) → l.lines.items ++ lines_of (bound_line (function_of l.prices.costs) D) (drop l.definition-index l.checked.definitions.items) ≡ lines_of (bound_line (function_of l.prices.costs) D) l.checked.definitions.items
+invariant-loop-definition l = (D : Defined) → ShowsPrices l.prices D.context → Bounded D (forms_of l.parts) (function_of l.prices.costs) → l.lines.items ++ lines_of (bound_line (function_of l.prices.costs) D) (drop l.definition-index l.parts.definitions.items) ≡ lines_of (bound_line (function_of l.prices.costs) D) l.parts.definitions.items

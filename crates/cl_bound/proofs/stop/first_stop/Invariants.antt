@@ -6,4 +6,4 @@ use Rattle.cl_bound.proofs.Stopping.{stop_of}
 use Rattle.cl_bound.proofs.stop.first_stop.Given as goal
 
 abbrev pub invariant-loop-place : goal.invariant-loop-place
-invariant-loop-place l = (D : Defined) → ShowsPrices l.prices D.context → stop_of l.checked (function_of l.prices.costs) D l.checked.order.items ≡ stop_of l.checked (function_of l.prices.costs) D (drop l.place-index l.checked.order.items)
+invariant-loop-place l = (D : Defined) → ShowsPrices l.prices D.context → stop_of l.parts (function_of l.prices.costs) D l.parts.order.items ≡ stop_of l.parts (function_of l.prices.costs) D (drop l.place-index l.parts.order.items)

@@ -11,4 +11,4 @@ returns-clause-names c y h =
     names_more (λ b. is_named y c.args.ctx.now.constants.entries || is_named y c.args.ctx.now.variables.entries || is_named y c.args.ctx.now.maps.entries || list_any (same y) c.args.ctx.now.fungibles.keys || is_named y c.args.ctx.now.nonfungibles.entries || b) y c.args.name c.args.function c.args.ctx.now.functions.entries c.insert.new.self.entries (at_end c.args.name c.args.function c.args.ctx.now.functions c.insert.new.self.entries (top_free c.args.ctx.now c.args.name c.requires).functions c.in_ok-insert.ensures.entries) h
 
 pub returns-clause-shown : goal.returns-clause-shown
-returns-clause-shown c G f h one = record { principal = h.principal; version = h.version; indexed = h.indexed; deployed = h.deployed; constants = h.constants; variables = h.variables; maps = h.maps; fungibles = h.fungibles; nonfungibles = h.nonfungibles; functions = map_end seen_under shown_entry G.functions c.args.ctx.now.functions.entries f (c.args.name, c.args.function) h.functions one ∙ ap (map shown_entry) (sym (at_end c.args.name c.args.function c.args.ctx.now.functions c.insert.new.self.entries (top_free c.args.ctx.now c.args.name c.requires).functions c.in_ok-insert.ensures.entries)) }
+returns-clause-shown c G f h one = record { principal = h.principal; version = h.version; deployed = h.deployed; constants = h.constants; variables = h.variables; maps = h.maps; fungibles = h.fungibles; nonfungibles = h.nonfungibles; functions = map_end seen_under shown_entry G.functions c.args.ctx.now.functions.entries f (c.args.name, c.args.function) h.functions one ∙ ap (map shown_entry) (sym (at_end c.args.name c.args.function c.args.ctx.now.functions c.insert.new.self.entries (top_free c.args.ctx.now c.args.name c.requires).functions c.in_ok-insert.ensures.entries)) }

@@ -5,19 +5,18 @@ use Rattle.cl_check.proofs.checker.nothing.Goals as goal
 
 pub returns-clause-empty : goal.returns-clause-empty
 returns-clause-empty c x =
-    nothing_named x c.new-constants.result.entries c.new-variables.result.entries c.new-nonfungibles.result.entries c.new-maps.result.entries c.new-fungibles.result.keys c.new-functions.result.entries
-    c.new-constants.ensures.empty c.new-variables.ensures.empty c.new-maps.ensures.empty c.new-fungibles.ensures.empty c.new-nonfungibles.ensures.empty c.new-functions.ensures.empty
+    nothing_named x c.with_hasher-constants.result.entries c.with_hasher-variables.result.entries c.with_hasher-nonfungibles.result.entries c.with_hasher-maps.result.entries c.with_hasher-fungibles.result.keys c.with_hasher-functions.result.entries
+    c.with_hasher-constants.ensures.empty c.with_hasher-variables.ensures.empty c.with_hasher-maps.ensures.empty c.with_hasher-fungibles.ensures.empty c.with_hasher-nonfungibles.ensures.empty c.with_hasher-functions.ensures.empty
 
 pub returns-clause-shown : goal.returns-clause-shown
 returns-clause-shown c known size k = record {
   principal = refl;
   version = refl;
-  indexed = c.requires;
   deployed = k;
-  constants = sym c.new-constants.ensures.empty;
-  variables = sym c.new-variables.ensures.empty;
-  maps = sym c.new-maps.ensures.empty;
-  fungibles = sym c.new-fungibles.ensures.empty;
-  nonfungibles = sym c.new-nonfungibles.ensures.empty;
-  functions = ap (map shown_entry) (sym c.new-functions.ensures.empty);
+  constants = sym c.with_hasher-constants.ensures.empty;
+  variables = sym c.with_hasher-variables.ensures.empty;
+  maps = sym c.with_hasher-maps.ensures.empty;
+  fungibles = sym c.with_hasher-fungibles.ensures.empty;
+  nonfungibles = sym c.with_hasher-nonfungibles.ensures.empty;
+  functions = ap (map shown_entry) (sym c.with_hasher-functions.ensures.empty);
 }

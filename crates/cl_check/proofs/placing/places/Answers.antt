@@ -4,7 +4,7 @@ use Rattle.cl_check.proofs.NamePlaces.{none_placed, name_defined, all_names_plac
 use Rattle.cl_check.proofs.placing.places.Goals as goal
 
 pub loop-place-init : goal.loop-place-init
-loop-place-init c = none_placed (map form_defined c.args.definitions.now) c.new-places.result.entries c.new-places.ensures.empty
+loop-place-init c = none_placed (map form_defined c.args.definitions.now) c.with_hasher-places.result.entries c.with_hasher-places.ensures.empty
 
 pub loop-place-preserved : goal.loop-place-preserved
 loop-place-preserved c =

@@ -15,8 +15,8 @@ returns c =
     subst (λ (x : List Spot × List Spot). IsFootprint (deployed_seen c.args.deployed.now) c.args.contract.now c.args.function.now x.0 x.1) (λ i. (sym touched i, sym written i))
     (elim c.if-is_callable.branch [
       | then-is_callable+in_ok-add_function+in_ok-gather w ↦
-          let reached : w.add_function.new.reached.keys ≡ of_own c.args.contract.now c.args.function.now ∷ [] = w.in_ok-add_function.ensures ∙ (λ i. and_place (w.new-reached.ensures.empty i) (w.at_own.ensures i)) in
-          let start : gathered w.add_function.new.reached.keys c.new-touched.result.keys c.new-written.result.keys ≡ gathered (of_own c.args.contract.now c.args.function.now ∷ []) [] [] = λ i. gathered (reached i) (c.new-touched.ensures.empty i) (c.new-written.ensures.empty i) in
+          let reached : w.add_function.new.reached.keys ≡ of_own c.args.contract.now c.args.function.now ∷ [] = w.in_ok-add_function.ensures ∙ (λ i. and_place (w.with_hasher-reached.ensures.empty i) (w.at_own.ensures i)) in
+          let start : gathered w.add_function.new.reached.keys c.with_hasher-touched.result.keys c.with_hasher-written.result.keys ≡ gathered (of_own c.args.contract.now c.args.function.now ∷ []) [] [] = λ i. gathered (reached i) (c.with_hasher-touched.ensures.empty i) (c.with_hasher-written.ensures.empty i) in
           let touched : c.if-is_callable.touched.keys ≡ w.gather.new.touched.keys = λ i. (w.touched-is i).keys in
           let written : c.if-is_callable.written.keys ≡ w.gather.new.written.keys = λ i. (w.written-is i).keys in
           subst (λ (x : List Spot × List Spot). IsFootprint (deployed_seen c.args.deployed.now) c.args.contract.now c.args.function.now x.0 x.1) (λ i. (sym touched i, sym written i))
@@ -24,5 +24,5 @@ returns c =
           (w.in_ok-gather.ensures c.args.contract.now c.args.function.now start) (c.as_slice.ensures.keys ∙ touched) c.are_spots.ensures)
       | else-is_callable w ↦
           none_found (deployed_seen c.args.deployed.now) c.args.contract.now c.args.function.now (c.is_callable.ensures.no w.if-is_callable.false) c.if-is_callable.touched.keys c.if-is_callable.written.keys
-          ((λ i. (w.touched-is i).keys) ∙ c.new-touched.ensures.empty) ((λ i. (w.written-is i).keys) ∙ c.new-written.ensures.empty)
+          ((λ i. (w.touched-is i).keys) ∙ c.with_hasher-touched.ensures.empty) ((λ i. (w.written-is i).keys) ∙ c.with_hasher-written.ensures.empty)
     ])

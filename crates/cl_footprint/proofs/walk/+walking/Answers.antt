@@ -14,13 +14,13 @@ pub walk-returns : goal.walk-returns
 walk-returns t c =
     walked (natives_at c.args.own.now (deployed_seen c.args.deployed.now)) (deployed_seen c.args.deployed.now) c.args.own.now c.code.inside.op c.code.inside.parts.items c.deref.result.now c.code.inside.span c.args.code.now c.code.inside.ty (versions_of c.code.inside.op) (typeds c.code.inside.parts.items)
     (gathered c.args.reached.now.keys c.args.touched.now.keys c.args.written.now.keys) (gathered c.add_node.new.reached.keys c.add_node.new.touched.keys c.add_node.new.written.keys)
-    (gathered c.walk_parts.new.reached.keys c.walk_parts.new.touched.keys c.walk_parts.new.written.keys) c.code.invariant.fit (node_named c.code.inside.op (map expression_of c.code.inside.parts.items) c.code.inside.span c.code.inside.ty c.code.inside.parts.items c.args.code.now (sym c.code.view_is) (contract_at c.args.own.now (deployed_seen c.args.deployed.now)) c.requires.goes) (sym c.code.view_is) c.deref.ensures.value c.in_ok-add_node.ensures c.in_ok-walk_parts.ensures
+    (gathered c.walk_parts.new.reached.keys c.walk_parts.new.touched.keys c.walk_parts.new.written.keys) c.code.invariant.fit (node_named c.code.inside.op (map expression_of c.code.inside.parts.items) c.code.inside.span c.code.inside.ty c.code.inside.parts.items c.args.code.now (sym c.code.view_is) (contract_at c.args.own.now (deployed_seen c.args.deployed.now)) c.requires) (sym c.code.view_is) c.deref.ensures.value c.in_ok-add_node.ensures c.in_ok-walk_parts.ensures
 
 pub walk_parts-walk-requires : goal.walk_parts-walk-requires
 walk_parts-walk-requires t c =
     let less : weight_of c.part-item.result < weights_of (typeds c.args.parts.now) = part_falls c.args.parts.now c.loop-part.part-index c.part-item.result c.loop-part-test.true (sym c.part-item.is) in (
       omega (arith, less, c.decreases),
-      (c.requires.indexed, one_goes (contract_at c.args.own.now (deployed_seen c.args.deployed.now)) c.args.parts.now c.loop-part.part-index c.part-item.result c.requires.goes c.loop-part-test.true (sym c.part-item.is)),
+      one_goes (contract_at c.args.own.now (deployed_seen c.args.deployed.now)) c.args.parts.now c.loop-part.part-index c.part-item.result c.requires c.loop-part-test.true (sym c.part-item.is),
     )
 
 pub walk_parts-loop-part-preserved : goal.walk_parts-loop-part-preserved

@@ -7,4 +7,4 @@ use Rattle.cl_footprint.proofs.walk.add_deployed.Goals as goal
 pub returns-in_ok-add_own-in-Some : goal.returns-in_ok-add_own-in-Some
 returns-in_ok-add_own-in-Some c p touched written =
     c.in_ok-add_own-in-Some.ensures (deployed_seen c.args.deployed.now) touched written
-    ∙ ap (λ (o : Option Contract). with_crossed o c.args.name.now (gathered c.args.reached.now.keys touched written)) (c.in-Some.ensures.seen c.requires)
+    ∙ ap (λ (o : Option Contract). with_crossed o c.args.name.now (gathered c.args.reached.now.keys touched written)) c.in-Some.ensures.seen

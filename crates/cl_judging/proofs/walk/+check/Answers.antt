@@ -293,19 +293,19 @@ pub check_contract_call-returns-in_default-target_in-clause-found : goal.check_c
 check_contract_call-returns-in_default-target_in-clause-found t c = target_odd c.args.ctx.now c.args.scope.now.entries c.args.args.now c.args.span c.requires.enough c.in-Some.first.now c.in-Some.second.now c.in-Some.rest.now c.in-Some.ensures.some c.broken.result c.in_default-target_in.ensures.none c.broken.ensures
 
 pub check_contract_call-returns-in_default-another_at-clause-found : goal.check_contract_call-returns-in_default-another_at-clause-found
-check_contract_call-returns-in_default-another_at-clause-found t c = target_none c.args.ctx.now c.args.scope.now.entries c.args.args.now c.args.span c.requires.enough c.in-Some.first.now c.in-Some.second.now c.in-Some.rest.now c.in-Some.ensures.some c.in-Some-target_in.principal c.in-Some-target_in.ensures.literal c.broken-in_default-another_at.result c.in_default-another_at.ensures c.broken-in_default-another_at.ensures
+check_contract_call-returns-in_default-another_at-clause-found t c = target_none c.args.ctx.now c.args.scope.now.entries c.args.args.now c.args.span c.requires.enough c.in-Some.first.now c.in-Some.second.now c.in-Some.rest.now c.in-Some.ensures.some c.in-Some-target_in.principal c.in-Some-target_in.ensures.literal c.in_default-another_at.ensures.indexed c.broken-in_default-another_at.result c.in_default-another_at.ensures.found c.broken-in_default-another_at.ensures
 
 pub check_contract_call-returns-in_default-name_in-clause-found : goal.check_contract_call-returns-in_default-name_in-clause-found
-check_contract_call-returns-in_default-name_in-clause-found t c = function_odd c.args.ctx.now c.args.scope.now.entries c.args.args.now c.args.span c.requires.enough c.in-Some.first.now c.in-Some.second.now c.in-Some.rest.now c.in-Some.ensures.some c.in-Some-target_in.principal c.in-Some-target_in.ensures.literal c.in-Some-another_at.contract.now c.in-Some-another_at.ensures c.broken-in_default-name_in.result c.in_default-name_in.ensures.none c.broken-in_default-name_in.ensures
+check_contract_call-returns-in_default-name_in-clause-found t c = function_odd c.args.ctx.now c.args.scope.now.entries c.args.args.now c.args.span c.requires.enough c.in-Some.first.now c.in-Some.second.now c.in-Some.rest.now c.in-Some.ensures.some c.in-Some-target_in.principal c.in-Some-target_in.ensures.literal c.in-Some-another_at.ensures.indexed c.in-Some-another_at.contract.now c.in-Some-another_at.ensures.found c.broken-in_default-name_in.result c.in_default-name_in.ensures.none c.broken-in_default-name_in.ensures
 
 pub check_contract_call-returns-in_default-callable-clause-found : goal.check_contract_call-returns-in_default-callable-clause-found
-check_contract_call-returns-in_default-callable-clause-found t c = function_none c.args.ctx.now c.args.scope.now.entries c.args.args.now c.args.span c.requires.enough c.in-Some.first.now c.in-Some.second.now c.in-Some.rest.now c.in-Some.ensures.some c.in-Some-target_in.principal c.in-Some-target_in.ensures.literal c.in-Some-another_at.contract.now c.in-Some-another_at.ensures c.in-Some-name_in.function c.in-Some-name_in.ensures.some c.broken-in_default-callable.result c.in_default-callable.ensures c.broken-in_default-callable.ensures
+check_contract_call-returns-in_default-callable-clause-found t c = function_none c.args.ctx.now c.args.scope.now.entries c.args.args.now c.args.span c.requires.enough c.in-Some.first.now c.in-Some.second.now c.in-Some.rest.now c.in-Some.ensures.some c.in-Some-target_in.principal c.in-Some-target_in.ensures.literal c.in-Some-another_at.ensures.indexed c.in-Some-another_at.contract.now c.in-Some-another_at.ensures.found c.in-Some-name_in.function c.in-Some-name_in.ensures.some c.broken-in_default-callable.result c.in_default-callable.ensures c.broken-in_default-callable.ensures
 
 pub check_contract_call-returns-then-not-has_as_many-clause-found : goal.check_contract_call-returns-then-not-has_as_many-clause-found
-check_contract_call-returns-then-not-has_as_many-clause-found t c = callee_short c.args.ctx.now c.args.scope.now.entries c.args.args.now c.args.span c.requires.enough c.in-Some.first.now c.in-Some.second.now c.in-Some.rest.now c.in-Some.ensures.some c.in-Some-target_in.principal c.in-Some-target_in.ensures.literal c.in-Some-another_at.contract.now c.in-Some-another_at.ensures c.in-Some-name_in.function c.in-Some-name_in.ensures.some c.in-Some-callable.f.now c.in-Some-callable.ensures c.has_as_many.result c.broken-then-not-has_as_many.result c.has_as_many.ensures c.if-not-has_as_many.true c.broken-then-not-has_as_many.ensures
+check_contract_call-returns-then-not-has_as_many-clause-found t c = callee_short c.args.ctx.now c.args.scope.now.entries c.args.args.now c.args.span c.requires.enough c.in-Some.first.now c.in-Some.second.now c.in-Some.rest.now c.in-Some.ensures.some c.in-Some-target_in.principal c.in-Some-target_in.ensures.literal c.in-Some-another_at.ensures.indexed c.in-Some-another_at.contract.now c.in-Some-another_at.ensures.found c.in-Some-name_in.function c.in-Some-name_in.ensures.some c.in-Some-callable.f.now c.in-Some-callable.ensures c.has_as_many.result c.broken-then-not-has_as_many.result c.has_as_many.ensures c.if-not-has_as_many.true c.broken-then-not-has_as_many.ensures
 
 pub check_contract_call-returns-in-Err-clause-found : goal.check_contract_call-returns-in-Err-clause-found
-check_contract_call-returns-in-Err-clause-found t c = callee_fails c.args.ctx.now c.args.scope.now.entries c.args.args.now c.args.span c.requires.enough c.in-Some.first.now c.in-Some.second.now c.in-Some.rest.now c.in-Some.ensures.some c.in-Some-target_in.principal c.in-Some-target_in.ensures.literal c.in-Some-another_at.contract.now c.in-Some-another_at.ensures c.in-Some-name_in.function c.in-Some-name_in.ensures.some c.in-Some-callable.f.now c.in-Some-callable.ensures c.has_as_many.result c.has_as_many.ensures c.if-not-has_as_many.false c.in-Err.fault c.in-Err.ensures.found
+check_contract_call-returns-in-Err-clause-found t c = callee_fails c.args.ctx.now c.args.scope.now.entries c.args.args.now c.args.span c.requires.enough c.in-Some.first.now c.in-Some.second.now c.in-Some.rest.now c.in-Some.ensures.some c.in-Some-target_in.principal c.in-Some-target_in.ensures.literal c.in-Some-another_at.ensures.indexed c.in-Some-another_at.contract.now c.in-Some-another_at.ensures.found c.in-Some-name_in.function c.in-Some-name_in.ensures.some c.in-Some-callable.f.now c.in-Some-callable.ensures c.has_as_many.result c.has_as_many.ensures c.if-not-has_as_many.false c.in-Err.fault c.in-Err.ensures.found
 
 pub check_contract_call-finish-requires : goal.check_contract_call-finish-requires
 check_contract_call-finish-requires t c =
@@ -318,7 +318,7 @@ check_contract_call-finish-requires t c =
 
 pub check_contract_call-returns-clause-found : goal.check_contract_call-returns-clause-found
 unfolding goes_op
-check_contract_call-returns-clause-found t c = callee_found c.args.ctx.now c.args.scope.now.entries c.args.args.now c.args.span c.requires.enough c.in-Some.first.now c.in-Some.second.now c.in-Some.rest.now c.in-Some.ensures.some c.in-Some-target_in.principal c.in-Some-target_in.ensures.literal c.in-Some-another_at.contract.now c.in-Some-another_at.ensures c.in-Some-name_in.function c.in-Some-name_in.ensures.some c.in-Some-callable.f.now c.in-Some-callable.ensures c.has_as_many.result c.has_as_many.ensures c.if-not-has_as_many.false c.in-Ok.parts c.on_callee-concluded.result c.finish.result c.in-Ok.ensures.found (subst (λ (cs : List Checked). JudgesCallee c.in-Some-callable.f.now cs c.on_callee-concluded.result) c.deref.ensures.value c.on_callee-concluded.ensures) (λ G shows. c.finish.ensures.found G refl)
+check_contract_call-returns-clause-found t c = callee_found c.args.ctx.now c.args.scope.now.entries c.args.args.now c.args.span c.requires.enough c.in-Some.first.now c.in-Some.second.now c.in-Some.rest.now c.in-Some.ensures.some c.in-Some-target_in.principal c.in-Some-target_in.ensures.literal c.in-Some-another_at.ensures.indexed c.in-Some-another_at.contract.now c.in-Some-another_at.ensures.found c.in-Some-name_in.function c.in-Some-name_in.ensures.some c.in-Some-callable.f.now c.in-Some-callable.ensures c.has_as_many.result c.has_as_many.ensures c.if-not-has_as_many.false c.in-Ok.parts c.on_callee-concluded.result c.finish.result c.in-Ok.ensures.found (subst (λ (cs : List Checked). JudgesCallee c.in-Some-callable.f.now cs c.on_callee-concluded.result) c.deref.ensures.value c.on_callee-concluded.ensures) (λ G shows. c.finish.ensures.found G refl)
 
 -- ---- names and literals that are within the limits
 

@@ -23,7 +23,7 @@ tree_writes-returns t c known G B f knows own stands =
 pub any_writes-tree_writes-requires : goal.any_writes-tree_writes-requires
 any_writes-tree_writes-requires t c =
     let less : weight_of c.part-item.result < weights_of (typeds c.args.parts.now) = part_falls c.args.parts.now c.loop-part.part-index c.part-item.result c.loop-part-test.true (sym c.part-item.is) in
-    (omega (arith, less, c.decreases), c.requires)
+    (omega (arith, less, c.decreases), tt)
 
 pub any_writes-loop-part-init : goal.any_writes-loop-part-init
 any_writes-loop-part-init t c known G knows own = none_gone c.args.writing.now.keys (calls_public known c.args.own.now) G c.args.parts.now

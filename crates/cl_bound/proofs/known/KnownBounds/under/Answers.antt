@@ -1,21 +1,15 @@
-use Rattle.std.proofs.Common.{List, ap, sym, subst, take, ◌+◌, ◌∙◌}
-use Rattle.std.specs.Prelude.{option_map}
-use Rattle.std.specs.Map.Iter.{deref_pair}
+use Rattle.std.proofs.Common.{List, sym, subst}
+use Rattle.std.specs.Prelude.{IfOk}
 use Rattle.cl_c32.specs.declared.principal.Principal.{Principal}
 use Rattle.cl_costs.specs.Tables.{function_of}
-use Rattle.cl_contracts.specs.declared.contract.Contract.{Contract}
+use Rattle.cl_contracts.specs.Contents.{ContractParts as Contract}
+use Rattle.cl_contracts.specs.Seen.{AreEntries}
 use Rattle.cl_bound.specs.Known.{AreBounds}
-use Rattle.cl_bound.proofs.Reaching.{bounds_of_more, no_more}
 use Rattle.cl_bound.proofs.known.KnownBounds.under.Goals as goal
-use Rattle.cl_bound.proofs.known.KnownBounds.under.Goals.{in-Some+in_ok-take_in, in_default}
 
-pub loop-place-preserved : goal.loop-place-preserved
-loop-place-preserved c indexed =
-    elim c.match-get_index.branch [
-      | in-Some+in_ok-take_in w ↦
-          subst (AreBounds (function_of c.args.costs.now) (take (c.loop-place.place + 1) c.args.deployed.now.contracts.entries)) (sym w.known-is)
-          (bounds_of_more (function_of c.args.costs.now) c.args.deployed.now.contracts.entries c.loop-place.place _ w.in-Some.contract.now c.loop-place.known w.take_in.new.known indexed.each w.in-Some.ensures.entry (c.loop-place.invariant indexed) w.in_ok-take_in.ensures)
-      | in_default w ↦
-          subst (AreBounds (function_of c.args.costs.now) (take (c.loop-place.place + 1) c.args.deployed.now.contracts.entries)) (sym w.known-is)
-          (subst (λ (contracts : List (Principal × Contract)). AreBounds (function_of c.args.costs.now) contracts c.loop-place.known) (sym (no_more c.args.deployed.now.contracts.entries c.loop-place.place (sym c.get_index.ensures.entry ∙ ap (option_map deref_pair) w.in_default.is))) (c.loop-place.invariant indexed))
-    ]
+pub bounds_of-requires : goal.bounds_of-requires
+bounds_of-requires c = subst AreEntries (sym c.contracts.ensures) c.are_known.ensures.indexed.each
+
+pub returns : goal.returns
+returns c =
+    subst (λ (es : List (Principal × Contract)). IfOk c.bounds_of.result (λ known. AreBounds (function_of c.args.costs.now) es known)) c.contracts.ensures c.bounds_of.ensures
