@@ -1,20 +1,17 @@
 -- What a block makes of a sound node.
-use Rattle.std.specs.Prelude.{nat_eq, if◌then◌else◌}
-use Rattle.std.proofs.Common.{◌≡◌, ℕ, Bool, true, false, List, [], Some, None, refl, sym, ap, subst, ◌∙◌, arith}
-use Rattle.std.proofs.lemmas.Bool.Decides.{nat_tests}
-use Rattle.cl_costs.specs.Schedules.{ScheduleSeen, costs_at, epoch_at}
+use Rattle.std.proofs.Common.{◌≡◌, ℕ, List, [], None, refl, sym, ap, subst, ◌∙◌}
+use Rattle.cl_costs.specs.Schedules.{ScheduleSeen}
 use Rattle.cl_file.specs.declared.entry.Entry.TheVariants.{Block}
-use Rattle.cl_tx.specs.declared.outcome.Outcome.{Outcome}
 use Rattle.cl_tx.specs.declared.outcome.Outcome.TheVariants.{Moved}
 use Rattle.cl_tx.specs.declared.outcome.Rebound.{Rebound}
 use Rattle.cl_tx.specs.declared.outcome.TxResult.{TxResult}
 use Rattle.cl_tx.specs.Laws.{IsKept}
-use Rattle.cl_tx.specs.Nodes.{NodeSeen, nothing_told, result_of}
+use Rattle.cl_tx.specs.Nodes.{nothing_told, result_of}
 use Rattle.cl_tx.specs.Rebounds.{rebounds, rebounds_at}
-use Rattle.cl_engine.specs.Seen.{Seen, node_with}
-use Rattle.cl_engine.specs.Sound.{Contracts, IsSound}
+use Rattle.cl_nodes.specs.Seen.{Seen, node_with}
+use Rattle.cl_nodes.specs.Sound.{Contracts, IsSound}
 use Rattle.cl_engine.specs.Steps.{MakesSafely}
-use Rattle.cl_engine.proofs.Nodes.{MadeAt, makes}
+use Rattle.cl_nodes.proofs.Nodes.{MadeAt, makes}
 
 abbrev pub at_height : ℕ → Seen → Seen
 at_height height n = record n { height = height }
@@ -39,20 +36,3 @@ module _ (schedule : ScheduleSeen) (es : Contracts) (before : Seen) (height : �
     charged = ap (λ (z : TxResult). z.cost) is;
     typed = tt;
   }
-
--- ---- what it has
-
-eq_true : (a b : ℕ) → a ≡ b → nat_eq a b ≡ true
-eq_true a b e = grind (arith, nat_tests)
-
-eq_false : (a b : ℕ) → (a ≡ b → ⊥) → nat_eq a b ≡ false
-eq_false a b e = grind (arith, nat_tests)
-
-module _ (schedule : ScheduleSeen) (node : NodeSeen) (to : ℕ) where
-  pub same_epoch : epoch_at schedule node.height ≡ epoch_at schedule to → rebounds_at schedule node to ≡ []
-  unfolding rebounds_at
-  same_epoch e = ap (λ (b : Bool). if b then [] else rebounds (costs_at schedule to) node) (eq_true (epoch_at schedule node.height) (epoch_at schedule to) e)
-
-  pub other_epoch : (epoch_at schedule node.height ≡ epoch_at schedule to → ⊥) → rebounds_at schedule node to ≡ rebounds (costs_at schedule to) node
-  unfolding rebounds_at
-  other_epoch e = ap (λ (b : Bool). if b then [] else rebounds (costs_at schedule to) node) (eq_false (epoch_at schedule node.height) (epoch_at schedule to) e)

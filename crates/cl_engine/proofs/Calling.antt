@@ -1,33 +1,27 @@
 -- What comes of a call: refused, or evaluated on a layer.
 use Rattle.std.specs.Prelude.{IfOk, OnErr}
-use Rattle.std.proofs.Common.{◌≡◌, ℕ, ◌<◌, true, false, Bool, List, [], ◌∷◌, Some, None, Result, Ok, Err, refl, sym, ap, subst, ◌∙◌}
+use Rattle.std.proofs.Common.{◌≡◌, true, false, Bool, List, [], Option, Some, None, Result, Ok, Err, refl, sym, ap, subst, ◌∙◌}
 use Rattle.cl_types.specs.declared.fault.Fault.{Fault}
 use Rattle.cl_types.specs.declared.fault.Fault.TheVariants.{Refused as RefusedFor, NoMemory as OutOfMemory}
 use Rattle.cl_types.specs.declared.fault.NoMemory.{NoMemory}
-use Rattle.cl_c32.specs.declared.principal.Principal.{Principal}
-use Rattle.cl_shapes.specs.Limits.{Purse}
 use Rattle.cl_shapes.specs.declared.cost.Dimension.{Dimension}
-use Rattle.cl_shapes.specs.declared.function.CostFn.{CostFn}
 use Rattle.cl_costs.specs.Schedules.{always}
-use Rattle.cl_costs.specs.Tables.{function_of}
 use Rattle.cl_values.specs.Tree.{Tree}
 use Rattle.cl_events.specs.State.{State, at_rest}
 use Rattle.cl_state.specs.Stack.{Seen as World}
 use Rattle.cl_code.specs.Watched.{GrewBy}
-use Rattle.cl_meaning.specs.Deployed.{Contract, Function, contract_at, function_in, function_of as function_under}
+use Rattle.cl_meaning.specs.Deployed.{Contract, Function, contract_at, function_of as function_under}
 use Rattle.cl_meaning.specs.Limits.{Costs, Limited, limited}
 use Rattle.cl_meaning.specs.Scope.{Frame}
 use Rattle.cl_meaning.specs.Top.{call_from}
 use Rattle.cl_rules.specs.Context.{Known}
 use Rattle.cl_contracts.specs.declared.deployed.Deployed.{Deployed}
-use Rattle.cl_contracts.specs.Seen.{AreIndexed, contract_seen, deployed_seen, forms_of, function_seen}
+use Rattle.cl_contracts.specs.Seen.{contract_seen, deployed_seen, function_seen}
 use Rattle.cl_frames.specs.declared.abort.Abort.{Abort}
-use Rattle.cl_frames.specs.Homes.{frame_seen}
 use Rattle.cl_frames.specs.Watching.{GrewByStart, Tells, trace}
 use Rattle.cl_frames.specs.Watching as watching
 use Rattle.cl_node_sound.specs.Laws.{CallsStep}
 use Rattle.cl_node_sound.specs.Sound.{HasParts}
-use Rattle.cl_file.specs.declared.entry.Common.{Common}
 use Rattle.cl_tx.specs.declared.outcome.EntryRefusal.{EntryRefusal}
 use Rattle.cl_tx.specs.declared.outcome.EntryRefusal.TheVariants.{NoBound}
 use Rattle.cl_tx.specs.declared.outcome.Outcome.{Outcome}
@@ -36,20 +30,24 @@ use Rattle.cl_tx.specs.declared.outcome.TxResult.{TxResult}
 use Rattle.cl_tx.specs.Nodes.{NodeSeen, Stepped, call_ended, frame_of, purse_of, refused}
 use Rattle.cl_tx.specs.Rebounds.{first_over}
 use Rattle.cl_tx.specs.Step.{call_step}
-use Rattle.cl_endings.specs.declared.ending.Ended.{Ended}
-use Rattle.cl_endings.specs.Calling.{Comes, ended_by, ended_so}
-use Rattle.cl_engine.specs.declared.asked.Invocation.{Invocation}
-use Rattle.cl_engine.specs.declared.asked.Moment.{Moment}
+use Rattle.cl_nodes.specs.declared.ending.Ended.{Ended}
+use Rattle.cl_nodes.specs.Calling.{Comes, ended_by, ended_so}
+use Rattle.cl_nodes.specs.declared.asked.Invocation.{Invocation}
+use Rattle.cl_nodes.specs.declared.asked.Moment.{Moment}
 use Rattle.cl_engine.specs.declared.call.Found.{Found}
-use Rattle.cl_engine.specs.declared.contracts.BoundedContracts.{BoundedContracts}
-use Rattle.cl_engine.specs.Seen.{Seen, node_with}
-use Rattle.cl_engine.specs.Sound.{Contracts, IsSoundWith}
-use Rattle.cl_engine.specs.Traces.{SeesAll, Trace, IsTrace, application_trace, call_trace}
-use Rattle.cl_engine.specs.Asked.{MakesWith, SeesPartUnder, SeesTraceUnder, SeesUnder, call_entry, costs_at, seen_at}
+use Rattle.cl_nodes.specs.declared.contracts.BoundedContracts.{BoundedContracts}
+use Rattle.cl_nodes.specs.Seen.{Seen, node_with}
+use Rattle.cl_nodes.specs.Sound.{Contracts, IsSoundWith}
+use Rattle.cl_nodes.specs.Traces.{application_trace, call_trace}
+use Rattle.cl_engine.specs.Traces.{SeesAll, Trace, IsTrace, shown}
+use Rattle.cl_nodes.specs.Steps.{MakesWith}
+use Rattle.cl_nodes.specs.Asked.{call_entry, costs_at, seen_at}
+use Rattle.cl_engine.specs.Asked.{SeesPartUnder, SeesTraceUnder, SeesUnder}
 use Rattle.cl_engine.specs.Calling.{EndsCall, GivesCall, IsFound, SeesEnded, steps_of}
-use Rattle.cl_engine.proofs.CallSteps.{comes_so, ended_so as steps_so, no_bound}
-use Rattle.cl_engine.proofs.Deployments.{under_table}
-use Rattle.cl_engine.proofs.Tracing.{HasRun, IsRun, as_run, call_runs, grew_none, of_run, start_all, start_none}
+use Rattle.cl_nodes.proofs.CallSteps.{comes_so, ended_so as steps_so, no_bound}
+use Rattle.cl_nodes.proofs.Deployments.{under_table}
+use Rattle.cl_nodes.proofs.Tracing.{HasRun, IsRun, as_run, call_runs, of_run}
+use Rattle.cl_engine.proofs.Tracing.{grew_none, start_all}
 
 -- what a watch has seen of an answer, by what is judged of it
 pub tells_all : (answer : Result Tree (Fault Abort)) (result : Result Ended NoMemory) (seen now : watching.Seen) (all : Trace) →
@@ -92,7 +90,7 @@ module _ (i : Invocation) (m : Moment) (cs : BoundedContracts) (world : World) w
   deployed = cs.deployed.now
 
   abbrev es : Contracts
-  es = deployed.contracts.entries
+  es = deployed.contracts
 
   abbrev before : Seen
   before = seen_at world deployed m
@@ -142,23 +140,23 @@ module _ (i : Invocation) (m : Moment) (cs : BoundedContracts) (world : World) w
       pub ends : (e : Ended) (after : World) → ((node : NodeSeen) → call_ended i.common.now function.access node left ≡ Some (ended_so e node after.stack.top)) → EndsCall i m cs world e after
       ends e after ended known sound = steps_are known sound ∙ ended (node_with known before)
 
-      trace_is : (known : List Known) → all ≡ call_trace costs (node_with known before) i.common.now i.contract.now i.function.now i.args.now
+      trace_is : (known : List Known) → all ≡ shown (call_trace costs (node_with known before) i.common.now i.contract.now i.function.now i.args.now)
       trace_is known =
           let found : function_under i.function.now (contract_at i.contract.now (deployed_seen deployed)) ≡ Some function = ap (function_under i.function.now) is.there ∙ is.function in
           ap (λ (G : Frame). trace costs (purse_of i.common.now) (call_from (deployed_seen deployed) G function i.args.now world.stack.top)) (framed known)
-          ∙ sym (ap (application_trace costs (node_with known before) i.common.now i.contract.now i.args.now) found)
+          ∙ sym (ap (λ (g : Option Function). shown (application_trace costs (node_with known before) i.common.now i.contract.now i.args.now g)) found)
 
       sees_trace : (e : Ended) (after : World) (seen now : watching.Seen) → ((node : NodeSeen) → call_ended i.common.now function.access node left ≡ Some (ended_so e node after.stack.top)) → GrewBy seen now all → SeesTraceUnder costs es before (call_entry i) e.outcome seen now
       sees_trace e after seen now ended grew known sound =
           let node : NodeSeen = node_with known before in
           let run : IsRun e.outcome = subst IsRun (ended_outcome e node after.stack.top) (call_runs i.common.now function.access node left (ended_so e node after.stack.top) (ended node)) in
-          (all, as_run costs node (call_entry i) all e.outcome run (trace_is known), grew)
+          (all, as_run shown costs node (call_entry i) all e.outcome run (trace_is known), grew)
 
       sees_part : (seen now : watching.Seen) → GrewByStart seen now all → SeesPartUnder costs es before (call_entry i) seen now
       sees_part seen now grew known sound s steps found is_trace =
           let node : NodeSeen = node_with known before in
           let run : HasRun s = call_runs i.common.now function.access node left s (sym (steps_are known sound) ∙ steps) in
-          let same : found ≡ call_trace costs node i.common.now i.contract.now i.function.now i.args.now = of_run costs node (call_entry i) found s.result.outcome run is_trace in
+          let same : found ≡ shown (call_trace costs node i.common.now i.contract.now i.function.now i.args.now) = of_run shown costs node (call_entry i) found s.result.outcome run is_trace in
           subst (GrewByStart seen now) (trace_is known ∙ sym same) grew
 
       pub sees_ended : (after : World) (seen now : watching.Seen) (result : Result Ended NoMemory) →

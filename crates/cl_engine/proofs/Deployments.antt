@@ -1,37 +1,32 @@
 -- What a deployment makes of a sound node.
-use Rattle.std.proofs.Common.{◌≡◌, inl, inr, ℕ, List, [], ◌∷◌, ◌++◌, length, Some, None, refl, sym, ap, subst, ◌∙◌}
+use Rattle.std.proofs.Common.{◌≡◌, ℕ, List, [], ◌∷◌, ◌++◌, length, Some, None, refl, sym, ap, subst, ◌∙◌}
 use Rattle.std.proofs.lemmas.List.{map_push}
 use Rattle.cl_c32.specs.declared.principal.Principal.{Principal}
 use Rattle.cl_shapes.specs.declared.cost.Cost5.{Cost5}
-use Rattle.cl_shapes.specs.declared.cost.Dimension.{Dimension}
 use Rattle.cl_shapes.specs.declared.function.CostFn.{CostFn}
 use Rattle.cl_shapes.specs.Limits.{Purse}
-use Rattle.cl_costs.specs.Schedules.{always, costs_at, table_at}
+use Rattle.cl_costs.specs.Schedules.{always}
 use Rattle.cl_costs.specs.Tables.{function_of}
 use Rattle.cl_values.specs.Tree.{Tree}
-use Rattle.cl_sexpr.specs.declared.rule.Rule.{Rule}
-use Rattle.cl_sexpr.specs.declared.rule.Rule.TheVariants.{BoundTooLarge}
-use Rattle.cl_sexpr.specs.declared.sexpr.Span.{Span}
 use Rattle.cl_forms.specs.declared.version.Version.{Version}
 use Rattle.cl_forms.specs.Texts.{Text, text_of}
-use Rattle.cl_forms.specs.Forms.{Form}
 use Rattle.cl_events.specs.State.{State}
 use Rattle.cl_events.specs.declared.event.Event.{Event}
 use Rattle.cl_meaning.specs.Deployed.{Contract, value_of}
 use Rattle.cl_meaning.specs.Deploying.{deployment, forms_by, forms_at}
 use Rattle.cl_meaning.specs.Limits.{Costs, Limited, Gave, limited}
 use Rattle.cl_meaning.specs.Scope.{Frame}
-use Rattle.cl_rules.specs.Context.{CostTable, Known, known_at}
+use Rattle.cl_rules.specs.Context.{Known, known_at}
 use Rattle.cl_rules.specs.FormRules.{Defined, nothing_defined}
 use Rattle.cl_rules.specs.FormTyping.{FormsTyped}
-use Rattle.cl_rules.specs.Acceptance.{Accepted, Bounded, FirstBreakOf, NoneWrites, TypedAs, in_bounds, in_deployment, known_of}
-use Rattle.cl_rules.specs.Laws.{IsFirstAboveLimit}
+use Rattle.cl_rules.specs.Acceptance.{Accepted, Bounded, NoneWrites, TypedAs, known_of}
 use Rattle.cl_contracts.specs.declared.checked.Checked.{Checked}
 use Rattle.cl_contracts.specs.declared.contract.Contract.{Contract as ContractOfCode}
-use Rattle.cl_contracts.specs.Seen.{AreConstants, IsIndexed, contract_seen, forms_of}
-use Rattle.cl_contracts.specs.Standings.{AllStand, AreStanding, StandsAfter, definitions_in_order}
+use Rattle.cl_contracts.specs.Seen.{AreConstants, contract_seen, forms_of}
+use Rattle.cl_contracts.specs.Standings.{AreStanding, StandsAfter}
 use Rattle.cl_contracts.specs.Known.{ConstantsAsKept, DefinedAsKept}
 use Rattle.cl_contracts.proofs.Constants.{is_constant}
+use Rattle.cl_contracts.proofs.Fitting.{standing_push}
 use Rattle.cl_frames.specs.Deploys.{contract_with}
 use Rattle.cl_frames.specs.Sound.{IsAcceptedAfter}
 use Rattle.cl_node_sound.specs.Laws.{DeployedHaveConstants}
@@ -40,48 +35,20 @@ use Rattle.cl_file.specs.declared.entry.Common.{Common}
 use Rattle.cl_file.specs.declared.entry.Entry.{Entry}
 use Rattle.cl_file.specs.declared.entry.Entry.TheVariants.{Deploy}
 use Rattle.cl_tx.specs.declared.outcome.Bounds.{Bounds}
-use Rattle.cl_tx.specs.declared.outcome.EntryRefusal.TheVariants.{NameTaken, ContractRefused}
-use Rattle.cl_tx.specs.declared.outcome.Outcome.TheVariants.{Done, Aborted, Refused}
+use Rattle.cl_tx.specs.declared.outcome.Outcome.TheVariants.{Done, Aborted}
 use Rattle.cl_tx.specs.declared.outcome.Stop.{Stop}
 use Rattle.cl_tx.specs.declared.outcome.TxResult.{TxResult}
-use Rattle.cl_tx.specs.Nodes.{NodeSeen, Stepped, Told, nothing_told, result_of, contract_of, person, frame_of, purse_of, settled_by, with_contract, deployment_ended}
-use Rattle.cl_tx.specs.Step.{DeploySteps, run_deployment, contract_with as contract_deployed, told_of, name_taken, source_refused, evaluated}
-use Rattle.cl_engine.specs.Seen.{Seen, node_with, seen}
-use Rattle.cl_engine.specs.Known.{AreKnown}
-use Rattle.cl_engine.specs.Sound.{Contracts, contracts_seen, IsSoundWith}
-use Rattle.cl_engine.specs.Asked.{MakesWith}
-use Rattle.cl_engine.specs.Bounded.{IsBounded}
-use Rattle.cl_engine.specs.Deploying.{Constants, IsChecked, IsDone, IsStopped, told_with}
-use Rattle.cl_engine.proofs.Knowing.{known_push, standing_push, types_told}
-
--- a bound above the limit is the first break
-pub above_breaks : (known : List Known) (p : Principal) (table : CostTable) (text : Text) (forms : List Form) (order : List ℕ) (defined : Defined) (dimension : Dimension) (rule : Rule) (span : Span) (names : List (List ℕ)) → TypedAs known p text forms order defined → NoneWrites known p forms →
-    rule ≡ BoundTooLarge dimension → names ≡ [] → IsFirstAboveLimit defined forms order table dimension span → FirstBreakOf known p table text rule span names
-above_breaks known p table text forms order defined d rule span names typed none r n (inl first) = in_bounds forms order defined d typed none first r n
-above_breaks known p table text forms order defined d rule span names typed none r n (inr above) = in_deployment forms order defined d typed none above.0 r above.1 n
-
--- what the checker gives is a contract that stands for the text
-pub checked_so : (es : Contracts) (q p : Principal) (text : Text) (c : Checked) → q ≡ p → c.principal ≡ q → c.version ≡ text.version → c.source_length ≡ length text.bytes → IsIndexed c →
-    ((known : List Known) → AreStanding [] es known → (defined : Defined) × TypedAs known q text (forms_of c) c.order.items defined × NoneWrites known q (forms_of c) × AllStand (nothing_defined known q text.version (length text.bytes)) (definitions_in_order c) defined) →
-    IsChecked es p text c
-checked_so es q p text c same principal version size indexed found = record {
-  principal_is = principal ∙ same;
-  version = version;
-  size = size;
-  indexed = indexed;
-  found = λ known knows.
-      let f = found known knows in (
-        f.0,
-        subst (λ r. TypedAs known r text (forms_of c) c.order.items f.0) same f.1,
-        subst (λ r. NoneWrites known r (forms_of c)) same f.2,
-        subst (λ (n : Principal × (Version × ℕ)). AllStand (nothing_defined known n.0 n.1.0 n.1.1) (definitions_in_order c) f.0) (λ i. (sym principal i, (sym version i, sym size i))) f.3,
-      );
-}
-
--- what holds under the costs of each schedule holds under a table
-pub under_table : (P : Costs → Type 0) (table : List CostFn) (height : ℕ) → P (costs_at (always table) height) → P (function_of table)
-unfolding table_at
-under_table P table height h = h
+use Rattle.cl_tx.specs.Nodes.{NodeSeen, Stepped, Told, result_of, contract_of, person, frame_of, purse_of, settled_by, with_contract, deployment_ended}
+use Rattle.cl_tx.specs.Step.{DeploySteps, run_deployment, contract_with as contract_deployed, told_of, evaluated}
+use Rattle.cl_nodes.specs.Seen.{Seen, node_with, seen}
+use Rattle.cl_nodes.specs.Known.{AreKnown}
+use Rattle.cl_nodes.specs.Sound.{Contracts, contracts_seen, IsSoundWith}
+use Rattle.cl_nodes.specs.Steps.{MakesWith}
+use Rattle.cl_nodes.specs.Bounded.{IsBounded}
+use Rattle.cl_nodes.specs.Accepting.{IsChecked, told_with}
+use Rattle.cl_engine.specs.Deploying.{Constants, IsDone, IsStopped}
+use Rattle.cl_nodes.proofs.Deployments.{under_table}
+use Rattle.cl_nodes.proofs.Knowing.{known_push, types_told}
 
 module _ (table : List CostFn) (es : Contracts) (s : State) (height : ℕ) (common : Common) (name source : List ℕ) (version : Version) (known : List Known) (sound : IsSoundWith es (seen s (contracts_seen es) height) known) where
   abbrev costs : Costs
@@ -185,7 +152,7 @@ module _ (table : List CostFn) (es : Contracts) (s : State) (height : ℕ) (comm
       }
 
       abbrev put : Constants → Principal × ContractOfCode
-      put constants = (c.principal, record { checked = c; constants = constants })
+      put constants = (c.principal, record { checked = c; constants = constants.entries })
 
       grown : (constants : Constants) → contracts_seen (es ++ put constants ∷ []) ≡ contracts_seen es ++ contract_with c constants.entries ∷ []
       grown constants = map_push contract_seen es (put constants)

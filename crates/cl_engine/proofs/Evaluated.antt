@@ -22,7 +22,7 @@ use Rattle.cl_tx.specs.declared.outcome.Outcome.TheVariants as outcomes
 use Rattle.cl_post.specs.Post.{holds}
 use Rattle.cl_file.specs.declared.entry.Common.{Common}
 use Rattle.cl_tx.specs.Nodes.{NodeSeen, Told, deployment_ended, settled_by, with_contract, aborted}
-use Rattle.cl_endings.specs.Calling.{stop_by, cost_by}
+use Rattle.cl_engine.specs.Ends.{stop_by, cost_by}
 use Rattle.cl_frames.specs.Watching.{Tells}
 use Rattle.cl_frames.specs.Watching as watching
 use Rattle.cl_engine.specs.Traces.{SeesAll, Trace}

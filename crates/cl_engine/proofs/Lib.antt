@@ -1,14 +1,10 @@
-pub mod CallSteps
+pub mod Ends
 pub mod Evaluated
-pub mod Knowing
 pub mod Deployments
-pub mod Accepting
 pub mod Nodes
 pub mod Within
 pub mod Tracing
 pub mod Ran
 pub mod Calling
 pub mod Blocks
-pub mod Valid
 pub mod Trials
-pub mod BoundsFor

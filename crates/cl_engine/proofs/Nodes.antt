@@ -1,78 +1,37 @@
 -- What an entry makes of a sound node, and what is promised of it.
 use Rattle.std.specs.Prelude.{IfOk, OnErr}
-use Rattle.std.proofs.Common.{◌≡◌, ℕ, List, [], Some, None, Result, Ok, Err, refl, sym, ap, subst, ◌∙◌}
+use Rattle.std.proofs.Common.{◌≡◌, ℕ, List, Result, Ok, Err, refl, ap}
 use Rattle.cl_types.specs.declared.fault.NoMemory.{NoMemory}
-use Rattle.cl_forms.specs.Texts.{text_of}
 use Rattle.cl_costs.specs.Schedules.{ScheduleSeen, costs_at}
 use Rattle.cl_meaning.specs.Limits.{Costs}
 use Rattle.cl_rules.specs.Context.{Known}
-use Rattle.cl_contracts.specs.Standings.{AreStanding}
 use Rattle.cl_node_sound.specs.Sound.{HasParts}
-use Rattle.cl_node_sound.specs.Laws.{SoundStay, CallsStayWithin, DeploymentsStayWithin, CallsAreTyped}
+use Rattle.cl_node_sound.specs.Laws.{CallsStayWithin, DeploymentsStayWithin, CallsAreTyped}
 use Rattle.cl_file.specs.Entries.{height_after}
 use Rattle.cl_file.specs.declared.entry.Entry.{Entry}
-use Rattle.cl_file.specs.declared.entry.Entry.TheVariants.{Deploy, Call, Block}
 use Rattle.cl_tx.specs.declared.outcome.TxResult.{TxResult}
 use Rattle.cl_tx.specs.Laws.{FailedChangeNothing, IsKept}
-use Rattle.cl_tx.specs.Nodes.{NodeSeen, Stepped, contract_of}
-use Rattle.cl_tx.specs.Step.{DeploySteps, Steps, call_step}
 use Rattle.cl_events.specs.State.{State}
 use Rattle.cl_state.specs.Stack.{Seen as World}
 use Rattle.cl_contracts.specs.declared.deployed.Deployed.{Deployed}
 use Rattle.cl_contracts.specs.Seen.{deployed_seen}
-use Rattle.cl_engine.specs.declared.contracts.Contracts.{Contracts as ContractsOfCode}
-use Rattle.cl_engine.specs.Bounded.{entries_of}
-use Rattle.cl_engine.specs.Seen.{Seen, node_with, seen}
-use Rattle.cl_engine.specs.Known.{AreKnown}
-use Rattle.cl_engine.specs.Sound.{Contracts, IsSound, IsSoundWith, contracts_seen}
-use Rattle.cl_engine.specs.declared.asked.Invocation.{Invocation}
-use Rattle.cl_engine.specs.Asked.{IsUnchanged, MakesSound, call_entry}
+use Rattle.cl_nodes.specs.declared.contracts.Contracts.{Contracts as ContractsOfCode}
+use Rattle.cl_nodes.specs.Bounded.{entries_of}
+use Rattle.cl_nodes.specs.Seen.{Seen, node_with, seen}
+use Rattle.cl_nodes.specs.Sound.{Contracts, IsSound, IsSoundWith, contracts_seen}
+use Rattle.cl_nodes.specs.declared.asked.Invocation.{Invocation}
+use Rattle.cl_nodes.specs.Steps.{MakesSound}
+use Rattle.cl_nodes.specs.Asked.{call_entry}
+use Rattle.cl_engine.specs.Asked.{IsUnchanged}
 use Rattle.cl_engine.specs.Calling.{steps_of}
-use Rattle.cl_engine.specs.Steps.{Gives, Makes, MakesSafely, StepsUnder}
+use Rattle.cl_engine.specs.Steps.{Gives, MakesSafely}
+use Rattle.cl_nodes.proofs.Nodes.{MadeAt, made_at, makes, steps_up}
 use Rattle.cl_engine.proofs.Within.{charged_by, typed_by}
-
--- ---- the costs of a height
-
-steps_up : (schedule : ScheduleSeen) (costs : Costs) (node : NodeSeen) (entry : Entry) (s : Stepped) → costs ≡ costs_at schedule node.height → StepsUnder costs node entry s → Steps schedule node entry s
-steps_up schedule costs node (Deploy common name source version) s is x = subst (λ c. DeploySteps c node common (contract_of common.sender name) (text_of source version) s) is x
-steps_up schedule costs node (Call common contract function args) s is x = subst (λ c. call_step c node common contract function args ≡ Some s) is x
-steps_up schedule costs node (Block height) s is x = absurd x
-
-pub steps_down : (schedule : ScheduleSeen) (costs : Costs) (node : NodeSeen) (entry : Entry) (s : Stepped) → costs ≡ costs_at schedule node.height → ((height : ℕ) → entry ≡ Block height → ⊥) → Steps schedule node entry s → StepsUnder costs node entry s
-steps_down schedule costs node (Deploy common name source version) s is none x = subst (λ c. DeploySteps c node common (contract_of common.sender name) (text_of source version) s) (sym is) x
-steps_down schedule costs node (Call common contract function args) s is none x = subst (λ c. call_step c node common contract function args ≡ Some s) (sym is) x
-steps_down schedule costs node (Block height) s is none x = absurd (none height refl)
 
 -- ---- one step
 
--- what an entry makes under a schedule, and what callers know then
-pub record MadeAt (schedule : ScheduleSeen) (known : List Known) (before : Seen) (entry : Entry) (result : TxResult) (contracts : Contracts) (after : Seen) : Type 0 where
-  pub now : List Known
-  pub trees : AreStanding [] contracts now
-  pub forms : AreKnown [] after.contracts now
-  pub steps : Steps schedule (node_with known before) entry (record { node = node_with now after; result = result })
-
 module _ (schedule : ScheduleSeen) (es fs : Contracts) (before after : Seen) (entry : Entry) where
   module _ (r : TxResult) (sound : IsSound es before) (made : MadeAt schedule sound.known before entry r fs after) where
-    pub makes : Makes schedule before entry r after
-    makes = record {
-      from = node_with sound.known before;
-      to = node_with made.now after;
-      is_from = record { known = sound.is_sound.forms; is = refl };
-      is_to = record { known = made.forms; is = refl };
-      steps = made.steps;
-    }
-
-    pub sound_after : SoundStay → HasParts entry → IsSound fs after
-    sound_after stay parts = record {
-      known = made.now;
-      is_sound = record {
-        trees = made.trees;
-        forms = made.forms;
-        sound = stay schedule (node_with sound.known before) entry (record { node = node_with made.now after; result = r }) parts sound.is_sound.sound made.steps;
-      };
-    }
-
     undone : FailedChangeNothing → (IsKept r.outcome → ⊥) → after ≡ before
     undone failed lost =
         let same = (failed schedule (node_with sound.known before) entry (record { node = node_with made.now after; result = r }) made.steps lost).0 in
@@ -80,7 +39,7 @@ module _ (schedule : ScheduleSeen) (es fs : Contracts) (before after : Seen) (en
 
     pub safely : FailedChangeNothing → CallsStayWithin → DeploymentsStayWithin → CallsAreTyped → HasParts entry → after.height ≡ height_after before.height entry → MakesSafely schedule before entry r after
     safely failed calls deployments typed parts height = record {
-      makes = makes;
+      makes = makes schedule es fs before after entry r sound made;
       undone = undone failed;
       height = height;
       charged = charged_by schedule before sound.known sound.is_sound.forms sound.is_sound.sound (record { node = node_with made.now after; result = r }) calls deployments entry parts made.steps;
@@ -89,23 +48,14 @@ module _ (schedule : ScheduleSeen) (es fs : Contracts) (before after : Seen) (en
 
   -- after an entry that may want memory
   module _ (costs : Costs) (is : costs ≡ costs_at schedule before.height) (sound : IsSound es before) (parts : HasParts entry) where
-    made_at : (r : TxResult) → MakesSound costs es before entry r fs after → MadeAt schedule sound.known before entry r fs after
-    made_at r steps =
-        let m = steps sound.known sound.is_sound in
-        record { now = m.now; trees = m.trees; forms = m.forms; steps = steps_up schedule costs (node_with sound.known before) entry (record { node = node_with m.now after; result = r }) is m.steps }
-
     pub all_safely : FailedChangeNothing → CallsStayWithin → DeploymentsStayWithin → CallsAreTyped → after.height ≡ height_after before.height entry → (result : Result TxResult NoMemory) →
         IfOk result (λ r. MakesSound costs es before entry r fs after) → IfOk result (λ r. MakesSafely schedule before entry r after)
-    all_safely failed calls deployments typed height (Ok r) steps = safely r sound (made_at r steps) failed calls deployments typed parts height
+    all_safely failed calls deployments typed height (Ok r) steps = safely r sound (made_at schedule es fs before after entry costs is sound parts r steps) failed calls deployments typed parts height
     all_safely failed calls deployments typed height (Err e) steps = tt
-
-    pub sound_still : SoundStay → (result : Result TxResult NoMemory) → IfOk result (λ r. MakesSound costs es before entry r fs after) → OnErr result ((after ≡ before) × (fs ≡ es)) → IsSound fs after
-    sound_still stay (Ok r) steps same = sound_after r sound (made_at r steps) stay parts
-    sound_still stay (Err e) steps same = subst (λ (n : Contracts × Seen). IsSound n.0 n.1) (λ i. (sym same.1 i, sym same.0 i)) sound
 
 -- ---- what stays where memory ran out
 
-pub still_so : (result : Result TxResult NoMemory) (s t : State) (d : Deployed) (height : ℕ) → OnErr result (t ≡ s) → OnErr result ((seen t (deployed_seen d) height ≡ seen s (deployed_seen d) height) × (d.contracts.entries ≡ d.contracts.entries))
+pub still_so : (result : Result TxResult NoMemory) (s t : State) (d : Deployed) (height : ℕ) → OnErr result (t ≡ s) → OnErr result ((seen t (deployed_seen d) height ≡ seen s (deployed_seen d) height) × (d.contracts ≡ d.contracts))
 still_so (Ok r) s t d height same = tt
 still_so (Err e) s t d height same = (ap (λ (u : State). seen u (deployed_seen d) height) same, refl)
 

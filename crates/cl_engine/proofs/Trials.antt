@@ -15,10 +15,10 @@ use Rattle.cl_tx.specs.Nodes.{NodeSeen, Stepped}
 use Rattle.cl_tx.specs.Step.{Steps, call_step}
 use Rattle.cl_node_sound.specs.Laws.{SoundStay}
 use Rattle.cl_node_sound.specs.Sound.{IsSoundNode, HasParts}
-use Rattle.cl_engine.specs.Seen.{Seen, node_with}
-use Rattle.cl_engine.specs.Sound.{Contracts, IsSound}
-use Rattle.cl_engine.specs.Steps.{IsCall, Makes, StepsUnder}
-use Rattle.cl_engine.specs.Asked.{MakesWith, MakesSound}
+use Rattle.cl_nodes.specs.Seen.{Seen, node_with}
+use Rattle.cl_nodes.specs.Sound.{Contracts, IsSound}
+use Rattle.cl_nodes.specs.Steps.{Makes, StepsUnder, MakesWith, MakesSound}
+use Rattle.cl_engine.specs.Steps.{IsCall}
 
 -- ---- a call that is tried
 

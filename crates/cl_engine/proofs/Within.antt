@@ -8,8 +8,8 @@ use Rattle.cl_file.specs.declared.entry.Entry.{Entry}
 use Rattle.cl_file.specs.declared.entry.Entry.TheVariants.{Deploy, Call, Block}
 use Rattle.cl_tx.specs.Nodes.{Stepped}
 use Rattle.cl_tx.specs.Step.{Steps}
-use Rattle.cl_engine.specs.Seen.{Seen, node_with}
-use Rattle.cl_engine.specs.Known.{AreKnown}
+use Rattle.cl_nodes.specs.Seen.{Seen, node_with}
+use Rattle.cl_nodes.specs.Known.{AreKnown}
 use Rattle.cl_engine.specs.Within.{IsChargedWithin, GivesTyped}
 
 module _ (schedule : ScheduleSeen) (n : Seen) (known : List Known) (are : AreKnown [] n.contracts known) (N : IsSoundNode (node_with known n)) (s : Stepped) where

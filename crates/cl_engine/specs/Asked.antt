@@ -1,87 +1,36 @@
--- What is asked of a node, and what is made of it under the costs of its height.
-use Rattle.std.specs.Prelude.{◌≡◌, List, [], Result, Ok, Err}
-use Rattle.cl_c32.specs.declared.principal.Principal.{Principal}
+-- What is made of what is asked of a node, under the costs of its height.
+use Rattle.std.specs.Prelude.{◌≡◌, List, Result, Ok, Err}
 use Rattle.cl_types.specs.declared.fault.NoMemory.{NoMemory}
-use Rattle.cl_costs.specs.Tables.{function_of}
-use Rattle.cl_forms.specs.Texts.{Text, text_of}
 use Rattle.cl_code.specs.Watched.{GrewBy}
 use Rattle.cl_state.specs.Stack.{Seen as World}
 use Rattle.cl_meaning.specs.Limits.{Costs}
 use Rattle.cl_rules.specs.Context.{Known}
 use Rattle.cl_contracts.specs.declared.deployed.Deployed.{Deployed}
-use Rattle.cl_contracts.specs.Seen.{deployed_seen}
-use Rattle.cl_contracts.specs.Standings.{AreStanding}
 use Rattle.cl_frames.specs.Watching.{GrewByStart}
 use Rattle.cl_frames.specs.Watching as watching
 use Rattle.cl_node_sound.specs.Sound.{HasParts}
 use Rattle.cl_file.specs.declared.entry.Entry.{Entry}
-use Rattle.cl_file.specs.declared.entry.Entry.TheVariants.{Deploy, Call, Block}
 use Rattle.cl_tx.specs.declared.outcome.Outcome.{Outcome}
 use Rattle.cl_tx.specs.declared.outcome.TxResult.{TxResult}
-use Rattle.cl_tx.specs.Nodes.{Stepped, contract_of}
-use Rattle.cl_engine.specs.declared.asked.Asked.{Asked as AskedOfCode}
-use Rattle.cl_engine.specs.declared.asked.Asked.TheVariants as asked
-use Rattle.cl_engine.specs.declared.asked.Deployment.{Deployment}
-use Rattle.cl_engine.specs.declared.asked.Invocation.{Invocation}
-use Rattle.cl_engine.specs.declared.asked.Moment.{Moment}
-use Rattle.cl_engine.specs.declared.contracts.BoundedContracts.{BoundedContracts}
-use Rattle.cl_engine.specs.Seen.{Seen, node_with, seen}
-use Rattle.cl_engine.specs.Known.{AreKnown}
-use Rattle.cl_engine.specs.Sound.{Contracts, IsSound, IsSoundWith}
-use Rattle.cl_engine.specs.Steps.{StepsUnder}
+use Rattle.cl_tx.specs.Nodes.{Stepped}
+use Rattle.cl_nodes.specs.declared.asked.Deployment.{Deployment}
+use Rattle.cl_nodes.specs.declared.asked.Invocation.{Invocation}
+use Rattle.cl_nodes.specs.declared.asked.Moment.{Moment}
+use Rattle.cl_nodes.specs.declared.contracts.BoundedContracts.{BoundedContracts}
+use Rattle.cl_nodes.specs.Seen.{Seen, node_with, seen}
+use Rattle.cl_nodes.specs.Sound.{Contracts, IsSound, IsSoundWith}
+use Rattle.cl_nodes.specs.Asked.{deployment_entry, call_entry, costs_at, seen_at}
+use Rattle.cl_nodes.specs.Steps.{MakesSound, StepsUnder}
 use Rattle.cl_engine.specs.Traces.{Trace, IsTrace}
-use Rattle.cl_engine.specs.Bounded.{AreBounded, entries_of}
-use Rattle.cl_engine.specs.declared.contracts.Contracts.{Contracts as ContractsOfCode}
-
--- ---- what is asked, and when
-
--- the entry of a deployment
-abbrev pub deployment_entry : Deployment → Entry
-deployment_entry d = Deploy d.common.now d.name.now d.source.now d.version
-
--- the principal of its contract
-abbrev pub principal_of : Deployment → Principal
-principal_of d = contract_of d.common.now.sender d.name.now
-
--- its text
-abbrev pub text_in : Deployment → Text
-text_in d = text_of d.source.now d.version
-
--- the entry of a call
-abbrev pub call_entry : Invocation → Entry
-call_entry i = Call i.common.now i.contract.now i.function.now i.args.now
-
--- the entry that asks for this
-abbrev pub asked_entry : AskedOfCode → Entry
-asked_entry (asked.Deploy d) = deployment_entry d
-asked_entry (asked.Call i) = call_entry i
-asked_entry (asked.Block height) = Block height
-
--- the costs of a moment
-abbrev pub costs_at : Moment → Costs
-costs_at m = function_of m.costs.now
-
--- what contracts see of a node at a moment
-abbrev pub seen_at : World → Deployed → Moment → Seen
-seen_at world deployed moment = seen world.stack.top (deployed_seen deployed) moment.height
+use Rattle.cl_nodes.specs.Bounded.{AreBounded, entries_of}
+use Rattle.cl_nodes.specs.declared.contracts.Contracts.{Contracts as ContractsOfCode}
 
 -- the contracts were accepted, the top state is kept, and the parts of the entry are within their limits
 pub record IsReady (world : World) (deployed : Deployed) (moment : Moment) (entry : Entry) : Type 0 where
-  pub sound : IsSound deployed.contracts.entries (seen_at world deployed moment)
+  pub sound : IsSound deployed.contracts (seen_at world deployed moment)
   pub parts : HasParts entry
 
 -- ---- what an entry makes of a sound node
-
--- callers know something of the contracts after the entry, by their trees and by their forms
-pub record MakesWith (costs : Costs) (known : List Known) (before : Seen) (entry : Entry) (result : TxResult) (contracts : Contracts) (after : Seen) : Type 0 where
-  pub now : List Known
-  pub trees : AreStanding [] contracts now
-  pub forms : AreKnown [] after.contracts now
-  pub steps : StepsUnder costs (node_with known before) entry (record { node = node_with now after; result = result })
-
-abbrev pub MakesSound : Costs → Contracts → Seen → Entry → TxResult → Contracts → Seen → Type 0
-MakesSound costs contracts before entry result contracts_after after =
-    (known : List Known) → IsSoundWith contracts before known → MakesWith costs known before entry result contracts_after after
 
 -- what a deployment makes of a world and contracts
 abbrev pub Deploys : Deployment → Moment → World → ContractsOfCode → TxResult → World → ContractsOfCode → Type 0
@@ -93,7 +42,7 @@ Deploys d m world contracts result world_after contracts_after =
 abbrev pub Calls : Invocation → Moment → BoundedContracts → World → TxResult → World → Type 0
 Calls i m contracts world result world_after =
     let deployed = contracts.deployed.now in
-    MakesSound (costs_at m) deployed.contracts.entries (seen_at world deployed m) (call_entry i) result deployed.contracts.entries (seen_at world_after deployed m)
+    MakesSound (costs_at m) deployed.contracts (seen_at world deployed m) (call_entry i) result deployed.contracts (seen_at world_after deployed m)
 
 -- nothing changed but for the table under which bounds are kept
 pub record IsUnchanged (world : World) (contracts : ContractsOfCode) (world_after : World) (contracts_after : ContractsOfCode) : Type 0 where
@@ -126,7 +75,7 @@ SeesDeployment d m world contracts result seen now =
 abbrev pub SeesCall : Invocation → Moment → BoundedContracts → World → Result TxResult NoMemory → watching.Seen → watching.Seen → Type 0
 SeesCall i m contracts world result seen now =
     let deployed = contracts.deployed.now in
-    SeesUnder (costs_at m) deployed.contracts.entries (seen_at world deployed m) (call_entry i) result seen now
+    SeesUnder (costs_at m) deployed.contracts (seen_at world deployed m) (call_entry i) result seen now
 
 -- bounds of these contracts, as a call finds them
 abbrev pub IsCallable : BoundedContracts → Moment → Type 0

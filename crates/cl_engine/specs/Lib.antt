@@ -1,13 +1,8 @@
-pub mod Seen
-pub mod Codes
-pub mod Known
 pub mod Within
 pub mod Steps
 pub mod Traces
-pub mod Laws
-pub mod Sound
-pub mod Bounded
 pub mod Asked
+pub mod Ends
 pub mod Calling
 pub mod Deploying
 pub mod Trials

@@ -12,8 +12,8 @@ use Rattle.cl_file.specs.declared.entry.Entry.TheVariants.{Deploy, Call, Block}
 use Rattle.cl_tx.specs.declared.outcome.Bounds.{Bounds}
 use Rattle.cl_tx.specs.declared.outcome.TxResult.{TxResult}
 use Rattle.cl_node_sound.specs.Sound.{IsWithinBound, IsTypedAnswer, given_by}
-use Rattle.cl_engine.specs.Seen.{Seen}
-use Rattle.cl_engine.specs.Known.{AreKnown}
+use Rattle.cl_nodes.specs.Seen.{Seen}
+use Rattle.cl_nodes.specs.Known.{AreKnown}
 
 -- under these costs the bound of a function of the node is within the limit, and a cost is at most the bound
 pub record IsCallWithin (costs : Costs) (n : Seen) (contract : Principal) (function : List ℕ) (cost : Cost5) : Type 0 where

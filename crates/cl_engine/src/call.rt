@@ -1,27 +1,27 @@
 //! Calls.
-ghost use Rattle.std.specs.Prelude.{◌≡◌, ◌∷◌, ◌<◌, ◌^◌, [], length, map, Some, IfOk, IfErr, OnErr};
+ghost use Rattle.std.specs.Prelude.{◌≡◌, ◌<◌, ◌^◌, [], length, Some, IfOk, IfErr, OnErr};
 ghost use Rattle.cl_meaning.specs.Limits.{limited};
-ghost use Rattle.cl_contracts.specs.Seen.{AreIndexed, deployed_seen};
+ghost use Rattle.cl_contracts.specs.Seen.{deployed_seen};
 ghost use Rattle.cl_frames.specs.Sound.{IsKeptWorld};
 ghost use Rattle.cl_frames.specs.Watching.{trace};
 ghost use Rattle.cl_values.specs.Typed.{AreOf};
 ghost use Rattle.cl_node_sound.specs.Sound.{HasParts};
 ghost use Rattle.cl_tx.specs.Nodes.{NodeSeen, call_ended, purse_of};
 ghost use Rattle.cl_runs.specs.Called.{IsCalled, call_of, costs_of, types_of};
-ghost use Rattle.cl_endings.specs.Calling.{Comes, ended_so};
-ghost use Rattle.cl_engine.specs.Asked.{Calls, IsCallable, IsReady, SeesCall, call_entry};
+ghost use Rattle.cl_nodes.specs.Calling.{Comes, ended_so};
+ghost use Rattle.cl_nodes.specs.Asked.{call_entry};
+ghost use Rattle.cl_engine.specs.Asked.{Calls, IsCallable, IsReady, SeesCall};
 ghost use Rattle.cl_engine.specs.Calling.{AreAccepted, EndsCall, GivesCall, IsCallRefusal, IsFound, SeesEnded};
 ghost use Rattle.cl_engine.specs.Traces.{SeesAll};
 
-use crate::asked::{Invocation, Moment};
-use crate::contracts::BoundedContracts;
+use crate::ending::judge;
 use crate::frame::frame_of;
 use crate::lookup::{function_named, refusal_of};
 use cl_code::{Function, Silent, Watch};
 use cl_contract_sound::functions_are_named;
 use cl_contracts::{Contract, Deployed};
-use cl_endings::{Ended, close, judge, meter_of, peek};
 use cl_node_sound::entries_come_to_something;
+use cl_nodes::{BoundedContracts, Ended, Invocation, Moment, close, meter_of, peek};
 use cl_runs::{Called, run_found};
 use cl_state::World;
 use cl_tx::{EntryRefusal, TxResult};
@@ -38,7 +38,6 @@ pub(crate) struct Found<'a> {
 
 /// The function that a call names, where it may be called with these values, or why not.
 fn find<'a>(deployed: &'a Deployed, invocation: &Invocation) -> Result<Found<'a>, EntryRefusal>
-    requires indexed { AreIndexed deployed.now }
     requires accepted { AreAccepted deployed.now }
     requires parts { HasParts (call_entry invocation.now) }
     ensures found { IfOk result (λ f. IsFound invocation.now deployed.now f) }

@@ -1,20 +1,19 @@
 //! Deployments.
 ghost use Rattle.std.specs.Prelude.{◌≡◌, [], IfOk, OnErr};
 ghost use Rattle.cl_tx.specs.Nodes.{result_of};
-ghost use Rattle.cl_engine.specs.Bounded.{HasRoom, IsWhole, entries_of};
-ghost use Rattle.cl_engine.specs.Asked.{Deploys, IsReady, IsUnchanged, SeesDeployment, deployment_entry};
-ghost use Rattle.cl_engine.specs.Deploying.{IsAddable, entries_after, result_after, told_seen};
+ghost use Rattle.cl_nodes.specs.Bounded.{HasRoom, IsWhole, entries_of};
+ghost use Rattle.cl_nodes.specs.Asked.{deployment_entry};
+ghost use Rattle.cl_engine.specs.Asked.{Deploys, IsReady, IsUnchanged, SeesDeployment};
+ghost use Rattle.cl_nodes.specs.Accepting.{told_seen};
+ghost use Rattle.cl_engine.specs.Deploying.{IsAddable, entries_after, result_after};
 
-use crate::accept::{Accepted, accept};
-use crate::asked::{Deployment, Moment};
-use crate::contracts::Contracts;
 use crate::deployment::{Ran, run};
-use crate::told::Told;
+use crate::prepare::{Prepared, prepare};
 use cl_code::Watch;
-use cl_contracts::{Contract, what_callers_know};
-use cl_endings::refused;
+use cl_contracts::what_callers_know;
 use cl_events::Event;
 use cl_node_sound::{constants_have_their_types, new_contracts_have_no_tokens};
+use cl_nodes::{Accepted, Contracts, Deployment, Moment, Told, refused};
 use cl_rules::{texts_have_one_answer, texts_have_one_order};
 use cl_shapes::Cost5;
 use cl_state::World;
@@ -48,7 +47,6 @@ fn finish(alloc: Global, contracts: &mut Contracts, accepted: Accepted, ran: Ran
 {
     let Accepted {
         checked,
-        frame: _,
         told,
         bounds,
     } = accepted;
@@ -58,7 +56,7 @@ fn finish(alloc: Global, contracts: &mut Contracts, accepted: Accepted, ran: Ran
             constants,
             events,
         } => {
-            contracts.add(Contract { checked, constants }, bounds);
+            contracts.add(checked, constants, bounds);
             result(alloc, told, Outcome::Done, cost, events)
         }
         Ran::Stopped(why, cost) => {
@@ -95,13 +93,14 @@ fn deploy_in_room<W: Watch>(
     texts_have_one_answer();
     texts_have_one_order();
     what_callers_know();
-    let accepted = match accept(alloc, contracts, moment, deployment) {
-        Ok(accepted) => accepted,
+    let prepared = match prepare(alloc, contracts, moment, deployment) {
+        Ok(prepared) => prepared,
         Err(Fault::Refused(refusal)) => return Ok(refused(alloc, refusal)),
         Err(Fault::NoMemory) => return Err(NoMemory),
     };
     let common = deployment.common;
-    let ran = run(alloc, world, contracts, common, &accepted, watch)?;
+    let ran = run(alloc, world, contracts, common, &prepared, watch)?;
+    let Prepared { accepted, frame: _ } = prepared;
     Ok(finish(alloc, contracts, accepted, ran))
 }
 

@@ -1,22 +1,23 @@
 //! The evaluation of deployments.
 ghost use Rattle.std.specs.Prelude.{◌≡◌, ◌∷◌, [], Ok, length, IfOk, OnErr};
 ghost use Rattle.cl_meaning.specs.Limits.{limited};
-ghost use Rattle.cl_contracts.specs.Seen.{IsIndexed, deployed_seen};
-ghost use Rattle.cl_frames.specs.Deploys.{HasNoTokens};
+ghost use Rattle.cl_contracts.specs.Seen.{deployed_seen};
+ghost use Rattle.cl_newness.specs.Newness.{HasNoTokens};
 ghost use Rattle.cl_frames.specs.Sound.{IsAcceptedAfter};
 ghost use Rattle.cl_frames.specs.Watching.{trace};
 ghost use Rattle.cl_post.specs.Post.{holds};
 ghost use Rattle.cl_tx.specs.Nodes.{purse_of};
-ghost use Rattle.cl_engine.specs.Bounded.{IsWhole, costs_of};
+ghost use Rattle.cl_nodes.specs.Bounded.{IsWhole, costs_of};
 ghost use Rattle.cl_engine.specs.Traces.{SeesAll};
 ghost use Rattle.cl_engine.specs.Deploying.{EndsAs, Runs, evaluation_of};
 
-use crate::accept::Accepted;
-use crate::contracts::Contracts;
+use crate::ending::{cost_of, stop_of};
+use crate::prepare::Prepared;
 use cl_code::Watch;
-use cl_endings::{cost_of, failing, keep, meter_of, stop_of};
 use cl_events::Event;
 use cl_frames::Abort;
+use cl_keyed::HashKey;
+use cl_nodes::{Contracts, failing, keep, meter_of};
 use cl_runs::run_top_watched;
 use cl_shapes::Cost5;
 use cl_state::World;
@@ -31,7 +32,7 @@ use std::alloc::Global;
 pub(crate) enum Ran {
     Done {
         cost: Cost5,
-        constants: IndexMap<Name, Val>,
+        constants: IndexMap<Name, Val, HashKey>,
         events: Vec<Event>,
     },
     Stopped(Stop, Cost5),
@@ -42,7 +43,7 @@ fn settle(
     alloc: Global,
     world: &mut World,
     common: &Common,
-    constants: IndexMap<Name, Val>,
+    constants: IndexMap<Name, Val, HashKey>,
     spent: Cost5,
 ) -> Result<Ran, NoMemory>
     requires { length world.old.stack.below ≡ 1 }
@@ -75,7 +76,7 @@ fn finish(
     alloc: Global,
     world: &mut World,
     common: &Common,
-    ended: Result<IndexMap<Name, Val>, Fault<Abort>>,
+    ended: Result<IndexMap<Name, Val, HashKey>, Fault<Abort>>,
     spent: Cost5,
 ) -> Result<Ran, NoMemory>
     requires { length world.old.stack.below ≡ 1 }
@@ -105,25 +106,24 @@ pub(crate) fn run<W: Watch>(
     world: &mut World,
     contracts: &Contracts,
     common: &Common,
-    accepted: &Accepted,
+    prepared: &Prepared,
     watch: &mut W,
 ) -> Result<Ran, NoMemory>
     requires base { world.old.stack.below ≡ [] }
     requires whole { IsWhole contracts.now }
-    requires names { IsIndexed accepted.now.checked }
     requires accepted { IsAcceptedAfter (deployed_seen contracts.now.deployed)
-        world.old.stack.top accepted.now.checked }
-    requires home { accepted.now.checked.principal ≡ accepted.now.frame.contract }
-    requires tokens { HasNoTokens accepted.now.frame.contract world.old.stack.top }
+        world.old.stack.top prepared.now.accepted.checked }
+    requires home { prepared.now.accepted.checked.principal ≡ prepared.now.frame.contract }
+    requires tokens { HasNoTokens prepared.now.frame.contract world.old.stack.top }
     ensures runs { IfOk result (λ ran. Runs common.now
         (limited (costs_of contracts.now) (purse_of common.now)
-        (evaluation_of contracts.now accepted.now world.old))
-        accepted.now.checked ran world.old.stack.top world.new.stack.top) }
+        (evaluation_of contracts.now prepared.now world.old))
+        prepared.now.accepted.checked ran world.old.stack.top world.new.stack.top) }
     ensures base { world.new.stack.below ≡ [] }
     ensures refused { OnErr result (world.new.stack.top ≡ world.old.stack.top) }
     ensures seen { SeesAll (W.seen watch.old) (W.seen watch.new)
         (trace (costs_of contracts.now) (purse_of common.now)
-        (evaluation_of contracts.now accepted.now world.old)) result }
+        (evaluation_of contracts.now prepared.now world.old)) result }
 {
     world.push_layer()?;
     let mut meter = meter_of(common);
@@ -131,8 +131,8 @@ pub(crate) fn run<W: Watch>(
         alloc,
         world,
         &contracts.deployed,
-        &accepted.checked,
-        &accepted.frame,
+        &prepared.accepted.checked,
+        &prepared.frame,
         &contracts.table,
         &mut meter,
         watch,

@@ -1,31 +1,12 @@
-//! Who sends a transaction, and where it is evaluated.
+//! The frame in which what a sender asks for is evaluated.
 ghost use Rattle.std.specs.Prelude.{◌≡◌};
 ghost use Rattle.cl_frames.specs.Homes.{frame_seen};
-ghost use Rattle.cl_tx.specs.Nodes.{contract_of, person};
+ghost use Rattle.cl_tx.specs.Nodes.{person};
 
-use cl_c32::{ContractName, Principal};
+use cl_c32::Principal;
 use cl_frames::Frame;
+use cl_nodes::person;
 use cl_tx::Common;
-
-/// The sender, who is no contract.
-pub(crate) fn person(common: &Common) -> Principal
-    ensures { result ≡ person common.now.sender }
-{
-    Principal {
-        address: common.sender,
-        contract: None,
-    }
-}
-
-/// The principal of a sender's contract.
-pub(crate) fn principal_of(common: &Common, name: &ContractName) -> Principal
-    ensures { result ≡ contract_of common.now.sender name.now }
-{
-    Principal {
-        address: common.sender,
-        contract: Some(*name),
-    }
-}
 
 /// The frame of what a sender runs in a contract.
 pub(crate) fn frame_of(common: &Common, contract: &Principal, height: u64) -> Frame

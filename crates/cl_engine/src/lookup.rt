@@ -5,11 +5,11 @@ ghost use Rattle.cl_c32.specs.declared.principal.Principal.{Principal};
 ghost use Rattle.cl_meaning.specs.Deployed.{Function as FunctionSeen, function_in};
 ghost use Rattle.cl_meaning.specs.Limits.{Costs};
 ghost use Rattle.cl_code.specs.Typed.{goes_by};
-ghost use Rattle.cl_contracts.specs.Seen.{IsIndexed, forms_of, function_seen};
+ghost use Rattle.cl_contracts.specs.Seen.{forms_of, function_seen};
 ghost use Rattle.cl_file.specs.declared.entry.Common.{Common};
 ghost use Rattle.cl_tx.specs.Nodes.{NodeSeen, refused};
 ghost use Rattle.cl_tx.specs.Step.{first_misfit, if_open};
-ghost use Rattle.cl_endings.specs.Calling.{MayBeCalled};
+ghost use Rattle.cl_nodes.specs.Calling.{MayBeCalled};
 
 use cl_code::Function;
 use cl_contracts::Contract;
@@ -19,8 +19,7 @@ use cl_values::{Val, inhabits};
 
 /// The function of a contract that these bytes name.
 pub(crate) fn function_named<'a>(contract: &'a Contract, name: &[u8]) -> Option<&'a Function>
-    requires indexed { IsIndexed contract.now.checked }
-    requires named { (f : FunctionSeen) →
+    requires { (f : FunctionSeen) →
         function_in name.now (forms_of contract.now.checked) ≡ Some f → IsName name.now }
     ensures seen { option_map (λ f. function_seen f.now) result
         ≡ function_in name.now (forms_of contract.now.checked) }

@@ -13,26 +13,27 @@ ghost use Rattle.cl_state.specs.Stack.{base_alone};
 ghost use Rattle.cl_tables.specs.Spots.{grafted};
 ghost use Rattle.cl_frames.specs.Watching.{Seen as Watched};
 ghost use Rattle.cl_meaning.specs.Kept.{Kept, Whole};
-ghost use Rattle.cl_contracts.specs.Seen.{AreIndexed, deployed_seen};
+ghost use Rattle.cl_contracts.specs.Seen.{deployed_seen};
 ghost use Rattle.cl_tx.specs.Laws.{IsKept};
 ghost use Rattle.cl_node_sound.specs.Sound.{HasParts};
-ghost use Rattle.cl_engine.specs.Asked.{call_entry, deployment_entry};
-ghost use Rattle.cl_engine.specs.Steps.{Gives, IsCall, Makes, MakesSafely};
+ghost use Rattle.cl_nodes.specs.Asked.{call_entry, deployment_entry};
+ghost use Rattle.cl_nodes.specs.Steps.{Makes};
+ghost use Rattle.cl_engine.specs.Steps.{Gives, IsCall, MakesSafely};
 ghost use Rattle.cl_engine.specs.Traces.{Sees};
 ghost use Rattle.cl_engine.specs.Within.{IsChargedWithin, GivesTyped};
 
-use crate::asked::{Asked, Deployment, Invocation, Moment, asked_by};
 use crate::call::{call, try_call};
-use crate::contracts::Contracts;
 use crate::deploy::deploy;
-use crate::parts::{are_holders, has_parts};
 use crate::trial::{Trial, try_on_copy};
 use cl_c32::Principal;
 use cl_code::{Silent, Watch};
 use cl_contracts::Deployed;
 use cl_costs::Schedule;
-use cl_endings::block_begun;
+use cl_keyed::HashKey;
 use cl_node_sound::{answers_have_their_types, costs_stay_within_bounds, nodes_stay_sound};
+use cl_nodes::{
+    Asked, Contracts, Deployment, Invocation, Moment, are_holders, asked_by, block_begun, has_parts,
+};
 use cl_rules::forms_have_one_answer;
 use cl_state::{Spot, World};
 use cl_touch::grafts_are_kept;
@@ -65,10 +66,10 @@ impl Drop for Node {
 impl Model for Node {
     ghost use Rattle.std.specs.Prelude.{◌≡◌, []};
     ghost use Rattle.cl_contracts.specs.Seen.{deployed_seen};
-    ghost use Rattle.cl_engine.specs.Seen.{Seen, seen};
-    ghost use Rattle.cl_engine.specs.Bounded.{IsWhole};
-    ghost use Rattle.cl_engine.specs.Sound.{IsSound};
-    ghost use Rattle.cl_engine.specs.Codes.{seen_code};
+    ghost use Rattle.cl_nodes.specs.Seen.{Seen, seen};
+    ghost use Rattle.cl_nodes.specs.Bounded.{IsWhole};
+    ghost use Rattle.cl_nodes.specs.Sound.{IsSound};
+    ghost use Rattle.cl_nodes.specs.Codes.{seen_code};
 
     ghost Value = { Seen };
 
@@ -79,15 +80,40 @@ impl Model for Node {
     ghost invariant = { λ n. record {
       base : n.world.stack.below ≡ [];
       whole : IsWhole n.contracts;
-      sound : IsSound n.contracts.deployed.contracts.entries
+      sound : IsSound n.contracts.deployed.contracts
           (seen n.world.stack.top (deployed_seen n.contracts.deployed) n.height);
     } };
 }
 
 impl Node {
     /// The first node: the holders have their STX, no contract is deployed, the height is 0. Each
-    /// holder is there once, and together they have at most 2^128-1.
+    /// holder is there once, and together they have at most 2^128-1. Its tables hash by the key that
+    /// everybody knows: for strangers' entries take `genesis_with_hash_key`.
     pub fn genesis(alloc: Global, holders: Vec<(Principal, u128)>) -> Result<Node, NoMemory>
+        requires once { AreOnce [] holders.items }
+        requires total { total holders.items < 2 ^ 128 }
+        ensures first { IfOk result
+            (λ n. n ≡ record {
+              state = genesis holders.items;
+              contracts = [];
+              height = 0;
+            }) }
+        ensures supply { IfOk result (λ n. n.state.stx.supply ≡ total holders.items) }
+        ensures principals { All (λ h. IsPrincipal h.0) holders.items }
+        ensures balances { IfOk result
+            (λ n. (who : Who) → balance (holder who) n.state.stx.balances
+            ≡ sum_for who holders.items) }
+    {
+        Node::genesis_with_hash_key(alloc, HashKey::FIXED, holders)
+    }
+
+    /// The same, whose tables hash by this key. Nobody can choose entries that collide in them who
+    /// doesn't know it; a random one is best.
+    pub fn genesis_with_hash_key(
+        alloc: Global,
+        hash_key: HashKey,
+        holders: Vec<(Principal, u128)>,
+    ) -> Result<Node, NoMemory>
         requires once { AreOnce [] holders.items }
         requires total { total holders.items < 2 ^ 128 }
         ensures first { IfOk result
@@ -104,10 +130,10 @@ impl Node {
     {
         nodes_stay_sound();
         are_holders(holders.as_slice());
-        let world = World::genesis(holders)?;
+        let world = World::genesis_with_hash_key(hash_key, holders)?;
         Ok(Node {
             world,
-            contracts: Contracts::new(alloc),
+            contracts: Contracts::new(alloc, hash_key),
             height: 0,
         })
     }
@@ -125,8 +151,7 @@ impl Node {
 
     /// The deployed contracts.
     pub fn deployed(&self) -> &Deployed
-        ensures seen { deployed_seen result.now ≡ self.now.contracts }
-        ensures indexed { AreIndexed result.now }
+        ensures { deployed_seen result.now ≡ self.now.contracts }
     {
         &self.contracts.deployed
     }

@@ -2,15 +2,15 @@
 ghost use Rattle.std.specs.Prelude.{◌≡◌, [], List, IfOk};
 ghost use Rattle.cl_shapes.specs.declared.function.CostFn.{CostFn};
 ghost use Rattle.cl_costs.specs.Tables.{function_of};
-ghost use Rattle.cl_engine.specs.Asked.{IsReady, call_entry};
-ghost use Rattle.cl_engine.specs.Bounded.{AreBounded, AreUnder, IsWhole};
+ghost use Rattle.cl_nodes.specs.Asked.{call_entry};
+ghost use Rattle.cl_engine.specs.Asked.{IsReady};
+ghost use Rattle.cl_nodes.specs.Bounded.{AreBounded, AreUnder, IsWhole};
 ghost use Rattle.cl_engine.specs.Trials.{TriesCall};
 
-use crate::asked::{Invocation, Moment};
 use crate::call::call;
-use crate::contracts::{BoundedContracts, Contracts};
 use cl_bound::KnownBounds;
 use cl_code::Silent;
+use cl_nodes::{BoundedContracts, Contracts, Invocation, Moment};
 use cl_state::World;
 use cl_tx::TxResult;
 use cl_types::NoMemory;
@@ -25,7 +25,7 @@ pub struct Trial {
 }
 
 /// The bounds that were computed for a table, or the kept ones where none had to be.
-#[tactic(auto, using(crate::proofs::BoundsFor::bounds_computed, crate::proofs::BoundsFor::bounds_kept))]
+#[tactic(auto, using(cl_nodes::proofs::BoundsFor::bounds_computed, cl_nodes::proofs::BoundsFor::bounds_kept))]
 fn bounds_for<'a>(contracts: &'a Contracts, computed: &'a Option<KnownBounds>) -> &'a KnownBounds
     requires { IsWhole contracts.now }
     ensures { (table : List CostFn) → AreUnder contracts.now table computed.now →

@@ -12,9 +12,9 @@ use Rattle.cl_tx.specs.declared.outcome.TxResult.{TxResult}
 use Rattle.cl_tx.specs.Nodes.{NodeSeen, Stepped}
 use Rattle.cl_tx.specs.Step.{Steps, AllStep, first_node}
 use Rattle.cl_node_sound.specs.Sound.{HasParts}
-use Rattle.cl_engine.specs.Seen.{Seen}
-use Rattle.cl_engine.specs.Laws.{OneNode}
-use Rattle.cl_engine.specs.Steps.{Makes}
+use Rattle.cl_nodes.specs.Seen.{Seen}
+use Rattle.cl_nodes.specs.Laws.{OneNode}
+use Rattle.cl_nodes.specs.Steps.{Makes}
 use Rattle.cl_entries.specs.Entries.{IsFirst, Reaches}
 
 -- the holders of STX before all entries

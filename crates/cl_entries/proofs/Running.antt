@@ -1,5 +1,5 @@
 -- The steps of a file while they are done.
-use Rattle.std.proofs.Common.{◌≡◌, Fits, w64, IfOk, Result, Err, ℕ, zero, suc, ◌+◌, ◌-◌, ◌<◌, ◌≤◌, nat_lt, Bool, true, false, List, [], ◌∷◌, ◌++◌, length, take, get_or, Ok, refl, sym, ap, subst, ◌∙◌, append_assoc, append-nil, length-take, arith}
+use Rattle.std.proofs.Common.{◌≡◌, Fits, w64, IfOk, Result, Err, ℕ, zero, suc, ◌+◌, ◌-◌, ◌<◌, ◌≤◌, nat_lt, Bool, true, false, List, [], ◌∷◌, ◌++◌, length, take, get_or, Ok, refl, sym, ap, subst, ◌∙◌, append-nil, length-take, arith}
 use Rattle.std.proofs.lemmas.Bool.{le-ltb, lt-ltb, ltb-true}
 use Rattle.std.proofs.lemmas.List.{take_all, take_more}
 use Rattle.std.specs.List.{All}
@@ -16,15 +16,15 @@ use Rattle.cl_tx.specs.declared.outcome.TxResult.{TxResult}
 use Rattle.cl_tx.specs.Nodes.{NodeSeen}
 use Rattle.cl_tx.specs.Step.{AllStep, Runs, first_node, schedule_of}
 use Rattle.cl_node_sound.specs.Sound.{HasParts, FileHasParts}
-use Rattle.cl_engine.specs.Seen.{Seen}
-use Rattle.cl_engine.specs.Laws.{OneNode}
-use Rattle.cl_engine.specs.Steps.{Makes}
+use Rattle.cl_nodes.specs.Seen.{Seen}
+use Rattle.cl_nodes.specs.Laws.{OneNode}
+use Rattle.cl_nodes.specs.Steps.{Makes}
 use Rattle.cl_entries.specs.declared.status.Step.{Step}
 use Rattle.cl_entries.specs.declared.status.Status.TheVariants.{Done}
 use Rattle.cl_entries.specs.Scripts.{Script}
 use Rattle.cl_entries.specs.Entries.{AreStateSteps, IsFirst, IsOnTheWay, IsRun, HasPartsAt, IsRunning, IsStepAt, IsStepOf, Progress, Reaches, RunsAreSound, left_of, state_count, step_of, steps_from}
 use Rattle.cl_entries.proofs.Reached.{may_follow, reaches_first, reaches_next}
-use Rattle.cl_entries.proofs.Scripts.{OneStateText, each_result, first_steps, run_same, state_same, steps_then}
+use Rattle.cl_entries.proofs.Scripts.{OneStateText, each_result, first_steps, run_same, steps_then}
 
 -- ---- the first, and the next
 

@@ -16,9 +16,9 @@ use Rattle.cl_tx.specs.Nodes.{NodeSeen}
 use Rattle.cl_tx.specs.Step.{AllStep, Commits, Runs, first_node, if_committed, schedule_of}
 use Rattle.cl_node_sound.specs.Sound.{HasParts, FileHasParts}
 use Rattle.cl_node_sound.specs.Told.{none_told, AreChargedWithin, AreNotStopped, AreTyped}
-use Rattle.cl_engine.specs.Seen.{Seen}
-use Rattle.cl_engine.specs.Known.{IsNodeOf}
-use Rattle.cl_engine.specs.Steps.{Makes}
+use Rattle.cl_nodes.specs.Seen.{Seen}
+use Rattle.cl_nodes.specs.Known.{IsNodeOf}
+use Rattle.cl_nodes.specs.Steps.{Makes}
 use Rattle.cl_report.specs.Lines.{lines_of, report_from}
 use Rattle.cl_lines.specs.StateLines.{IsStateText}
 use Rattle.cl_entries.specs.declared.entries.End.{End}

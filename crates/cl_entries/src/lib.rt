@@ -9,5 +9,5 @@ mod status;
 
 pub use entries::{End, Ended, end_entry};
 pub use laws::{a_file_has_one_script, runs_are_sound};
-pub use run::{EntrySteps, first_node, schedule_of};
+pub use run::{EntrySteps, first_node, first_node_with_hash_key, schedule_of};
 pub use status::{Reply, Status, Step, Stop, bytes_reply, concat_bytes, end_number, text_reply};

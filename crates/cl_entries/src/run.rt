@@ -11,6 +11,7 @@ use crate::status::Step;
 use cl_costs::{CostTable, Schedule};
 use cl_engine::{Node, nodes_are_known_in_one_way};
 use cl_file::Row;
+use cl_keyed::HashKey;
 use cl_lines::{AddressCache, state_lines};
 use cl_tx::{TxFile, heights_are_those_of_the_file};
 use cl_types::NoMemory;
@@ -50,8 +51,8 @@ impl Model for EntrySteps {
     ghost use Rattle.std.specs.Coded.{code_by, coded_bool, coded_ℕ, coded×};
     ghost use Rattle.cl_costs.specs.Schedules.{ScheduleSeen};
     ghost use Rattle.cl_costs.specs.contracts.schedule.Schedule as schedule;
-    ghost use Rattle.cl_engine.specs.Codes.{seen_code};
-    ghost use Rattle.cl_engine.specs.Seen.{Seen};
+    ghost use Rattle.cl_nodes.specs.Codes.{seen_code};
+    ghost use Rattle.cl_nodes.specs.Seen.{Seen};
     ghost use Rattle.cl_entries.specs.Entries.{Progress};
     ghost use Rattle.cl_file.specs.Files.{FileSeen};
     ghost use Rattle.cl_file.specs.contracts.tx_file.TxFile as tx_file;
@@ -87,13 +88,25 @@ pub fn schedule_of(alloc: Global, costs: &CostTable, file: &TxFile) -> Result<Sc
     Ok(Schedule::new(*costs, epochs))
 }
 
-/// The node before the entries of a file.
+/// The node before the entries of a file. Its tables hash by the file's key.
 pub fn first_node(alloc: Global, file: &TxFile) -> Result<Node, NoMemory>
     ensures first { IfOk result (λ n. IsFirst file.now.genesis n) }
     ensures holders { IfOk result (λ _. All (λ h. IsPrincipal h.0) file.now.genesis) }
 {
+    first_node_with_hash_key(alloc, file.hash_key(), file)
+}
+
+/// The same, whose tables hash by this key.
+pub fn first_node_with_hash_key(
+    alloc: Global,
+    hash_key: HashKey,
+    file: &TxFile,
+) -> Result<Node, NoMemory>
+    ensures first { IfOk result (λ n. IsFirst file.now.genesis n) }
+    ensures holders { IfOk result (λ _. All (λ h. IsPrincipal h.0) file.now.genesis) }
+{
     let holders = file.genesis(alloc)?;
-    Node::genesis(alloc, holders)
+    Node::genesis_with_hash_key(alloc, hash_key, holders)
 }
 
 /// Makes the step of the entry of a file at a place.

@@ -31,7 +31,8 @@ pub enum Status {
     Usage,
     /// 5: a file that the words name is too long, or not in its format.
     BadFile,
-    /// 6: a contract of `check` or the deployment of `call` is refused, or `verify` says no.
+    /// 6: a contract of `check` or the deployment of `call` is refused, or `audit` or `verify` says
+    /// no.
     Refused,
     /// 7: the deployment of `call` aborts, or its call is an err, aborted or refused.
     NotGood,

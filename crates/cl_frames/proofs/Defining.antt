@@ -30,7 +30,7 @@ use Rattle.cl_code.specs.Definitions.{form_defined, expression_if}
 use Rattle.cl_contracts.specs.declared.checked.Checked.{Checked}
 use Rattle.cl_contracts.proofs.Places.{get_map}
 use Rattle.cl_events.specs.State.{State, holder, place, with_variables, with_fungibles, with_nonfungibles}
-use Rattle.cl_contracts.specs.Seen.{forms_of, deployed_seen, IsIndexed}
+use Rattle.cl_contracts.specs.Seen.{forms_of, deployed_seen}
 use Rattle.cl_meaning.specs.Answers.{Answer, Given, Wrong, give, wrong, charged, and_then, with_known}
 use Rattle.cl_meaning.specs.Deployed.{Contract, Deployed, contract_at}
 use Rattle.cl_meaning.specs.Deploying.{defined, all_defined, forms_at, forms_by, deployment, with_constant, put_variable, put_fungible, put_nonfungible, with_cap}
@@ -49,7 +49,8 @@ use Rattle.cl_frames.specs.declared.home.Home.{Home}
 use Rattle.cl_frames.specs.declared.deploying.Deploying.{Deploying}
 use Rattle.cl_frames.specs.Homes.{frame_seen, home_seen, IsHome}
 use Rattle.cl_frames.specs.Runs.{Stops, Ends, Pays}
-use Rattle.cl_frames.specs.Deploys.{HasNoTokens, IsDeploying, contract_so_far, contract_in, costs_of, defined_by, all_by, all_charged, cap_of, Makes, Builds}
+use Rattle.cl_newness.specs.Newness.{HasNoTokens}
+use Rattle.cl_frames.specs.Deploys.{IsDeploying, contract_so_far, contract_in, costs_of, defined_by, all_by, all_charged, cap_of, Makes, Builds}
 use Rattle.cl_frames.proofs.Steps.{Handed, stops_then, stops_eq, charge_stops, ends_so}
 
 -- ---- the context at the top
@@ -65,9 +66,6 @@ found_first c W = ap (λ (b : Bool). if b then Some c else contract_at c.princip
 pub fits_top : (d : Deploying) (h : Home) → IsDeploying d → h.checked.now ≡ d.checked.now → IsHome d.deployed.now (Some h) h d.frame.now
 fits_top d h k same = record {
   found = ap (λ (p : Principal). contract_at p (home_seen h ∷ deployed_seen d.deployed.now)) (sym k.home ∙ ap (λ (k : Checked). k.principal) (sym same)) ∙ found_first (home_seen h) (deployed_seen d.deployed.now);
-  indexed = subst (λ c. IsIndexed c) (sym same) k.names;
-  opened = subst (λ c. IsIndexed c) (sym same) k.names;
-  all = k.all;
 }
 
 -- ---- what each kind of definition is

@@ -1,6 +1,6 @@
 -- The contracts of principals, as the code finds them.
-use Rattle.std.proofs.Common.{◌≡◌, ℕ, Bool, true, false, List, [], ◌∷◌, Option, Some, None, refl, sym, ap, ◌∙◌, subst, rules}
-use Rattle.std.specs.Prelude.{if◌then◌else◌, option_and_then, IfSome}
+use Rattle.std.proofs.Common.{◌≡◌, ℕ, Bool, true, false, List, [], ◌∷◌, Option, Some, None, refl, sym, ap, ◌∙◌, rules}
+use Rattle.std.specs.Prelude.{if◌then◌else◌, option_and_then}
 use Rattle.cl_c32.specs.declared.principal.Principal.{Principal}
 use Rattle.cl_maps.proofs.MapLaws.{same_keys}
 use Rattle.cl_rules.specs.Context.{same_principal}
@@ -9,8 +9,10 @@ use Rattle.cl_tokens.specs.Table.{is_key}
 use Rattle.cl_meaning.specs.Deployed.{Contract, Deployed, contract_at, native_of}
 use Rattle.cl_contracts.proofs.Principals.{OwnSpelling, same_so}
 use Rattle.cl_c32.specs.contracts.principal.PrincipalPartialEq.TheImpl.{eq-value}
+use Rattle.cl_contracts.specs.Contents.{ContractParts as ContractOfCode}
 use Rattle.cl_contracts.specs.declared.deployed.Deployed.{Deployed as DeployedOfCode}
-use Rattle.cl_contracts.specs.Seen.{IsIndexed, AreIndexed, forms_of, deployed_seen}
+use Rattle.cl_contracts.specs.declared.parts.Parts.{Parts}
+use Rattle.cl_contracts.specs.Seen.{contract_seen, forms_of, deployed_seen}
 use Rattle.cl_values.specs.Valid.{IsPrincipal}
 use Rattle.cl_forms.specs.Shapes.{beside}
 use Rattle.cl_code.specs.declared.op.Target.{Target}
@@ -45,11 +47,13 @@ same_found p q (d ∷ W) h = λ i. if is_key (holder d.principal) (h i) then Som
 pub found_at_home : (p : Principal) (W : Deployed) (c : Contract) → contract_at p W ≡ Some c → contract_at c.principal W ≡ Some c
 found_at_home p W c h = same_found c.principal p W (found_key p W c h) ∙ h
 
--- ---- the contract that is being deployed
-
--- a deployed contract, as the code has it
-pub home_of_entry : (h : Home) (p : Principal) → h.checked.now.principal ≡ p → home_seen h ≡ record { principal = p; version = h.checked.now.version; forms = forms_of h.checked.now; source_length = h.checked.now.source_length; constants = h.constants.now.entries }
-home_of_entry h p e = ap (λ (q : Principal). record { principal = q; version = h.checked.now.version; forms = forms_of h.checked.now; source_length = h.checked.now.source_length; constants = h.constants.now.entries }) e
+-- a deployed contract is seen alike in its home, which has its parts and the values of its constants
+pub seen_at_home : (p : Principal) (c : ContractOfCode) (h : Home) → c.checked.principal ≡ p → h.checked.now ≡ c.checked → h.constants.now.entries ≡ c.constants → contract_seen (p, c) ≡ home_seen h
+seen_at_home p c h at checked constants = λ i.
+    record { principal = own i; version = (sym checked i).version; forms = forms_of (sym checked i); source_length = (sym checked i).source_length; constants = sym constants i }
+  where
+    own : p ≡ h.checked.now.principal
+    own = sym at ∙ ap (λ (q : Parts). q.principal) (sym checked)
 
 -- ---- targets
 
@@ -61,16 +65,13 @@ pub another : (S : Scope) (t : Target) (p : Principal) (o : Option Contract) →
 another S (Standing q at) p o h k e = ap (λ (b : Bool). if b then None else contract_at q S.deployed) (ap (λ (r : Principal). is_principal r S.frame.contract) (sym h) ∙ k) ∙ ap (λ (r : Principal). contract_at r S.deployed) (sym h) ∙ e
 another S (Local c at) p o h k e = ap (λ (b : Bool). if b then None else contract_at (beside S.frame.contract c) S.deployed) (ap (λ (r : Principal). is_principal r S.frame.contract) (sym h) ∙ k) ∙ ap (λ (r : Principal). contract_at r S.deployed) (sym h) ∙ e
 
-pub is_at : (c : Context) (h : Home) (p : Principal) → there c p ≡ Some (home_seen h) → IsIndexed h.checked.now → IsAt c h
-is_at c h p e i = record { found = found_at_home p (with_opening c.opening (deployed_seen c.deployed.now)) (home_seen h) e; indexed = i }
+pub is_at : (c : Context) (h : Home) (p : Principal) → there c p ≡ Some (home_seen h) → IsAt c h
+is_at c h p e = record { found = found_at_home p (with_opening c.opening (deployed_seen c.deployed.now)) (home_seen h) e }
 
 -- the frame of a contract that is called has that contract
 pub fits_there : (c : Context) (h : Home) (F : FrameOfCode) → F.contract ≡ h.checked.now.principal → IsAt c h → IsHome c.deployed.now c.opening c.home c.frame.now → IsHome c.deployed.now c.opening h F
 fits_there c h F e at fits = record {
   found = ap (λ (p : Principal). contract_at p (with_opening c.opening (deployed_seen c.deployed.now))) e ∙ at.found;
-  indexed = at.indexed;
-  opened = fits.opened;
-  all = fits.all;
 }
 
 equal_so : (p q : Principal) → eq-value.it p q ≡ same_principal p q
@@ -79,11 +80,8 @@ equal_so p q = search rules
 pub is_same : OwnSpelling → (p q : Principal) → IsPrincipal p → IsPrincipal q → eq-value.it p q ≡ is_principal p q
 is_same own p q i j = equal_so p q ∙ same_so own p q i j
 
-pub fits_called : (d : DeployedOfCode) (h : Home) (F : FrameOfCode) → contract_at F.contract (deployed_seen d) ≡ Some (record { principal = F.contract; version = h.checked.now.version; forms = forms_of h.checked.now; source_length = h.checked.now.source_length; constants = h.constants.now.entries }) → h.checked.now.principal ≡ F.contract → IsIndexed h.checked.now → AreIndexed d → IsHome d None h F
-fits_called d h F found at indexed all = record { found = found ∙ ap (λ (k : Contract). Some k) (sym (home_of_entry h F.contract at)); indexed = indexed; opened = tt; all = all }
-
-pub one_indexed : (o : Option Home) (h : Home) → o ≡ Some h → IfSome o (λ k. IsIndexed k.checked.now) → IsIndexed h.checked.now
-one_indexed o h e i = subst (λ (p : Option Home). IfSome p (λ k. IsIndexed k.checked.now)) e i
+pub fits_called : (d : DeployedOfCode) (c : ContractOfCode) (h : Home) (F : FrameOfCode) → contract_at F.contract (deployed_seen d) ≡ Some (contract_seen (F.contract, c)) → c.checked.principal ≡ F.contract → h.checked.now ≡ c.checked → h.constants.now.entries ≡ c.constants → IsHome d None h F
+fits_called d c h F found at checked constants = record { found = found ∙ ap (λ (k : Contract). Some k) (seen_at_home F.contract c h at checked constants) }
 
 -- names are looked up in a context's scopes as in a text of its home contract's version
 pub of_version : (c : Context) (bound : List (List ℕ × Val)) → IsHome c.deployed.now c.opening c.home c.frame.now → IsOfVersion (version_of c) (scope_of c bound)

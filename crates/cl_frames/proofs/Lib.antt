@@ -18,8 +18,6 @@ pub mod ActLaws
 pub mod TokenLaws
 pub mod TupleLaws
 pub mod Defining
-pub mod NoTokens
-pub mod NoTokensMade
 pub mod Newness
 pub mod NeverStuck
 pub mod Rows

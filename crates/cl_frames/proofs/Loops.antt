@@ -45,7 +45,4 @@ in_another costs q sq depth S F G e s h = ap (λ (H : Frame). watched costs q sq
 pub same_home : (deployed : Deployed) (opening : Option Home) (home : Home) (F G : FrameOfCode) → G.contract ≡ F.contract → IsHome deployed opening home F → IsHome deployed opening home G
 same_home deployed opening home F G h fits = record {
   found = ap (λ (p : Principal). contract_at p (with_opening opening (deployed_seen deployed))) h ∙ fits.found;
-  indexed = fits.indexed;
-  opened = fits.opened;
-  all = fits.all;
 }

@@ -4,7 +4,7 @@ use Rattle.cl_c32.specs.declared.principal.Principal.{Principal}
 use Rattle.cl_forms.specs.Shapes.{beside}
 use Rattle.cl_code.specs.declared.op.Target.{Target}
 use Rattle.cl_code.specs.declared.op.Target.TheVariants.{Standing, Local}
-use Rattle.cl_contracts.specs.Seen.{deployed_seen, IsIndexed}
+use Rattle.cl_contracts.specs.Seen.{deployed_seen}
 use Rattle.cl_meaning.specs.Deployed.{Contract, contract_at}
 use Rattle.cl_frames.specs.Homes.{home_seen, with_opening}
 use Rattle.cl_frames.specs.declared.home.Home.{Home}
@@ -22,4 +22,3 @@ there c p = contract_at p (with_opening c.opening (deployed_seen c.deployed.now)
 -- a contract that stands there under its own principal
 pub record IsAt (c : Context) (h : Home) : Type 0 where
   pub found : there c h.checked.now.principal ≡ Some (home_seen h)
-  pub indexed : IsIndexed h.checked.now

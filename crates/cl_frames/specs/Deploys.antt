@@ -1,25 +1,23 @@
 -- What the evaluation of a deployment shows of the meaning under its limit.
-use Rattle.std.specs.Prelude.{◌≡◌, ◌≤◌, ℕ, List, [], Option, Some, None, unwrap_or, slice_get, Result, Ok, Err}
+use Rattle.std.specs.Prelude.{◌≡◌, ℕ, List, [], Option, Some, None, unwrap_or, Result, Ok, Err}
 use Rattle.indexmap.specs.IndexMap.{IndexMap}
 use Rattle.cl_types.specs.declared.fault.Fault.{Fault}
 use Rattle.cl_types.specs.Fault.{IsRefusal}
-use Rattle.cl_c32.specs.declared.principal.Principal.{Principal}
 use Rattle.cl_shapes.specs.Limits.{Purse}
 use Rattle.cl_shapes.specs.declared.name.CostName.TheVariants.{Deploy}
 use Rattle.cl_costs.specs.Tables.{function_of}
 use Rattle.cl_sexpr.specs.Tree.{Tree}
 use Rattle.cl_values.specs.Tree.{Tree as Val, UintV}
-use Rattle.cl_maps.specs.Maps.{get}
 use Rattle.cl_forms.specs.Forms.{Form}
-use Rattle.cl_forms.specs.Names.{name_at}
-use Rattle.cl_events.specs.State.{State, place}
+use Rattle.cl_events.specs.State.{State}
 use Rattle.cl_contracts.specs.declared.checked.Checked.{Checked}
-use Rattle.cl_contracts.specs.Seen.{forms_of, deployed_seen, IsIndexed, AreIndexed}
+use Rattle.cl_contracts.specs.Seen.{forms_of, deployed_seen}
 use Rattle.cl_meaning.specs.Answers.{Answer, charged}
-use Rattle.cl_meaning.specs.Deployed.{Contract, value_of}
+use Rattle.cl_meaning.specs.Deployed.{Contract}
 use Rattle.cl_meaning.specs.Deploying.{defined, all_defined, forms_at}
 use Rattle.cl_meaning.specs.Top.{top}
 use Rattle.cl_meaning.specs.Limits.{Costs, Limited, Gave, limited}
+use Rattle.cl_newness.specs.Newness as newness
 use Rattle.cl_frames.specs.declared.stop.Stop.{Stop}
 use Rattle.cl_frames.specs.declared.abort.Abort.{Abort}
 use Rattle.cl_frames.specs.declared.deploying.Deploying.{Deploying}
@@ -33,35 +31,9 @@ use Rattle.cl_frames.specs.Watching as walks
 abbrev pub contract_with : Checked → List (List ℕ × Val) → Contract
 contract_with c constants = record { principal = c.principal; version = c.version; forms = forms_of c; source_length = c.source_length; constants = constants }
 
--- ---- tokens
-
--- no token that isn't there in the first state is there in the second
-pub record MakesNoTokens (s t : State) : Type 0 where
-  pub fungibles : (key : List ℕ) → get key s.fungibles ≡ None → get key t.fungibles ≡ None
-  pub nonfungibles : (key : List ℕ) → get key s.nonfungibles ≡ None → get key t.nonfungibles ≡ None
-
--- a state has no token of a principal's
-pub record HasNoTokens (p : Principal) (s : State) : Type 0 where
-  pub fungibles : (x : List ℕ) → get (place p x) s.fungibles ≡ None
-  pub nonfungibles : (x : List ℕ) → get (place p x) s.nonfungibles ≡ None
-
--- no constant has a name by now, and no token of the principal's
-pub record IsNew (p : Principal) (x : List ℕ) (constants : List (List ℕ × Val)) (s : State) : Type 0 where
-  pub constant : value_of x constants ≡ None
-  pub fungible : get (place p x) s.fungibles ≡ None
-  pub nonfungible : get (place p x) s.nonfungibles ≡ None
-
--- the name of a form whose place is not among the first so many of these
-pub record IsAhead (forms : List Form) (order : List ℕ) (done : ℕ) (x : List ℕ) : Type 0 where
-  pub turn : ℕ
-  pub place : ℕ
-  pub later : done ≤ turn
-  pub there : slice_get order turn ≡ Some place
-  pub named : name_at forms place ≡ Some x
-
 -- what isn't defined after so many turns is new
 abbrev pub AreNew : Checked → ℕ → List (List ℕ × Val) → State → Type 0
-AreNew c done constants s = (x : List ℕ) → IsAhead (forms_of c) c.order.items done x → IsNew c.principal x constants s
+AreNew c done constants s = newness.AreNew c.principal (forms_of c) c.order.items done constants s
 
 -- ---- a contract that is being deployed
 
@@ -71,10 +43,8 @@ costs_of d = function_of d.costs.now
 abbrev pub contract_so_far : Deploying → List (List ℕ × Val) → Contract
 contract_so_far d constants = contract_with d.checked.now constants
 
--- what contracts define is found by its name, and the frame's contract is the one that is being deployed
+-- the frame's contract is the one that is being deployed
 pub record IsDeploying (d : Deploying) : Type 0 where
-  pub all : AreIndexed d.deployed.now
-  pub names : IsIndexed d.checked.now
   pub home : d.checked.now.principal ≡ d.frame.now.contract
 
 -- an expression at the top

@@ -1,7 +1,7 @@
 -- The contracts that evaluations see, and the one of a frame.
 use Rattle.std.specs.Prelude.{◌≡◌, ◌∷◌, Option, Some, None}
 use Rattle.cl_contracts.specs.declared.deployed.Deployed.{Deployed as DeployedOfCode}
-use Rattle.cl_contracts.specs.Seen.{forms_of, deployed_seen, IsIndexed, AreIndexed}
+use Rattle.cl_contracts.specs.Seen.{forms_of, deployed_seen}
 use Rattle.cl_meaning.specs.Deployed.{Contract, Deployed, contract_at}
 use Rattle.cl_meaning.specs.Scope.{Frame}
 use Rattle.cl_frames.specs.declared.frame.Frame.{Frame as FrameOfCode}
@@ -18,13 +18,6 @@ abbrev pub with_opening : Option Home → Deployed → Deployed
 with_opening None W = W
 with_opening (Some h) W = home_seen h ∷ W
 
-abbrev pub IsOpening : Option Home → Type 0
-IsOpening None = Unit {0}
-IsOpening (Some h) = IsIndexed h.checked.now
-
--- the contract is the frame's, and what contracts define is found by its name
+-- the contract is the frame's
 pub record IsHome (deployed : DeployedOfCode) (opening : Option Home) (home : Home) (frame : FrameOfCode) : Type 0 where
   pub found : contract_at frame.contract (with_opening opening (deployed_seen deployed)) ≡ Some (home_seen home)
-  pub indexed : IsIndexed home.checked.now
-  pub opened : IsOpening opening
-  pub all : AreIndexed deployed

@@ -9,7 +9,7 @@ use Rattle.cl_touch_sound.specs.Calls.{IsCall}
 use Rattle.cl_tx.specs.declared.outcome.TxResult.{TxResult}
 use Rattle.cl_tx.specs.Nodes.{NodeSeen}
 use Rattle.cl_tx.specs.Step.{AllStep, first_node}
-use Rattle.cl_engine.specs.Seen.{Seen}
+use Rattle.cl_nodes.specs.Seen.{Seen}
 use Rattle.cl_lanes.specs.declared.moves.Move.{Move}
 use Rattle.cl_lanes.specs.declared.moves.Move.TheVariants.{Run, Commit, Barrier}
 use Rattle.cl_lanes.specs.Lanes.{HeldSeen, ProgressOf, ProgressSeen, first_progress, committed_in, Moves, runs, commits, redoes, empties, steps, skips, AllMove}

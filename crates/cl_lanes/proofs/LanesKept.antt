@@ -5,7 +5,7 @@ use Rattle.std.proofs.lemmas.Option.{none-some, same_Some}
 use Rattle.cl_meaning.specs.Deployed.{Deployed}
 use Rattle.cl_meaning.specs.Kept.{Kept, Whole}
 use Rattle.cl_tables.specs.declared.spot.Spot.{Spot}
-use Rattle.cl_engine.specs.Seen.{Seen}
+use Rattle.cl_nodes.specs.Seen.{Seen}
 use Rattle.cl_lanes.specs.declared.held.Held.{Held}
 use Rattle.cl_lanes.specs.Held.{NoBarrier, IsHeldIn, EachHeld, lanes_seen}
 use Rattle.cl_lanes.specs.Lanes.{HeldSeen, Spares}

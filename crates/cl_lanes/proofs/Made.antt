@@ -14,10 +14,10 @@ use Rattle.cl_tx.specs.Nodes.{NodeSeen}
 use Rattle.cl_tx.specs.Step.{Steps}
 use Rattle.cl_touch_sound.specs.Calls.{IsCall, IsFootprintOf}
 use Rattle.cl_touch_sound.specs.Laws.{grafted_step}
-use Rattle.cl_engine.specs.Seen.{Seen}
-use Rattle.cl_engine.specs.Known.{IsNodeOf}
-use Rattle.cl_engine.specs.Laws.{OneNode}
-use Rattle.cl_engine.specs.Steps.{Makes}
+use Rattle.cl_nodes.specs.Seen.{Seen}
+use Rattle.cl_nodes.specs.Known.{IsNodeOf}
+use Rattle.cl_nodes.specs.Laws.{OneNode}
+use Rattle.cl_nodes.specs.Steps.{Makes}
 use Rattle.cl_lanes.specs.declared.held.Held.{Held}
 use Rattle.cl_lanes.specs.declared.ready.Ready.{Ready}
 use Rattle.cl_lanes.specs.declared.ready.Ready.TheVariants.{Idle}

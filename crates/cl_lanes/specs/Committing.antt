@@ -2,7 +2,7 @@
 use Rattle.std.specs.Prelude.{◌≡◌, ℕ, List, [], Option}
 use Rattle.cl_meaning.specs.Kept.{Kept, Whole}
 use Rattle.cl_spots.specs.Spots.{grafted}
-use Rattle.cl_engine.specs.Seen.{Seen}
+use Rattle.cl_nodes.specs.Seen.{Seen}
 use Rattle.cl_lanes.specs.declared.held.Held.{Held}
 use Rattle.cl_lanes.specs.Ready.{HoldsAt}
 

@@ -6,8 +6,8 @@ use Rattle.cl_meaning.specs.Kept.{Kept, Whole}
 use Rattle.cl_file.specs.declared.entry.Entry.{Entry}
 use Rattle.cl_tables.specs.declared.spot.Spot.{Spot}
 use Rattle.cl_touch_sound.specs.Calls.{IsFootprintOf}
-use Rattle.cl_engine.specs.Seen.{Seen}
-use Rattle.cl_engine.specs.Steps.{Makes}
+use Rattle.cl_nodes.specs.Seen.{Seen}
+use Rattle.cl_nodes.specs.Steps.{Makes}
 use Rattle.cl_lanes.specs.declared.held.Held.{Held}
 use Rattle.cl_lanes.specs.Lanes.{HeldSeen}
 

@@ -5,8 +5,8 @@ use Rattle.cl_file.specs.declared.entry.Entry.{Entry}
 use Rattle.cl_file.specs.Files.{FileSeen}
 use Rattle.cl_tx.specs.Nodes.{NodeSeen}
 use Rattle.cl_tx.specs.Step.{Runs}
-use Rattle.cl_engine.specs.Known.{IsNodeOf}
-use Rattle.cl_engine.specs.Seen.{Seen}
+use Rattle.cl_nodes.specs.Known.{IsNodeOf}
+use Rattle.cl_nodes.specs.Seen.{Seen}
 use Rattle.cl_lanes.specs.declared.moves.Move.{Move}
 use Rattle.cl_lanes.specs.Lanes.{ProgressOf, committed_in}
 use Rattle.cl_lanes.specs.Progress.{MakesMoves, Rises}

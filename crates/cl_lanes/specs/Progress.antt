@@ -14,9 +14,9 @@ use Rattle.cl_tx.specs.declared.outcome.TxResult.{TxResult}
 use Rattle.cl_tx.specs.contracts.outcome.TxResult as result
 use Rattle.cl_tx.specs.Nodes.{NodeSeen}
 use Rattle.cl_tx.specs.Step.{AllStep, Runs, first_node}
-use Rattle.cl_engine.specs.Codes.{seen_code}
-use Rattle.cl_engine.specs.Known.{IsNodeOf}
-use Rattle.cl_engine.specs.Seen.{Seen}
+use Rattle.cl_nodes.specs.Codes.{seen_code}
+use Rattle.cl_nodes.specs.Known.{IsNodeOf}
+use Rattle.cl_nodes.specs.Seen.{Seen}
 use Rattle.cl_lanes.specs.declared.moves.Move.{Move}
 use Rattle.cl_lanes.specs.Lanes.{HeldSeen, ProgressOf, ProgressSeen, first_progress, committed_in, Moves, AllMove}
 

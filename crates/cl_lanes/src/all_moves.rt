@@ -63,7 +63,7 @@ pub fn lanes(
     // The heights of its blocks never fall, as its entries say.
     let _entries = file.entries();
     let holders = file.genesis(alloc)?;
-    let mut progress = Progress::new(alloc, holders, lanes)?;
+    let mut progress = Progress::with_hash_key(alloc, file.hash_key(), holders, lanes)?;
     for step in moves {
         make(&mut progress, file, costs, *step)?;
     }

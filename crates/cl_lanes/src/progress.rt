@@ -17,6 +17,7 @@ use cl_c32::Principal;
 use cl_costs::Schedule;
 use cl_engine::{Node, nodes_are_known_in_one_way};
 use cl_file::Row;
+use cl_keyed::HashKey;
 use cl_spots::Spot;
 use cl_tx::{TxFile, TxResult};
 use cl_types::NoMemory;
@@ -54,7 +55,7 @@ impl Drop for Progress {
 
 impl Model for Progress {
     ghost use Rattle.std.specs.Prelude.{length};
-    ghost use Rattle.cl_engine.specs.Seen.{Seen};
+    ghost use Rattle.cl_nodes.specs.Seen.{Seen};
     ghost use Rattle.cl_lanes.specs.Held.{AreLanes, lanes_seen};
     ghost use Rattle.cl_lanes.specs.Lanes.{ProgressOf};
     ghost use Rattle.cl_lanes.specs.Progress.{progress_code};
@@ -90,7 +91,8 @@ impl Progress {
     ghost use Rattle.cl_lanes.specs.Held.{lanes_seen};
 
     /// The node of the genesis, no entry committed, and empty lanes. Each holder stands once, and
-    /// together they have at most 2^128-1; there are 1 to 16 lanes.
+    /// together they have at most 2^128-1; there are 1 to 16 lanes. The tables hash by the key that
+    /// everybody knows.
     pub fn new(
         alloc: Global,
         holders: Vec<(Principal, u128)>,
@@ -102,8 +104,24 @@ impl Progress {
         requires few { lanes ≤ 16 }
         ensures { IfOk result (λ p. p ≡ first_progress (first_seen holders.items) lanes) }
     {
+        Progress::with_hash_key(alloc, HashKey::FIXED, holders, lanes)
+    }
+
+    /// The same, with tables that hash by this key.
+    pub fn with_hash_key(
+        alloc: Global,
+        hash_key: HashKey,
+        holders: Vec<(Principal, u128)>,
+        lanes: u32,
+    ) -> Result<Progress, NoMemory>
+        requires once { AreOnce [] holders.items }
+        requires total { total holders.items < 2 ^ 128 }
+        requires some { 1 ≤ lanes }
+        requires few { lanes ≤ 16 }
+        ensures { IfOk result (λ p. p ≡ first_progress (first_seen holders.items) lanes) }
+    {
         let held = empty_lanes(alloc, lanes)?;
-        let node = Node::genesis(alloc, holders)?;
+        let node = Node::genesis_with_hash_key(alloc, hash_key, holders)?;
         Ok(Progress {
             node,
             results: Vec::new(alloc),
@@ -200,7 +218,14 @@ impl Progress {
     {
         let alloc = *self.results.allocator();
         let lane = lane as usize;
-        match judge(alloc, self.held.as_slice(), self.wrote.as_slice(), lane)? {
+        let hash_key = self.node.deployed().hash_key();
+        match judge(
+            alloc,
+            hash_key,
+            self.held.as_slice(),
+            self.wrote.as_slice(),
+            lane,
+        )? {
             Ready::Idle => self.skipped += 1,
             Ready::Past => {
                 put(&mut self.held, lane, None);

@@ -7,6 +7,7 @@ ghost use Rattle.cl_lanes.specs.Same.{AreSame};
 
 use crate::held::Held;
 use cl_file::Row;
+use cl_keyed::HashKey;
 use cl_spots::Spot;
 use cl_types::NoMemory;
 use indexmap::IndexSet;
@@ -26,7 +27,7 @@ pub(crate) enum Ready {
 }
 
 /// Whether none of these spots is in a set.
-fn spares_one(touched: &IndexSet<Spot>, wrote: &[Spot]) -> bool
+fn spares_one(touched: &IndexSet<Spot, HashKey>, wrote: &[Spot]) -> bool
     ensures yes { result ≡ true → SparesOne touched.now.keys wrote.now }
     ensures no { result ≡ false → SparesOne touched.now.keys wrote.now → ⊥ }
 {
@@ -39,7 +40,7 @@ fn spares_one(touched: &IndexSet<Spot>, wrote: &[Spot]) -> bool
 }
 
 /// Whether each of these entries was a call that wrote none of the spots in a set.
-fn spares(touched: &IndexSet<Spot>, wrote: &[Option<Row<Spot>>]) -> bool
+fn spares(touched: &IndexSet<Spot, HashKey>, wrote: &[Option<Row<Spot>>]) -> bool
     ensures yes { result ≡ true → Spares touched.now.keys wrote.now }
     ensures no { result ≡ false → Spares touched.now.keys wrote.now → ⊥ }
 {
@@ -57,7 +58,7 @@ fn spares(touched: &IndexSet<Spot>, wrote: &[Option<Row<Spot>>]) -> bool
 }
 
 /// Whether a spot is in a set.
-fn is_among(spots: &IndexSet<Spot>, spot: &Spot) -> bool
+fn is_among(spots: &IndexSet<Spot, HashKey>, spot: &Spot) -> bool
     ensures { result ≡ is_among spots.now.keys spot.now }
 {
     // The set's proof needs the types inside a spot to be named in this function.
@@ -68,7 +69,7 @@ fn is_among(spots: &IndexSet<Spot>, spot: &Spot) -> bool
 }
 
 /// Adds a spot to a set.
-fn add(spots: &mut IndexSet<Spot>, spot: &Spot) -> Result<(), NoMemory>
+fn add(spots: &mut IndexSet<Spot, HashKey>, spot: &Spot) -> Result<(), NoMemory>
     ensures { OnOk result (spots.new.keys ≡ and_spot spots.old.keys spot.now) }
 {
     // As in `is_among`.
@@ -80,10 +81,14 @@ fn add(spots: &mut IndexSet<Spot>, spot: &Spot) -> Result<(), NoMemory>
 }
 
 /// These spots as a set.
-fn set_of(alloc: Global, spots: &[Spot]) -> Result<IndexSet<Spot>, NoMemory>
+fn set_of(
+    alloc: Global,
+    hash_key: HashKey,
+    spots: &[Spot],
+) -> Result<IndexSet<Spot, HashKey>, NoMemory>
     ensures { IfOk result (λ set. AreSame set.keys spots.now) }
 {
-    let mut set = IndexSet::new(alloc);
+    let mut set = IndexSet::with_hasher(alloc, hash_key);
     for spot in spots {
         add(&mut set, spot)?;
     }
@@ -92,18 +97,24 @@ fn set_of(alloc: Global, spots: &[Spot]) -> Result<IndexSet<Spot>, NoMemory>
 
 /// Whether a trial may be committed: each of these entries, which were committed since it began,
 /// was a call that wrote none of the spots that it touched. The time is linear in these spots.
-fn is_good(alloc: Global, held: &Held, wrote: &[Option<Row<Spot>>]) -> Result<bool, NoMemory>
+fn is_good(
+    alloc: Global,
+    hash_key: HashKey,
+    held: &Held,
+    wrote: &[Option<Row<Spot>>],
+) -> Result<bool, NoMemory>
     ensures yes { IfOk result (λ good. good ≡ true → Spares held.now.footprint.touched wrote.now) }
     ensures no { IfOk result (λ good. good ≡ false →
         Spares held.now.footprint.touched wrote.now → ⊥) }
 {
-    let touched = set_of(alloc, held.footprint.touched.as_slice())?;
+    let touched = set_of(alloc, hash_key, held.footprint.touched.as_slice())?;
     Ok(spares(&touched, wrote))
 }
 
 /// What becomes of a lane that is to be committed, where these entries were committed.
 pub(crate) fn judge(
     alloc: Global,
+    hash_key: HashKey,
     held: &[Option<Held>],
     wrote: &[Option<Row<Spot>>],
     lane: usize,
@@ -124,6 +135,6 @@ pub(crate) fn judge(
     if place < wrote.len() {
         return Ok(Ready::Past);
     }
-    let good = is_good(alloc, run, &wrote[run.start as usize..])?;
+    let good = is_good(alloc, hash_key, run, &wrote[run.start as usize..])?;
     Ok(if good { Ready::Good } else { Ready::Stale })
 }

@@ -6,7 +6,7 @@ use Rattle.cl_values.specs.Tree.{Tree as Val}
 use Rattle.cl_costs.specs.Tables.{function_of as cost_function}
 use Rattle.cl_state.specs.Stack.{Seen as World}
 use Rattle.cl_code.specs.Typed.{goes_by}
-use Rattle.cl_contracts.specs.Seen.{AreIndexed, IsEntry, contract_seen, deployed_seen, forms_of, function_seen}
+use Rattle.cl_contracts.specs.Seen.{IsEntry, contract_seen, deployed_seen, forms_of, function_seen}
 use Rattle.cl_meaning.specs.Answers.{Answer}
 use Rattle.cl_meaning.specs.Deployed.{contract_at, function_in}
 use Rattle.cl_meaning.specs.Limits.{Costs}
@@ -29,7 +29,6 @@ call_of c args world = call_from (deployed_seen c.deployed.now) (frame_seen c.fr
 
 -- the contract is the one that is deployed under the frame's principal, and the function is the contract's
 pub record IsCalled (c : Called) : Type 0 where
-  pub indexed : AreIndexed c.deployed.now
   pub there : contract_at c.frame.now.contract (deployed_seen c.deployed.now) ≡ Some (contract_seen (c.frame.now.contract, c.contract.now))
   pub entry : IsEntry (c.frame.now.contract, c.contract.now)
   pub function : function_in c.function.now.name (forms_of c.contract.now.checked) ≡ Some (function_seen c.function.now)

@@ -2,7 +2,7 @@
 ghost use Rattle.std.specs.Prelude.{◌≡◌, ◌≢◌, ◌<◌, ◌≤◌, length, IfOk};
 ghost use Rattle.cl_types.specs.Fault.{IfRefused};
 ghost use Rattle.cl_costs.specs.Tables.{function_of as cost_function};
-ghost use Rattle.cl_contracts.specs.Seen.{AreIndexed, deployed_seen};
+ghost use Rattle.cl_contracts.specs.Seen.{deployed_seen};
 ghost use Rattle.cl_meaning.specs.Answers.{with_known};
 ghost use Rattle.cl_meaning.specs.Deployed.{contract_at, function_of};
 ghost use Rattle.cl_meaning.specs.Limits.{limited};
@@ -67,8 +67,8 @@ fn enter_called<W: Watch>(
         deployed: called.deployed,
         opening: None,
         home: Home {
-            checked: &called.contract.checked,
-            constants: &called.contract.constants,
+            checked: called.contract.checked(),
+            constants: called.contract.constants(),
         },
         frame: called.frame,
         costs: called.costs,
@@ -125,9 +125,10 @@ pub fn run_found<W: Watch>(
     }
 }
 
-/// Calls a function of the frame's contract with values of its parameters' types. What it does is done to the top state of the
-/// world, and charged to the meter. Where a public function answers err, the state is as before and the charges stay. It never
-/// aborts by `EarlyTop`. What it answers is of the function's return type, and the state that it leaves is kept. Whatever it answers,
+/// Calls a function of the frame's contract with values of its parameters' types. What it does is
+/// done to the top state of the world, and charged to the meter. Where a public function answers
+/// err, the state is as before and the charges stay. It never aborts by `EarlyTop`. What it answers
+/// is of the function's return type, and the state that it leaves is kept. Whatever it answers,
 /// what is charged is within the function's bound; after want of memory nothing is.
 pub fn run(
     alloc: Global,
@@ -139,15 +140,23 @@ pub fn run(
     costs: &CostTable,
     meter: &mut Meter,
 ) -> Result<Val, Fault<Abort>>
-    requires indexed { AreIndexed deployed.now }
     requires kept { IsKeptWorld (deployed_seen deployed.now) world.old.stack.top }
-    requires called { IsFittingCall (deployed_seen deployed.now) frame.now.contract function.now args.items }
+    requires called { IsFittingCall (deployed_seen deployed.now) frame.now.contract function.now
+        args.items }
     requires few { length args.items < 4294967296 }
-    ensures meant { Answers (limited (cost_function costs.now) meter.old (with_known (function_of function.now (contract_at frame.now.contract (deployed_seen deployed.now))) (λ f. call_from (deployed_seen deployed.now) (frame_seen frame.now) f args.items) world.old.stack.top)) result meter.new world.new.stack.top }
+    ensures meant { Answers (limited (cost_function costs.now) meter.old
+        (with_known (function_of function.now
+        (contract_at frame.now.contract (deployed_seen deployed.now)))
+        (λ f. call_from (deployed_seen deployed.now) (frame_seen frame.now) f args.items)
+        world.old.stack.top))
+        result meter.new world.new.stack.top }
     ensures returned { IfRefused result (λ abort. abort ≢ Abort.EarlyTop) }
-    ensures typed { IfOk result (λ value. IsReturnOf (deployed_seen deployed.now) frame.now.contract function.now value) }
-    ensures kept { IfOk result (λ _. IsKeptWorld (deployed_seen deployed.now) world.new.stack.top) }
-    ensures within { SpendsWithin (cost_function costs.now) (deployed_seen deployed.now) frame.now.contract function.now meter.old meter.new }
+    ensures typed { IfOk result
+        (λ value. IsReturnOf (deployed_seen deployed.now) frame.now.contract function.now value) }
+    ensures kept { IfOk result
+        (λ _. IsKeptWorld (deployed_seen deployed.now) world.new.stack.top) }
+    ensures within { SpendsWithin (cost_function costs.now) (deployed_seen deployed.now)
+        frame.now.contract function.now meter.old meter.new }
     ensures memory { result ≡ Err Fault.NoMemory → meter.new ≡ meter.old }
     ensures below { world.new.stack.below ≡ world.old.stack.below }
 {
@@ -165,8 +174,9 @@ pub fn run(
     )
 }
 
-/// Calls a function as `run` does, and tells `watch` the value of each node that gives one, in the order in which they end. Where
-/// the limit stops the call, these are the nodes before that charge; after want of memory, the start of them.
+/// Calls a function as `run` does, and gives `watch` the value of each node that gives one, in the
+/// order in which they end. Where the limit stops the call, these are the nodes before that charge;
+/// after want of memory, the first of them.
 pub fn run_watched<W: Watch>(
     alloc: Global,
     world: &mut World,
@@ -178,18 +188,32 @@ pub fn run_watched<W: Watch>(
     meter: &mut Meter,
     watch: &mut W,
 ) -> Result<Val, Fault<Abort>>
-    requires indexed { AreIndexed deployed.now }
     requires kept { IsKeptWorld (deployed_seen deployed.now) world.old.stack.top }
-    requires called { IsFittingCall (deployed_seen deployed.now) frame.now.contract function.now args.items }
+    requires called { IsFittingCall (deployed_seen deployed.now) frame.now.contract function.now
+        args.items }
     requires few { length args.items < 4294967296 }
-    ensures meant { Answers (limited (cost_function costs.now) meter.old (with_known (function_of function.now (contract_at frame.now.contract (deployed_seen deployed.now))) (λ f. call_from (deployed_seen deployed.now) (frame_seen frame.now) f args.items) world.old.stack.top)) result meter.new world.new.stack.top }
+    ensures meant { Answers (limited (cost_function costs.now) meter.old
+        (with_known (function_of function.now
+        (contract_at frame.now.contract (deployed_seen deployed.now)))
+        (λ f. call_from (deployed_seen deployed.now) (frame_seen frame.now) f args.items)
+        world.old.stack.top))
+        result meter.new world.new.stack.top }
     ensures returned { IfRefused result (λ abort. abort ≢ Abort.EarlyTop) }
-    ensures typed { IfOk result (λ value. IsReturnOf (deployed_seen deployed.now) frame.now.contract function.now value) }
-    ensures kept { IfOk result (λ _. IsKeptWorld (deployed_seen deployed.now) world.new.stack.top) }
-    ensures within { SpendsWithin (cost_function costs.now) (deployed_seen deployed.now) frame.now.contract function.now meter.old meter.new }
+    ensures typed { IfOk result
+        (λ value. IsReturnOf (deployed_seen deployed.now) frame.now.contract function.now value) }
+    ensures kept { IfOk result
+        (λ _. IsKeptWorld (deployed_seen deployed.now) world.new.stack.top) }
+    ensures within { SpendsWithin (cost_function costs.now) (deployed_seen deployed.now)
+        frame.now.contract function.now meter.old meter.new }
     ensures memory { result ≡ Err Fault.NoMemory → meter.new ≡ meter.old }
     ensures below { world.new.stack.below ≡ world.old.stack.below }
-    ensures seen { Tells (W.seen watch.old) (W.seen watch.new) (trace (cost_function costs.now) meter.old (with_known (function_of function.now (contract_at frame.now.contract (deployed_seen deployed.now))) (λ f. call_from (deployed_seen deployed.now) (frame_seen frame.now) f args.items) world.old.stack.top)) result }
+    ensures seen { Tells (W.seen watch.old) (W.seen watch.new)
+        (trace (cost_function costs.now) meter.old
+        (with_known (function_of function.now
+        (contract_at frame.now.contract (deployed_seen deployed.now)))
+        (λ f. call_from (deployed_seen deployed.now) (frame_seen frame.now) f args.items)
+        world.old.stack.top))
+        result }
 {
     let Some(contract) = deployed.find(&frame.contract) else {
         unreachable!();

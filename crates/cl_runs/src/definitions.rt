@@ -11,12 +11,14 @@ ghost use Rattle.cl_contracts.specs.Seen.{goes};
 ghost use Rattle.cl_forms.specs.Forms.{ConstantForm, VariableForm, FungibleForm, ExpressionForm};
 ghost use Rattle.cl_meaning.specs.Deployed.{value_of};
 ghost use Rattle.cl_frames.specs.Watching.{Ends, amount, watched};
-ghost use Rattle.cl_frames.specs.Deploys.{IsDeploying, IsNew, Builds, costs_of, top_of, defined_by};
+ghost use Rattle.cl_newness.specs.Newness.{IsNew};
+ghost use Rattle.cl_frames.specs.Deploys.{IsDeploying, Builds, costs_of, top_of, defined_by};
 
 use crate::call::MOST_DEPTH;
 use cl_code::{Code, Definition, Fungible, Watch};
 use cl_eval::evaluate;
 use cl_frames::{Context, Deploying, Home, Names, Stop, pay, pay_for};
+use cl_keyed::HashKey;
 use cl_shapes::{CostName, Meter};
 use cl_state::World;
 use cl_steps::{define_nonfungible, define_uncapped, place_of, put_capped};
@@ -27,7 +29,7 @@ use indexmap::IndexMap;
 /// Evaluates an expression at the top.
 fn evaluate_top<W: Watch>(
     deploying: &Deploying,
-    constants: &IndexMap<Name, Val>,
+    constants: &IndexMap<Name, Val, HashKey>,
     code: &Code,
     world: &mut World,
     meter: &mut Meter,
@@ -64,7 +66,7 @@ fn evaluate_top<W: Watch>(
 
 fn define_constant<W: Watch>(
     deploying: &Deploying,
-    constants: &mut IndexMap<Name, Val>,
+    constants: &mut IndexMap<Name, Val, HashKey>,
     name: &Name,
     value: &Code,
     world: &mut World,
@@ -86,7 +88,7 @@ fn define_constant<W: Watch>(
 
 fn define_variable<W: Watch>(
     deploying: &Deploying,
-    constants: &IndexMap<Name, Val>,
+    constants: &IndexMap<Name, Val, HashKey>,
     name: &Name,
     value: &Code,
     world: &mut World,
@@ -107,7 +109,7 @@ fn define_variable<W: Watch>(
 
 fn define_capped<W: Watch>(
     deploying: &Deploying,
-    constants: &IndexMap<Name, Val>,
+    constants: &IndexMap<Name, Val, HashKey>,
     name: &Name,
     cap: &Code,
     world: &mut World,
@@ -127,7 +129,7 @@ fn define_capped<W: Watch>(
 
 fn define_fungible<W: Watch>(
     deploying: &Deploying,
-    constants: &IndexMap<Name, Val>,
+    constants: &IndexMap<Name, Val, HashKey>,
     token: &Fungible,
     world: &mut World,
     meter: &mut Meter,
@@ -149,7 +151,7 @@ fn define_fungible<W: Watch>(
 /// An expression whose value is dropped.
 fn evaluate_alone<W: Watch>(
     deploying: &Deploying,
-    constants: &IndexMap<Name, Val>,
+    constants: &IndexMap<Name, Val, HashKey>,
     code: &Code,
     world: &mut World,
     meter: &mut Meter,
@@ -168,7 +170,7 @@ fn evaluate_alone<W: Watch>(
 /// Evaluates a definition, charges it, and puts it among the constants or in the world.
 pub(crate) fn define<W: Watch>(
     deploying: &Deploying,
-    constants: &mut IndexMap<Name, Val>,
+    constants: &mut IndexMap<Name, Val, HashKey>,
     definition: &Definition,
     world: &mut World,
     meter: &mut Meter,

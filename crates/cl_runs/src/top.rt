@@ -1,11 +1,12 @@
 //! The evaluation of a deployment.
 ghost use Rattle.std.specs.Prelude.{◌≡◌, ◌<◌, ◌≤◌, [], ◌∷◌, length, slice_get, Some, IfOk};
 ghost use Rattle.cl_costs.specs.Tables.{function_of};
-ghost use Rattle.cl_contracts.specs.Seen.{deployed_seen, IsIndexed, AreIndexed};
+ghost use Rattle.cl_contracts.specs.Seen.{deployed_seen};
 ghost use Rattle.cl_meaning.specs.Deploying.{deployment};
 ghost use Rattle.cl_meaning.specs.Limits.{limited};
 ghost use Rattle.cl_frames.specs.Homes.{frame_seen};
-ghost use Rattle.cl_frames.specs.Deploys.{IsDeploying, AreNew, HasNoTokens, Builds, Deploys, contract_with, all_by, all_charged};
+ghost use Rattle.cl_newness.specs.Newness.{HasNoTokens};
+ghost use Rattle.cl_frames.specs.Deploys.{IsDeploying, AreNew, Builds, Deploys, contract_with, all_by, all_charged};
 ghost use Rattle.cl_frames.specs.Sound.{DeploySpendsWithin, IsAcceptedAfter, IsKeptWorld};
 ghost use Rattle.cl_frames.specs.Watching.{Tells, amount, trace};
 
@@ -18,6 +19,7 @@ use cl_contract_sound::{
 use cl_contracts::{Checked, Deployed};
 use cl_costs::CostTable;
 use cl_frames::{Abort, Deploying, Frame, Stop, fault, pay};
+use cl_keyed::HashKey;
 use cl_shapes::{CostName, Meter};
 use cl_state::World;
 use cl_types::{Fault, Name};
@@ -30,14 +32,14 @@ fn definition_at(checked: &Checked, place: usize) -> &Definition
     requires { place < length checked.now.definitions.items }
     ensures { slice_get checked.now.definitions.items place ≡ Some result.now }
 {
-    &checked.definitions[place]
+    &checked.parts().definitions[place]
 }
 
 /// The definitions one after another, at the places of the order of evaluation.
 fn define_all<W: Watch>(
     deploying: &Deploying,
     places: &[usize],
-    constants: &mut IndexMap<Name, Val>,
+    constants: &mut IndexMap<Name, Val, HashKey>,
     world: &mut World,
     meter: &mut Meter,
     watch: &mut W,
@@ -45,10 +47,13 @@ fn define_all<W: Watch>(
     requires fits { IsDeploying deploying.now }
     requires order { places.now ≡ deploying.now.checked.now.order.items }
     requires new { AreNew deploying.now.checked.now 0 constants.old.entries world.old.stack.top }
-    ensures meant { Builds deploying.now meter.old (W.seen watch.old) (all_by deploying.now places.now constants.old.entries world.old.stack.top) constants.new.entries result meter.new (W.seen watch.new) world.new.stack.top }
+    ensures meant { Builds deploying.now meter.old (W.seen watch.old)
+        (all_by deploying.now places.now constants.old.entries world.old.stack.top)
+        constants.new.entries result meter.new (W.seen watch.new) world.new.stack.top }
     ensures below { world.new.stack.below ≡ world.old.stack.below }
     ensures grew { amount (W.seen watch.old) ≤ amount (W.seen watch.new) }
 {
+    deploying.checked.is_well_formed();
     for place in places {
         let definition = definition_at(deploying.checked, *place);
         define(deploying, constants, definition, world, meter, watch)?;
@@ -59,27 +64,31 @@ fn define_all<W: Watch>(
 /// Charges the text, and evaluates the definitions.
 fn deploy<W: Watch>(
     deploying: &Deploying,
-    constants: &mut IndexMap<Name, Val>,
+    constants: &mut IndexMap<Name, Val, HashKey>,
     world: &mut World,
     meter: &mut Meter,
     watch: &mut W,
 ) -> Result<(), Stop>
     requires fits { IsDeploying deploying.now }
     requires new { AreNew deploying.now.checked.now 0 constants.old.entries world.old.stack.top }
-    ensures meant { Builds deploying.now meter.old (W.seen watch.old) (all_charged deploying.now constants.old.entries world.old.stack.top) constants.new.entries result meter.new (W.seen watch.new) world.new.stack.top }
+    ensures meant { Builds deploying.now meter.old (W.seen watch.old)
+        (all_charged deploying.now constants.old.entries world.old.stack.top)
+        constants.new.entries result meter.new (W.seen watch.new) world.new.stack.top }
     ensures below { world.new.stack.below ≡ world.old.stack.below }
     ensures grew { amount (W.seen watch.old) ≤ amount (W.seen watch.new) }
 {
-    let length = u64::from(deploying.checked.source_length);
+    let contract = deploying.checked.parts();
+    let length = u64::from(contract.source_length);
     pay(deploying.costs, meter, CostName::Deploy, length)?;
-    let places = deploying.checked.order.as_slice();
+    let places = contract.order.as_slice();
     define_all(deploying, places, constants, world, meter, watch)
 }
 
-/// Evaluates the deployment of the frame's contract, which was accepted after the deployed ones, and gives the values of its
-/// constants. What it does is done to the top state of the world, which has no token of the contract yet, and charged to the
-/// meter. The constants' values are of their types, and the state that it leaves is kept with the contract. Whatever it answers, what
-/// is charged is within the deployment's bound; after want of memory nothing is.
+/// Evaluates the deployment of the frame's contract, which was accepted after the deployed ones,
+/// and gives the values of its constants. What it does is done to the top state of the world, which
+/// has no token of the contract yet, and charged to the meter. The constants' values are of their
+/// types, and the state that it leaves is kept with the contract. Whatever it answers, what is
+/// charged is within the deployment's bound; after want of memory nothing is.
 pub fn run_top(
     alloc: Global,
     world: &mut World,
@@ -88,15 +97,20 @@ pub fn run_top(
     frame: &Frame,
     costs: &CostTable,
     meter: &mut Meter,
-) -> Result<IndexMap<Name, Val>, Fault<Abort>>
-    requires indexed { AreIndexed deployed.now }
-    requires names { IsIndexed checked.now }
-    requires accepted { IsAcceptedAfter (deployed_seen deployed.now) world.old.stack.top checked.now }
+) -> Result<IndexMap<Name, Val, HashKey>, Fault<Abort>>
+    requires accepted { IsAcceptedAfter (deployed_seen deployed.now) world.old.stack.top
+        checked.now }
     requires home { checked.now.principal ≡ frame.now.contract }
     requires tokens { HasNoTokens frame.now.contract world.old.stack.top }
-    ensures meant { Deploys (limited (function_of costs.now) meter.old (deployment (deployed_seen deployed.now) (frame_seen frame.now) (contract_with checked.now []) world.old.stack.top)) checked.now result meter.new world.new.stack.top }
-    ensures kept { IfOk result (λ constants. IsKeptWorld (contract_with checked.now constants.entries ∷ deployed_seen deployed.now) world.new.stack.top) }
-    ensures within { DeploySpendsWithin (function_of costs.now) (deployed_seen deployed.now) world.old.stack.top checked.now meter.old meter.new }
+    ensures meant { Deploys (limited (function_of costs.now) meter.old
+        (deployment (deployed_seen deployed.now) (frame_seen frame.now)
+        (contract_with checked.now []) world.old.stack.top))
+        checked.now result meter.new world.new.stack.top }
+    ensures kept { IfOk result (λ constants. IsKeptWorld
+        (contract_with checked.now constants.entries ∷ deployed_seen deployed.now)
+        world.new.stack.top) }
+    ensures within { DeploySpendsWithin (function_of costs.now) (deployed_seen deployed.now)
+        world.old.stack.top checked.now meter.old meter.new }
     ensures memory { result ≡ Err Fault.NoMemory → meter.new ≡ meter.old }
     ensures below { world.new.stack.below ≡ world.old.stack.below }
 {
@@ -113,8 +127,9 @@ pub fn run_top(
     )
 }
 
-/// Evaluates a deployment as `run_top` does, and tells `watch` the value of each node that gives one, in the order in which they
-/// end. Where the limit stops it, these are the nodes before that charge; after want of memory, the start of them.
+/// Evaluates a deployment as `run_top` does, and gives `watch` the value of each node that gives
+/// one, in the order in which they end. Where the limit stops it, these are the nodes before that
+/// charge; after want of memory, the first of them.
 pub fn run_top_watched<W: Watch>(
     alloc: Global,
     world: &mut World,
@@ -124,18 +139,27 @@ pub fn run_top_watched<W: Watch>(
     costs: &CostTable,
     meter: &mut Meter,
     watch: &mut W,
-) -> Result<IndexMap<Name, Val>, Fault<Abort>>
-    requires indexed { AreIndexed deployed.now }
-    requires names { IsIndexed checked.now }
-    requires accepted { IsAcceptedAfter (deployed_seen deployed.now) world.old.stack.top checked.now }
+) -> Result<IndexMap<Name, Val, HashKey>, Fault<Abort>>
+    requires accepted { IsAcceptedAfter (deployed_seen deployed.now) world.old.stack.top
+        checked.now }
     requires home { checked.now.principal ≡ frame.now.contract }
     requires tokens { HasNoTokens frame.now.contract world.old.stack.top }
-    ensures meant { Deploys (limited (function_of costs.now) meter.old (deployment (deployed_seen deployed.now) (frame_seen frame.now) (contract_with checked.now []) world.old.stack.top)) checked.now result meter.new world.new.stack.top }
-    ensures kept { IfOk result (λ constants. IsKeptWorld (contract_with checked.now constants.entries ∷ deployed_seen deployed.now) world.new.stack.top) }
-    ensures within { DeploySpendsWithin (function_of costs.now) (deployed_seen deployed.now) world.old.stack.top checked.now meter.old meter.new }
+    ensures meant { Deploys (limited (function_of costs.now) meter.old
+        (deployment (deployed_seen deployed.now) (frame_seen frame.now)
+        (contract_with checked.now []) world.old.stack.top))
+        checked.now result meter.new world.new.stack.top }
+    ensures kept { IfOk result (λ constants. IsKeptWorld
+        (contract_with checked.now constants.entries ∷ deployed_seen deployed.now)
+        world.new.stack.top) }
+    ensures within { DeploySpendsWithin (function_of costs.now) (deployed_seen deployed.now)
+        world.old.stack.top checked.now meter.old meter.new }
     ensures memory { result ≡ Err Fault.NoMemory → meter.new ≡ meter.old }
     ensures below { world.new.stack.below ≡ world.old.stack.below }
-    ensures seen { Tells (W.seen watch.old) (W.seen watch.new) (trace (function_of costs.now) meter.old (deployment (deployed_seen deployed.now) (frame_seen frame.now) (contract_with checked.now []) world.old.stack.top)) result }
+    ensures seen { Tells (W.seen watch.old) (W.seen watch.new)
+        (trace (function_of costs.now) meter.old
+        (deployment (deployed_seen deployed.now) (frame_seen frame.now)
+        (contract_with checked.now []) world.old.stack.top))
+        result }
 {
     deployments_are_sound();
     limits_leave_sound_answers();
@@ -148,7 +172,7 @@ pub fn run_top_watched<W: Watch>(
         frame,
         costs,
     };
-    let mut constants = IndexMap::new(alloc);
+    let mut constants = IndexMap::with_hasher(alloc, checked.hash_key());
     let before = meter.copy();
     match deploy(&deploying, &mut constants, world, meter, watch) {
         Ok(()) => Ok(constants),

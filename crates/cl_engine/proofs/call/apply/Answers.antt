@@ -1,5 +1,4 @@
-use Rattle.std.specs.Prelude.{Ok, Err}
-use Rattle.std.proofs.Common.{◌≡◌, ◌<◌, List, length, sym, subst, ◌∙◌}
+use Rattle.std.proofs.Common.{◌<◌, List, length, sym, subst}
 use Rattle.cl_values.specs.Tree.{Tree}
 use Rattle.cl_values.specs.Typed.{AreOf}
 use Rattle.cl_shapes.specs.Limits.{Purse}
@@ -8,7 +7,8 @@ use Rattle.cl_frames.specs.Aborts.{Answers}
 use Rattle.cl_frames.specs.Watching.{Tells, trace}
 use Rattle.cl_tx.specs.Nodes.{purse_of}
 use Rattle.cl_runs.specs.Called.{call_of, costs_of, types_of}
-use Rattle.cl_endings.proofs.Ends.{may_answer, ok_also}
+use Rattle.cl_nodes.proofs.Facts.{ok_also}
+use Rattle.cl_engine.proofs.Ends.{may_answer}
 use Rattle.cl_engine.proofs.Calling.{tells_all}
 use Rattle.cl_engine.proofs.call.apply.Goals as goal
 

@@ -20,8 +20,8 @@ pub unreachable-requires-in_default-function : goal.unreachable-requires-in_defa
 unreachable-requires-in_default-function g c =
     let x = c.args.function.now in
     let p = c.args.frame.now.contract in
-    let there : contract_at p (deployed_seen c.args.deployed.now) ≡ Some (contract_seen (p, c.in-Some.contract.now)) = sym (c.in-Some.ensures.seen c.requires.indexed) in
-    let none : function_of x (Some (contract_seen (p, c.in-Some.contract.now))) ≡ None = sym (c.in_default-function.ensures.seen (c.in-Some.ensures.entry c.requires.indexed).indexed p) in
+    let there : contract_at p (deployed_seen c.args.deployed.now) ≡ Some (contract_seen (p, c.in-Some.contract.now)) = sym c.in-Some.ensures.seen in
+    let none : function_of x (Some (contract_seen (p, c.in-Some.contract.now))) ≡ None = sym (c.in_default-function.ensures.seen p) in
     no_function (function_of x (contract_at p (deployed_seen c.args.deployed.now))) c.requires.called.function (ap (function_of x) there ∙ none) c.requires.called.there
 
 pub run_found-requires-clause-called : goal.run_found-requires-clause-called
@@ -30,22 +30,21 @@ run_found-requires-clause-called g c =
     let p = c.args.frame.now.contract in
     let f = c.in-Some-function.found.now in
     let forms = forms_of c.in-Some.contract.now.checked in
-    let entry = c.in-Some.ensures.entry c.requires.indexed in
-    let found : function_in x forms ≡ Some (function_seen f) = sym (c.in-Some-function.ensures.seen entry.indexed p) in
+    let entry = c.in-Some.ensures.entry in
+    let found : function_in x forms ≡ Some (function_seen f) = sym (c.in-Some-function.ensures.seen p) in
     record {
-      indexed = c.requires.indexed;
-      there = sym (c.in-Some.ensures.seen c.requires.indexed);
+      there = sym c.in-Some.ensures.seen;
       entry = entry;
       function = subst (λ y. function_in y forms ≡ Some (function_seen f)) (sym (named_so x forms (function_seen f) found)) found;
-      goes = c.in-Some-function.ensures.goes entry.indexed;
+      goes = c.in-Some-function.ensures.goes;
     }
 
 pub run_found-requires-clause-fitting : goal.run_found-requires-clause-fitting
 run_found-requires-clause-fitting g c =
     let x = c.args.function.now in
     let p = c.args.frame.now.contract in
-    let there : contract_at p (deployed_seen c.args.deployed.now) ≡ Some (contract_seen (p, c.in-Some.contract.now)) = sym (c.in-Some.ensures.seen c.requires.indexed) in
-    let found : function_of x (contract_at p (deployed_seen c.args.deployed.now)) ≡ Some (function_seen c.in-Some-function.found.now) = ap (function_of x) there ∙ sym (c.in-Some-function.ensures.seen (c.in-Some.ensures.entry c.requires.indexed).indexed p) in
+    let there : contract_at p (deployed_seen c.args.deployed.now) ≡ Some (contract_seen (p, c.in-Some.contract.now)) = sym c.in-Some.ensures.seen in
+    let found : function_of x (contract_at p (deployed_seen c.args.deployed.now)) ≡ Some (function_seen c.in-Some-function.found.now) = ap (function_of x) there ∙ sym (c.in-Some-function.ensures.seen p) in
     let same = one_function c.requires.called.function (function_seen c.in-Some-function.found.now) (sym c.requires.called.there ∙ found) in
     subst (λ (f : Function). AreOf c.args.args.items (map (λ (param : List ℕ × PlainType). param.1) f.params)) same c.requires.called.fitting
 
@@ -55,8 +54,8 @@ returns-clause-meant g c =
     let p = c.args.frame.now.contract in
     let W = deployed_seen c.args.deployed.now in
     let F = frame_seen c.args.frame.now in
-    let there : contract_at p W ≡ Some (contract_seen (p, c.in-Some.contract.now)) = sym (c.in-Some.ensures.seen c.requires.indexed) in
-    let found : function_of x (contract_at p W) ≡ Some (function_seen c.in-Some-function.found.now) = ap (function_of x) there ∙ sym (c.in-Some-function.ensures.seen (c.in-Some.ensures.entry c.requires.indexed).indexed p) in
+    let there : contract_at p W ≡ Some (contract_seen (p, c.in-Some.contract.now)) = sym c.in-Some.ensures.seen in
+    let found : function_of x (contract_at p W) ≡ Some (function_seen c.in-Some-function.found.now) = ap (function_of x) there ∙ sym (c.in-Some-function.ensures.seen p) in
     subst (λ (a : Answer Tree). Answers (limited (cost_function c.args.costs.now) c.args.meter.now a) c.run_found.result c.run_found.new.meter c.run_found.new.world.stack.top)
     (sym (by_function (function_of x (contract_at p W)) (function_seen c.in-Some-function.found.now) (λ f. call_from W F f c.args.args.items) c.args.world.now.stack.top found)) c.run_found.ensures.meant
 
@@ -66,8 +65,8 @@ returns-clause-seen g c =
     let p = c.args.frame.now.contract in
     let W = deployed_seen c.args.deployed.now in
     let F = frame_seen c.args.frame.now in
-    let there : contract_at p W ≡ Some (contract_seen (p, c.in-Some.contract.now)) = sym (c.in-Some.ensures.seen c.requires.indexed) in
-    let found : function_of x (contract_at p W) ≡ Some (function_seen c.in-Some-function.found.now) = ap (function_of x) there ∙ sym (c.in-Some-function.ensures.seen (c.in-Some.ensures.entry c.requires.indexed).indexed p) in
+    let there : contract_at p W ≡ Some (contract_seen (p, c.in-Some.contract.now)) = sym c.in-Some.ensures.seen in
+    let found : function_of x (contract_at p W) ≡ Some (function_seen c.in-Some-function.found.now) = ap (function_of x) there ∙ sym (c.in-Some-function.ensures.seen p) in
     subst (λ (a : Answer Tree). Tells (g.W.Watch.seen c.args.watch.now) (g.W.Watch.seen c.run_found.new.watch) (trace (cost_function c.args.costs.now) c.args.meter.now a) c.run_found.result)
     (sym (by_function (function_of x (contract_at p W)) (function_seen c.in-Some-function.found.now) (λ f. call_from W F f c.args.args.items) c.args.world.now.stack.top found)) c.run_found.ensures.seen
 
@@ -76,7 +75,7 @@ returns-clause-typed g c =
     let x = c.args.function.now in
     let p = c.args.frame.now.contract in
     let f = c.in-Some-function.found.now in
-    let name = named_so x (forms_of c.in-Some.contract.now.checked) (function_seen f) (sym (c.in-Some-function.ensures.seen (c.in-Some.ensures.entry c.requires.indexed).indexed p)) in
+    let name = named_so x (forms_of c.in-Some.contract.now.checked) (function_seen f) (sym (c.in-Some-function.ensures.seen p)) in
     subst (λ y. IfOk c.run_found.result (λ value. IsReturnOf (deployed_seen c.args.deployed.now) p y value)) name c.run_found.ensures.typed
 
 pub returns-clause-within : goal.returns-clause-within
@@ -84,5 +83,5 @@ returns-clause-within g c =
     let x = c.args.function.now in
     let p = c.args.frame.now.contract in
     let f = c.in-Some-function.found.now in
-    let name = named_so x (forms_of c.in-Some.contract.now.checked) (function_seen f) (sym (c.in-Some-function.ensures.seen (c.in-Some.ensures.entry c.requires.indexed).indexed p)) in
+    let name = named_so x (forms_of c.in-Some.contract.now.checked) (function_seen f) (sym (c.in-Some-function.ensures.seen p)) in
     subst (λ y. SpendsWithin (cost_function c.args.costs.now) (deployed_seen c.args.deployed.now) p y c.args.meter.now c.run_found.new.meter) name c.run_found.ensures.within

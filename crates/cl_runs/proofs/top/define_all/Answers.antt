@@ -16,7 +16,7 @@ use Rattle.cl_runs.proofs.top.define_all.Goals as goal
 pub definition_at-definition-requires : goal.definition_at-definition-requires
 definition_at-definition-requires g c =
     let low : c.loop-place.place-index < length c.args.places.now = omega arith in
-    place_within c.args.deploying.now.checked.now c.loop-place.place-index _ c.requires.fits.names.order (ap (λ (ns : List ℕ). slice_get ns c.loop-place.place-index) (sym c.requires.order) ∙ slice_get-get_or _ _ 0 low)
+    place_within c.args.deploying.now.checked.now c.loop-place.place-index _ c.is_well_formed.ensures.indexed.order (ap (λ (ns : List ℕ). slice_get ns c.loop-place.place-index) (sym c.requires.order) ∙ slice_get-get_or _ _ 0 low)
 
 pub define-requires-clause-new : goal.define-requires-clause-new
 define-requires-clause-new g c =
@@ -26,7 +26,7 @@ define-requires-clause-new g c =
 pub define-requires-clause-goes : goal.define-requires-clause-goes
 define-requires-clause-goes g c =
     let checked = c.args.deploying.now.checked.now in
-    goes_at checked.version checked.definitions.items _ _ c.requires.fits.names.goes c.definition_at-definition.ensures
+    goes_at checked.version checked.definitions.items _ _ c.is_well_formed.ensures.indexed.goes c.definition_at-definition.ensures
 
 pub returns-in_err-define-clause-meant : goal.returns-in_err-define-clause-meant
 returns-in_err-define-clause-meant g c =
@@ -47,7 +47,7 @@ loop-place-preserved g c =
           c.loop-place.invariant.so_far
           ∙ ap (λ (ns : List ℕ). watched (costs_of d) c.loop-place.meter (g.W.Watch.seen c.loop-place.watch) (all_by d ns c.loop-place.constants.entries c.loop-place.world.stack.top)) (places_left order c.loop-place.place-index low)
           ∙ define_turn d _ _ _ _ _ _ _ _ _ _ _ (form_here c.args.deploying.now.checked.now (get_or c.args.places.now c.loop-place.place-index 0) _ c.definition_at-definition.ensures) c.in_ok-define.ensures.meant;
-      new = new_after d _ _ _ _ _ _ _ _ _ c.requires.fits.names (ap (λ (ns : List ℕ). slice_get ns c.loop-place.place-index) (sym c.requires.order) ∙ slice_get-get_or _ _ 0 low) (form_here c.args.deploying.now.checked.now (get_or c.args.places.now c.loop-place.place-index 0) _ c.definition_at-definition.ensures) (run_ends _ _ _ _ _ _ (Ok _) _ c.in_ok-define.ensures.meant) c.loop-place.invariant.new;
+      new = new_after d _ _ _ _ _ _ _ _ _ c.is_well_formed.ensures.indexed (ap (λ (ns : List ℕ). slice_get ns c.loop-place.place-index) (sym c.requires.order) ∙ slice_get-get_or _ _ 0 low) (form_here c.args.deploying.now.checked.now (get_or c.args.places.now c.loop-place.place-index 0) _ c.definition_at-definition.ensures) (run_ends _ _ _ _ _ _ (Ok _) _ c.in_ok-define.ensures.meant) c.loop-place.invariant.new;
       below = c.in_ok-define.ensures.below ∙ c.loop-place.invariant.below;
       grew = omega (arith, c.in_ok-define.ensures.grew, c.loop-place.invariant.grew);
     }

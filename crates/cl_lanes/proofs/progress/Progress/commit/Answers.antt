@@ -3,7 +3,7 @@ use Rattle.std.proofs.lemmas.List.{length_push}
 use Rattle.std.proofs.lemmas.Option.{slice_get_within}
 use Rattle.cl_tables.specs.declared.spot.Spot.{Spot}
 use Rattle.cl_tx.specs.declared.outcome.TxResult.{TxResult}
-use Rattle.cl_engine.specs.Seen.{Seen}
+use Rattle.cl_nodes.specs.Seen.{Seen}
 use Rattle.cl_lanes.specs.declared.held.Held.{Held}
 use Rattle.cl_lanes.specs.declared.ready.Ready.TheVariants.{Idle, Past, Stale, Good}
 use Rattle.cl_lanes.specs.declared.moves.Move.TheVariants.{Commit}

@@ -1,6 +1,0 @@
-use Rattle.std.proofs.Common.{◌≡◌, take, filter_map}
-use Rattle.cl_engine.specs.Deploying.{type_returned}
-use Rattle.cl_engine.proofs.told.types_of.Given as goal
-
-abbrev pub invariant-loop-definition : goal.invariant-loop-definition
-invariant-loop-definition l = l.types.items ≡ filter_map type_returned (take l.definition-index l.definitions)

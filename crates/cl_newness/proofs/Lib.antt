@@ -1,0 +1,3 @@
+pub mod NoTokens
+pub mod NoTokensMade
+pub mod Newness

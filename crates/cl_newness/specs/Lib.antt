@@ -1,0 +1,2 @@
+pub mod Newness
+pub mod Laws

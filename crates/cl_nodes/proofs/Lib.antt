@@ -1,0 +1,11 @@
+pub mod Facts
+pub mod Knowing
+pub mod Deployments
+pub mod Accepting
+pub mod Blocks
+pub mod Valid
+pub mod BoundsFor
+pub mod CallSteps
+pub mod Ends
+pub mod Nodes
+pub mod Tracing

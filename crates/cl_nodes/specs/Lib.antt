@@ -1,0 +1,11 @@
+pub mod Seen
+pub mod Codes
+pub mod Known
+pub mod Traces
+pub mod Laws
+pub mod Sound
+pub mod Asked
+pub mod Bounded
+pub mod Accepting
+pub mod Steps
+pub mod Calling
