@@ -20,7 +20,7 @@ use Rattle.cl_audit.specs.Agrees.{looks, with_kept}
 
 -- the meaning of the call of a function
 abbrev pub call_of : Scope → Function → List Val → State → Answer Val
-call_of S f vs s = call_from (with_opening S.opening (contracts_seen S.contracts.now)) (frame_seen S.frame.now) (function_seen f) vs s
+call_of S f vs s = call_from (with_opening S.opening (contracts_seen S.contracts.now.contracts)) (frame_seen S.frame.now) (function_seen f) vs s
 
 -- the trace of a call under the limit
 abbrev pub trace_of_call : Scope → Function → List Val → Run → List Told

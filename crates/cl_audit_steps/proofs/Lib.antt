@@ -8,3 +8,5 @@ pub mod StartLaws
 pub mod DataLaws
 pub mod TokenLaws
 pub mod SequenceLaws
+pub mod PlaceLaws
+pub mod TableLaws

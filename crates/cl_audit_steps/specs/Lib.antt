@@ -5,3 +5,5 @@ pub mod Named
 pub mod Seen
 pub mod Steps
 pub mod Ways
+pub mod Places
+pub mod Tables

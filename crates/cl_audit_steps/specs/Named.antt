@@ -14,5 +14,8 @@ abbrev pub named : Option (Bor Named) → List (List ℕ × Val) → Named
 named None own = record { values = own; depth = 0 }
 named (Some outer) own = record { values = outer.now.values ++ own; depth = suc outer.now.depth }
 
+abbrev pub values_code : Coded (List (List ℕ × Val))
+values_code = coded_list (coded× (coded_list coded_ℕ) tree_code)
+
 abbrev pub named_code : Coded Named
-named_code = code_by (List (List ℕ × Val) × ℕ) (coded× (coded_list (coded× (coded_list coded_ℕ) tree_code)) coded_ℕ) (λ n. (n.values, n.depth)) (λ p. record { values = p.0; depth = p.1 }) (λ _. refl)
+named_code = code_by (List (List ℕ × Val) × ℕ) (coded× values_code coded_ℕ) (λ n. (n.values, n.depth)) (λ p. record { values = p.0; depth = p.1 }) (λ _. refl)

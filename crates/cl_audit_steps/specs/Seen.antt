@@ -15,7 +15,7 @@ abbrev pub frame_seen : FrameOfCode → Frame
 frame_seen f = record { contract = f.contract; sender = f.sender; caller = f.caller; height = f.height }
 
 abbrev pub contract_seen : ContractOfCode → Contract
-contract_seen c = record { principal = c.principal; version = c.version; forms = c.forms.items; source_length = c.source_length; constants = c.constants.items }
+contract_seen c = record { principal = c.principal; version = c.version; forms = c.forms; source_length = c.source_length; constants = c.constants }
 
 abbrev pub some_contract : Option (Bor ContractOfCode) → Option Contract
 some_contract c = option_map contract_seen (option_copied c)
@@ -29,7 +29,7 @@ with_opening None W = W
 with_opening (Some c) W = contract_seen c.now ∷ W
 
 abbrev pub seen : ScopeOfCode → BoundValues → Scope
-seen S bound = record { deployed = with_opening S.opening (contracts_seen S.contracts.now); frame = frame_seen S.frame.now; bound = bound }
+seen S bound = record { deployed = with_opening S.opening (contracts_seen S.contracts.now.contracts); frame = frame_seen S.frame.now; bound = bound }
 
 abbrev pub function_seen : FunctionOfCode → Function
 function_seen f = record { name = f.name.now; access = f.access; params = f.params.now; body = f.body.now }

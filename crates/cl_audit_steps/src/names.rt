@@ -5,6 +5,7 @@ ghost use Rattle.cl_forms.specs.Keywords.{keyword_of};
 ghost use Rattle.cl_forms.specs.Names.{same};
 ghost use Rattle.cl_meaning.specs.Deployed.{value_of};
 
+use crate::named_values::NamedValues;
 use cl_forms::Keyword;
 use cl_types::Name;
 use cl_values::Val;
@@ -14,7 +15,7 @@ use std::marker::Model;
 #[derive(Drop)]
 pub struct Names<'a> {
     outer: Option<&'a Names<'a>>,
-    own: &'a [(Name, Val)],
+    own: &'a NamedValues,
 }
 
 impl<'a> Model for Names<'a> {
@@ -31,14 +32,14 @@ impl<'a> Model for Names<'a> {
 
 impl<'a> Names<'a> {
     /// The names of a scope with none outside.
-    pub fn alone(own: &'a [(Name, Val)]) -> Names<'a>
+    pub fn alone(own: &'a NamedValues) -> Names<'a>
         ensures { result.values ≡ own.now }
     {
         Names { outer: None, own }
     }
 
     /// The names of a scope within another.
-    pub fn within(outer: &'a Names<'a>, own: &'a [(Name, Val)]) -> Names<'a>
+    pub fn within(outer: &'a Names<'a>, own: &'a NamedValues) -> Names<'a>
         ensures { result.values ≡ outer.now.values ++ own.now }
     {
         Names {
@@ -53,32 +54,20 @@ impl<'a> Names<'a> {
     {
         match self.outer {
             Some(outer) => or_among(outer.find(name), self.own, name),
-            None => among(self.own, name),
+            None => self.own.find(name),
         }
     }
 }
 
 /// What was found, or else the first value of a name among these.
-fn or_among<'a>(found: Option<&'a Val>, own: &'a [(Name, Val)], name: &Name) -> Option<&'a Val>
+fn or_among<'a>(found: Option<&'a Val>, own: &'a NamedValues, name: &Name) -> Option<&'a Val>
     ensures { option_copied result ≡
         option_or (option_copied found.entry) (value_of name.now own.now) }
 {
     match found {
         Some(value) => Some(value),
-        None => among(own, name),
+        None => own.find(name),
     }
-}
-
-/// The first value of a name among these.
-pub(crate) fn among<'a>(pairs: &'a [(Name, Val)], name: &Name) -> Option<&'a Val>
-    ensures { option_copied result ≡ value_of name.now pairs.now }
-{
-    for pair in pairs {
-        if pair.0.bytes() == name.bytes() {
-            return Some(&pair.1);
-        }
-    }
-    None
 }
 
 /// Whether a name is a word.

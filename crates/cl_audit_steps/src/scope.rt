@@ -3,12 +3,14 @@ ghost use Rattle.std.specs.Prelude.{◌≡◌, ◌∷◌, [], option_and_then, o
 ghost use Rattle.cl_forms.specs.NativeRows.{row_seen};
 ghost use Rattle.cl_forms.specs.Shapes.{beside};
 ghost use Rattle.cl_meaning.specs.Calls.{callable, other_contract, target_of};
-ghost use Rattle.cl_meaning.specs.Deployed.{as_function, contract_at, constant_of, form_of, function_in, function_of, has_map, has_name, is_map, native_of, Function as Meant};
+ghost use Rattle.cl_meaning.specs.Deployed.{as_function, contract_at, constant_of, form_of, function_in, function_of, has_map, is_map, native_of, Function as Meant};
 ghost use Rattle.cl_meaning.specs.Scope.{home};
 ghost use Rattle.cl_meaning.specs.Sequences.{by_row, callee_of, own};
 ghost use Rattle.cl_audit_steps.specs.Seen.{contract_seen, contracts_seen, seen, some_callee, some_contract, some_function};
 
-use crate::names::among;
+use crate::forms::Forms;
+use crate::named_values::NamedValues;
+use crate::table::ContractTable;
 use cl_c32::{ContractName, Principal};
 use cl_costs::CostTable;
 use cl_forms::{Form, FormKind, NativeRow, Version, native};
@@ -36,11 +38,11 @@ pub struct Contract {
     pub principal: Principal,
     /// The version of its text.
     pub version: Version,
-    pub forms: Vec<Form>,
+    pub forms: Forms,
     /// The length of its text, in bytes.
     pub source_length: u32,
-    /// The values of its constants so far, by their names.
-    pub constants: Vec<(Name, Val)>,
+    /// The values of its constants so far.
+    pub constants: NamedValues,
 }
 
 impl Drop for Contract {
@@ -66,7 +68,7 @@ pub struct Scope<'a> {
     /// The contract that is being deployed, if one is.
     pub opening: Option<&'a Contract>,
     /// The deployed contracts.
-    pub contracts: &'a [Contract],
+    pub contracts: &'a ContractTable,
     pub frame: &'a Frame,
     pub costs: &'a CostTable,
 }
@@ -89,53 +91,19 @@ pub enum Callee<'a> {
     Native(NativeRow, Span),
 }
 
-/// The contract of a principal.
-fn contract_at<'a>(contracts: &'a [Contract], principal: &Principal) -> Option<&'a Contract>
-    ensures { some_contract result ≡ contract_at principal.now (contracts_seen contracts.now) }
-{
-    for contract in contracts {
-        if is_same(&contract.principal, principal) {
-            return Some(contract);
-        }
-    }
-    None
-}
-
 /// The contract of a principal among one and others.
 fn contract_with<'a>(
     opening: &'a Contract,
-    contracts: &'a [Contract],
+    contracts: &'a ContractTable,
     principal: &Principal,
 ) -> Option<&'a Contract>
-    ensures { some_contract result ≡
-        contract_at principal.now (contract_seen opening.now ∷ contracts_seen contracts.now) }
+    ensures { some_contract result ≡ contract_at principal.now
+        (contract_seen opening.now ∷ contracts_seen contracts.now.contracts) }
 {
     if is_same(&opening.principal, principal) {
         return Some(opening);
     }
-    contract_at(contracts, principal)
-}
-
-/// The form that defines a name.
-fn form_of<'a>(forms: &'a [Form], name: &Name) -> Option<&'a Form>
-    ensures { option_map (λ f. f.kind) (option_copied result) ≡ form_of name.now forms.now }
-{
-    for form in forms {
-        if is_named(form, name) {
-            return Some(form);
-        }
-    }
-    None
-}
-
-/// Whether a form defines a name.
-fn is_named(form: &Form, name: &Name) -> bool
-    ensures { result ≡ has_name name.now form.now.name }
-{
-    match &form.name {
-        Some(own) => own.bytes() == name.bytes(),
-        None => false,
-    }
+    contracts.find(principal)
 }
 
 /// The function that a form defines.
@@ -210,7 +178,7 @@ impl Contract {
     pub fn function<'a>(&'a self, name: &'a Name) -> Option<Function<'a>>
         ensures { some_function result ≡ function_in name.now (contract_seen self.now).forms }
     {
-        match form_of(&self.forms, name) {
+        match self.forms.find(name) {
             Some(form) => as_function(name, form),
             None => None,
         }
@@ -228,7 +196,7 @@ impl Contract {
     fn has_map(&self, name: &Name) -> bool
         ensures { result ≡ is_map (form_of name.now (contract_seen self.now).forms) }
     {
-        is_map(form_of(&self.forms, name))
+        is_map(self.forms.find(name))
     }
 }
 
@@ -239,7 +207,7 @@ impl<'a> Scope<'a> {
     {
         match self.opening {
             Some(opening) => contract_with(opening, self.contracts, principal),
-            None => contract_at(self.contracts, principal),
+            None => self.contracts.find(principal),
         }
     }
 
@@ -255,7 +223,7 @@ impl<'a> Scope<'a> {
         ensures { option_copied result ≡ constant_of name.now (home (seen self.now [])) }
     {
         match self.home() {
-            Some(contract) => among(&contract.constants, name),
+            Some(contract) => contract.constants.find(name),
             None => None,
         }
     }

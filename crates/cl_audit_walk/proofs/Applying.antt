@@ -1,7 +1,6 @@
 -- Names, frames, applications and bindings.
 use Rattle.std.proofs.Common.{◌≡◌, ◌≢◌, ℕ, zero, suc, ◌<◌, ◌≤◌, ◌+◌, ◌-◌, true, false, List, [], ◌∷◌, ◌++◌, length, get_or, drop, Option, Some, None, Result, Ok, Err, refl, sym, ap, ◌∙◌, subst, arith, append_assoc, length-drop}
 use Rattle.std.proofs.lemmas.List.{append-nil, drop_all}
-use Rattle.std.proofs.Common.{Vec, Global}
 use Rattle.cl_costs.specs.Tables.{function_of}
 use Rattle.cl_types.specs.Types.{PlainType}
 use Rattle.cl_types.specs.declared.sized.Access.{Access}
@@ -100,7 +99,7 @@ module _ (S : Scope) (params : List (List ℕ × PlainType)) (values : List Val)
   binds_unpaid i own p v c e start here mid few is within at charge pays leads body r x same handed =
       leads body r mid (so S _ _ here mid r (λ s. one_more i own p v body s few is within at ∙ binding_so c v charge (bound_to body (own ++ (p.0, v) ∷ []) (drop (i + 1) params) (drop (i + 1) values) s)) (unpaid S (Some c) _ e here mid r (x, same, handed) pays))
 
-  pub binds_not : (old new : Run) (r : Result (Vec (List ℕ × Val) Global) Stop) (e : Stop) → Handed r e → ((body : BoundValues → State → Answer Val) (q : Result Val Stop) (x : Stop) → q ≡ Err x → x ≡ e → Evaluates S (bound_to body [] params values) old q new) → IsBound S params values old r new
+  pub binds_not : (old new : Run) (r : Result BoundValues Stop) (e : Stop) → Handed r e → ((body : BoundValues → State → Answer Val) (q : Result Val Stop) (x : Stop) → q ≡ Err x → x ≡ e → Evaluates S (bound_to body [] params values) old q new) → IsBound S params values old r new
   binds_not old new r e h f = subst (λ q. IsBound S params values old q new) (sym h.1) (λ body q x same handed. f body q x same (handed ∙ h.2))
 
   -- for want of memory

@@ -3,7 +3,7 @@ ghost use Rattle.std.specs.Prelude.{◌≡◌, ◌<◌, length, true, Some, Ok};
 ghost use Rattle.cl_audit_walk.specs.Calls.{IsBound, Closes, is_public, response_of, returned_result};
 
 use crate::run::{Run, pay};
-use cl_audit_steps::{Charge, Scope};
+use cl_audit_steps::{Charge, NamedValues, Scope};
 use cl_shapes::CostName;
 use cl_state::World;
 use cl_types::{Access, Name, SizedTy};
@@ -16,11 +16,11 @@ pub(crate) fn bind(
     scope: &Scope,
     params: &[(Name, SizedTy)],
     values: &[Val],
-) -> Result<Vec<(Name, Val)>, Stop>
+) -> Result<NamedValues, Stop>
     ensures bound { IsBound scope.now params.now values.now run.old result run.new }
     ensures world { run.new.world.stack ≡ run.old.world.stack }
 {
-    let mut own = Vec::new(scope.alloc);
+    let mut own = NamedValues::new(scope.alloc, scope.contracts.hash_key());
     for place in 0..values.len() {
         let value = &values[place];
         if place >= params.len() {
@@ -28,7 +28,7 @@ pub(crate) fn bind(
         }
         let param = &params[place];
         pay(run, scope, Some(Charge::of(CostName::Bind, value)))?;
-        own.push((param.0, value.copy(scope.alloc)?))?;
+        own.push(param.0, value.copy(scope.alloc)?)?;
     }
     if values.len() < params.len() {
         return Err(Stop::Stuck);

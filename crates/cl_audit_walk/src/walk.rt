@@ -16,9 +16,9 @@ ghost use Rattle.cl_audit_walk.specs.Turns.{in_turn, field_taken, results_of};
 use crate::calls::{bind, close, is_public, take_early_return};
 use crate::run::{Run, computed_value, pay};
 use cl_audit_steps::{
-    Callee, Chain, Charge, End, Frame, Function, Last, Link, Names, OnAct, OnActs, OnRead, Part,
-    Scope, Start, binding, first_step, last, link, link_end, on_act, on_acts, on_all, on_name,
-    on_one, on_read, on_tuple,
+    Callee, Chain, Charge, End, Frame, Function, Last, Link, NamedValues, Names, OnAct, OnActs,
+    OnRead, Part, Scope, Start, binding, first_step, last, link, link_end, on_act, on_acts, on_all,
+    on_name, on_one, on_read, on_tuple,
 };
 use cl_c32::Principal;
 use cl_forms::NativeRow;
@@ -207,7 +207,8 @@ fn with(
         (around scope.now names.now)) item.now)
         run.old result run.new }
 {
-    let own = [(*bound.0, bound.1)];
+    let mut own = NamedValues::new(scope.alloc, scope.contracts.hash_key());
+    own.push(*bound.0, bound.1)?;
     within(run, scope, names, &own, item, below)
 }
 
@@ -269,7 +270,7 @@ fn body(
     run: &mut Run,
     scope: &Scope,
     function: &Function,
-    own: &[(Name, Val)],
+    own: &NamedValues,
     below: u32,
 ) -> Result<Val, Stop>
     ensures { (outer : BoundValues) → Evaluates scope.now
@@ -300,16 +301,16 @@ fn let_in(
         (let_in (means below) body.now (around scope.now names.now) bindings.now)
         run.old result run.new }
 {
-    let mut own = Vec::new(scope.alloc);
+    let mut own = NamedValues::new(scope.alloc, scope.contracts.hash_key());
     for item in bindings {
         let Some((name, part)) = binding(item) else {
             return Err(Stop::Stuck);
         };
         let value = within(run, scope, names, &own, part, below)?;
         pay(run, scope, Some(Charge::of(CostName::Bind, &value)))?;
-        own.push((*name, value))?;
+        own.push(*name, value)?;
     }
-    let inner = Names::within(&*names, &*own);
+    let inner = Names::within(&*names, &own);
     let values = take_all(run, scope, &inner, body, below)?;
     end_as(run, scope, &inner, last(values), below)
 }
@@ -320,7 +321,7 @@ fn within(
     run: &mut Run,
     scope: &Scope,
     names: &Names,
-    own: &[(Name, Val)],
+    own: &NamedValues,
     item: &Sexpr,
     below: u32,
 ) -> Result<Val, Stop>
@@ -464,7 +465,7 @@ fn by_name(
     if depth == 0 {
         return Err(Stop::Stuck);
     }
-    let own = [];
+    let own = NamedValues::new(scope.alloc, scope.contracts.hash_key());
     let names = Names::alone(&own);
     let value = end(run, scope, &names, on_name(row, values)?, depth - 1)?;
     run.cursor.look(span, &value);

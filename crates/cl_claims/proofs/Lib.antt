@@ -1,3 +1,4 @@
 pub mod Splitting
 pub mod LineParts
 pub mod Lined
+pub mod Parsing

@@ -1,7 +1,7 @@
 -- Which bytes the parts of a line have, and what they spell.
-use Rattle.std.proofs.Common.{◌≡◌, ℕ, zero, suc, ◌+◌, ◌/◌, ◌%◌, ◌<◌, ◌^◌, ◌==◌, ◌&&◌, Bool, true, false, not, List, [], ◌∷◌, ◌++◌, length, Some, None, Ok, Err, refl, sym, ap, subst, ◌∙◌, arith, Fits, w8, get_or}
+use Rattle.std.proofs.Common.{◌≡◌, ℕ, zero, suc, ◌/◌, ◌%◌, ◌<◌, ◌^◌, ◌==◌, ◌&&◌, Bool, true, false, not, List, [], ◌∷◌, ◌++◌, length, Some, None, Ok, Err, refl, sym, ap, ◌∙◌, arith, Fits, w8, get_or}
 use Rattle.std.proofs.Math.Facts.{Fits-lt-pow}
-use Rattle.std.specs.Prelude.{Result, codes, decimal, slice_index}
+use Rattle.std.specs.Prelude.{codes, decimal, slice_index}
 use Rattle.std.specs.Result.{result_ok}
 use Rattle.std.specs.List.{All, list_all}
 use Rattle.std.proofs.lemmas.Bool.{and_parts}
@@ -73,10 +73,6 @@ claim_free entry at v small is =
 
 -- ---- numbers
 
-pub all_digits : (text : List ℕ) → are_digits text ≡ true → list_all is_digit text ≡ true
-all_digits [] h = absurd cc
-all_digits (c ∷ cs) h = h
-
 digits_are : (text : List ℕ) → 0 < length text → list_all is_digit text ≡ true → are_digits text ≡ true
 digits_are [] some h = absurd (omega (arith, some))
 digits_are (c ∷ cs) some h = h
@@ -128,21 +124,6 @@ no_end text digits behind cut none at is text_is = none at.end is.end (span_part
 
 pub span_so : (text digits behind : List ℕ) (at : Span) → split_at 46 text ≡ Some (digits, behind) → decimal at.start ≡ digits → 46 ∷ decimal at.end ≡ behind → span_text at ≡ text
 span_so text digits behind at cut start end = (λ i. start i ++ 46 ∷ end i) ∙ sym (split_parts 46 text digits behind cut)
-
-pub no_digits : (text : List ℕ) → text ≡ [] → IsNoEnd text
-no_digits text none n small is =
-    let e : [] ≡ 46 ∷ decimal n = sym none ∙ is in
-    absurd cc
-
-pub no_dot_first : (text digits : List ℕ) (first : ℕ) → text ≡ first ∷ digits → (first ≡ 46 → ⊥) → IsNoEnd text
-no_dot_first text digits first text_is other n small is =
-    let e : first ∷ digits ≡ 46 ∷ decimal n = sym text_is ∙ is in
-    other cc
-
-pub no_number_behind : (text digits : List ℕ) (first : ℕ) → text ≡ first ∷ digits → IsNoNumber digits → IsNoEnd text
-no_number_behind text digits first text_is none n small is =
-    let e : first ∷ digits ≡ 46 ∷ decimal n = sym text_is ∙ is in
-    none n small cc
 
 -- ---- wire forms
 

@@ -1,5 +1,5 @@
 -- Lines one after another.
-use Rattle.std.proofs.Common.{◌≡◌, ℕ, ◌<◌, ◌≤◌, ◌^◌, List, [], ◌∷◌, ◌++◌, length, Some, None, refl, sym, ap, subst, ◌∙◌, append_assoc, arith}
+use Rattle.std.proofs.Common.{◌≡◌, ℕ, ◌<◌, ◌≤◌, ◌^◌, List, [], ◌∷◌, ◌++◌, Some, None, refl, sym, ap, subst, ◌∙◌, append_assoc, arith}
 use Rattle.std.specs.Prelude.{decimal}
 use Rattle.std.specs.List.{flat_map}
 use Rattle.std.proofs.lemmas.List.{flat_map_more}
@@ -8,7 +8,6 @@ use Rattle.hex.specs.Hex.{encode_lower}
 use Rattle.cl_values.specs.Wire.{wire}
 use Rattle.cl_sexpr.specs.declared.sexpr.Span.{Span}
 use Rattle.cl_values.specs.Tree.{Tree}
-use Rattle.cl_values.specs.Valid.{IsVal}
 use Rattle.cl_claims.specs.declared.spelled.ClaimLine.{ClaimLine}
 use Rattle.cl_claims.specs.Files.{IsBadHere, Rise, last_entry}
 use Rattle.cl_claims.specs.Lines.{claim_line, claim_text, line_text, span_text}

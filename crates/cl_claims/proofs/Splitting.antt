@@ -1,5 +1,5 @@
 -- Texts cut at the first byte of a kind.
-use Rattle.std.proofs.Common.{◌≡◌, ℕ, ◌+◌, ◌<◌, ◌==◌, ◌&&◌, Bool, true, false, cond, not, List, [], ◌∷◌, ◌++◌, length, take, drop, Option, Some, None, refl, sym, ap, subst, ◌∙◌, arith, eq-eqb, eqb-true}
+use Rattle.std.proofs.Common.{◌≡◌, ℕ, ◌+◌, ◌==◌, Bool, true, false, cond, not, List, [], ◌∷◌, ◌++◌, length, take, drop, Option, Some, None, refl, sym, ap, ◌∙◌, arith, eq-eqb, eqb-true}
 use Rattle.std.specs.Prelude.{position}
 use Rattle.std.specs.List.{list_all, position_from}
 use Rattle.std.proofs.Math.Seq.{take-append_seam, drop-append-add}

@@ -5,6 +5,6 @@ mod reading;
 mod spelled;
 mod writing;
 
-pub use reading::{BadLine, read_claims};
+pub use reading::{BadLine, next_line};
 pub use spelled::ClaimLine;
 pub use writing::write_claim;

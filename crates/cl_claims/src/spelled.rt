@@ -1,8 +1,11 @@
 //! The parts of a line.
 ghost use Rattle.std.specs.Prelude.{◌≡◌, ◌<◌, ◌==◌, ◌↔◌, ◌∷◌, IsTrue, None, length, position, option_map, IfOk, IfSome, decimal};
+ghost use Rattle.std.specs.Result.{result_ok};
 ghost use Rattle.hex.specs.Hex.{encode_lower};
+ghost use Rattle.cl_values.specs.Reading.{decoded};
 ghost use Rattle.cl_values.specs.Wire.{wire};
 ghost use Rattle.cl_claims.specs.Lines.{span_text, claim_text, line_text};
+ghost use Rattle.cl_claims.specs.Parsed.{claim_in, end_in, number_in, span_in, value_in};
 ghost use Rattle.cl_claims.specs.Parts.{IsNoClaim, IsNoEnd, IsNoNumber, IsNoSpan, IsNoValue, IsNoWire, hex_bytes, split_at, split_seen};
 
 use cl_codec::decode;
@@ -41,6 +44,7 @@ pub(crate) fn split_at<'a>(text: &'a [u8], mark: u8) -> Option<(&'a [u8], &'a [u
 
 /// The number that digits without leading zeros spell, where it has 32 bits.
 fn number_in(digits: &[u8]) -> Option<u32>
+    ensures parsed { result ≡ number_in digits.now }
     ensures some { IfSome result (λ n. decimal n ≡ digits.now) }
     ensures none { result ≡ None → IsNoNumber digits.now }
 {
@@ -62,6 +66,7 @@ fn number_in(digits: &[u8]) -> Option<u32>
 
 /// The number behind the dot that a text begins with.
 fn end_in(text: &[u8]) -> Option<u32>
+    ensures parsed { result ≡ end_in text.now }
     ensures some { IfSome result (λ n. 46 ∷ decimal n ≡ text.now) }
     ensures none { result ≡ None → IsNoEnd text.now }
 {
@@ -74,6 +79,7 @@ fn end_in(text: &[u8]) -> Option<u32>
 
 /// The span that a text spells.
 fn span_in(text: &[u8]) -> Option<Span>
+    ensures parsed { result ≡ span_in text.now }
     ensures some { IfSome result (λ at. span_text at ≡ text.now) }
     ensures none { result ≡ None → IsNoSpan text.now }
 {
@@ -105,6 +111,7 @@ fn decode_hex(alloc: Global, digits: &[u8]) -> Result<Option<Vec<u8>>, NoMemory>
 
 /// The value with this wire form.
 fn value_with(alloc: Global, bytes: &[u8]) -> Result<Option<Val>, NoMemory>
+    ensures parsed { IfOk result (λ found. found ≡ result_ok (decoded bytes.now)) }
     ensures some { IfOk result (λ found. IfSome found (λ v. wire v ≡ bytes.now)) }
     ensures none { IfOk result (λ found. found ≡ None → IsNoWire bytes.now) }
 {
@@ -119,6 +126,7 @@ fn value_with(alloc: Global, bytes: &[u8]) -> Result<Option<Val>, NoMemory>
 
 /// The value whose wire form digits in lower case spell.
 fn value_in(alloc: Global, digits: &[u8]) -> Result<Option<Val>, NoMemory>
+    ensures parsed { IfOk result (λ found. found ≡ value_in digits.now) }
     ensures some { IfOk result
         (λ found. IfSome found (λ v. encode_lower (wire v) ≡ digits.now)) }
     ensures none { IfOk result (λ found. found ≡ None → IsNoValue digits.now) }
@@ -137,6 +145,7 @@ fn value_in(alloc: Global, digits: &[u8]) -> Result<Option<Val>, NoMemory>
 
 /// The claim that a line spells, which stands here without its line feed.
 pub(crate) fn claim_in(alloc: Global, line: &[u8]) -> Result<Option<ClaimLine>, NoMemory>
+    ensures parsed { IfOk result (λ found. found ≡ claim_in line.now) }
     ensures some { IfOk result (λ found. IfSome found
         (λ c. claim_text c.entry c.span c.value ≡ line.now)) }
     ensures none { IfOk result (λ found. found ≡ None → IsNoClaim line.now) }

@@ -1,21 +1,17 @@
 -- Each entry has a trace, and each file a script.
-use Rattle.std.proofs.Common.{◌≡◌, List, [], ◌∷◌, Some, refl, sym, subst, Ok}
-use Rattle.cl_shapes.specs.declared.function.CostFn.{CostFn}
+use Rattle.std.proofs.Common.{◌≡◌, List, [], ◌∷◌, refl, sym, subst, Ok}
 use Rattle.cl_costs.specs.Schedules.{ScheduleSeen}
 use Rattle.cl_forms.specs.Texts.{text_of}
 use Rattle.cl_meaning.specs.Deploying.{deployment}
 use Rattle.cl_meaning.specs.Limits.{Costs}
-use Rattle.cl_rules.specs.Acceptance.{Accepted}
 use Rattle.cl_frames.specs.Watching.{trace}
-use Rattle.cl_file.specs.declared.entry.Common.{Common}
 use Rattle.cl_file.specs.declared.entry.Entry.{Entry}
 use Rattle.cl_file.specs.declared.entry.Entry.TheVariants.{Deploy, Call, Block}
-use Rattle.cl_file.specs.Files.{FileSeen}
 use Rattle.cl_tx.specs.declared.outcome.Outcome.{Outcome}
 use Rattle.cl_tx.specs.declared.outcome.Outcome.TheVariants.{Moved, Done, Good, Bad, Plain, Aborted, Refused}
 use Rattle.cl_tx.specs.declared.outcome.TxResult.{TxResult}
 use Rattle.cl_tx.specs.Nodes.{NodeSeen, Stepped, contract_of, frame_of, purse_of}
-use Rattle.cl_tx.specs.Step.{AllStep, DeploySteps, name_taken, source_refused, evaluated, Steps, contract_with, costs_for, first_node, schedule_of}
+use Rattle.cl_tx.specs.Step.{AllStep, name_taken, source_refused, evaluated, Steps, contract_with, costs_for, first_node, schedule_of}
 use Rattle.cl_results.specs.Laws.{EachRuns}
 use Rattle.cl_engine.specs.Traces.{Trace, IsRunTrace, IsTrace}
 use Rattle.cl_entries.specs.declared.status.Status.TheVariants.{Done as DoneStatus}

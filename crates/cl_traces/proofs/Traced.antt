@@ -1,45 +1,22 @@
 -- The traces of entries one after another.
-use Rattle.std.proofs.Common.{◌≡◌, ℕ, zero, suc, ◌+◌, List, [], ◌∷◌, ◌++◌, length, take, Some, refl, sym, ap, subst, ◌∙◌, arith}
+use Rattle.std.proofs.Common.{◌≡◌, ℕ, zero, suc, ◌+◌, List, [], ◌∷◌, ◌++◌, length, take, refl, sym, ap, subst, ◌∙◌, arith}
 use Rattle.cl_costs.specs.Schedules.{ScheduleSeen}
-use Rattle.cl_forms.specs.Forms.{Form}
-use Rattle.cl_forms.specs.Texts.{text_of}
-use Rattle.cl_meaning.specs.Deploying.{deployment}
-use Rattle.cl_meaning.specs.Limits.{Costs}
 use Rattle.cl_rules.specs.Laws.{OneOrder}
 use Rattle.cl_frames.specs.Watching.{trace}
 use Rattle.cl_file.specs.declared.entry.Entry.{Entry}
-use Rattle.cl_file.specs.declared.entry.Entry.TheVariants.{Deploy, Call, Block}
-use Rattle.cl_tx.specs.declared.outcome.Outcome.{Outcome}
-use Rattle.cl_tx.specs.declared.outcome.Outcome.TheVariants.{Moved, Done, Good, Bad, Plain, Aborted, Refused}
 use Rattle.cl_tx.specs.declared.outcome.TxResult.{TxResult}
 use Rattle.cl_tx.specs.Laws.{OneStep}
-use Rattle.cl_tx.specs.Nodes.{NodeSeen, Stepped, contract_of, frame_of, purse_of}
-use Rattle.cl_tx.specs.Step.{AllStep, Steps, contract_with, costs_for}
-use Rattle.cl_engine.specs.Traces.{Trace, IsRunTrace, IsTrace}
+use Rattle.cl_tx.specs.Nodes.{NodeSeen, Stepped}
+use Rattle.cl_tx.specs.Step.{AllStep, Steps, costs_for}
+use Rattle.cl_nodes.proofs.Tracing as nodes
+use Rattle.cl_engine.specs.Traces.{Trace, IsTrace, shown}
 use Rattle.cl_entries.specs.declared.status.Step.{Step}
 use Rattle.cl_traces.specs.Traces.{AllTraced, OneTrace, trace_step, trace_steps}
 
 -- ---- one trace
 
-run_same : OneOrder → (costs : Costs) (node : NodeSeen) (entry : Entry) (a b : Trace) → IsRunTrace costs node entry a → IsRunTrace costs node entry b → a ≡ b
-run_same order costs node (Deploy common name source version) a b p q =
-    let text = text_of source version in
-    let principal = contract_of common.sender name in
-    p.is
-    ∙ ap (λ (forms : List Form). trace costs (purse_of common) (deployment node.contracts (frame_of node common.sender principal) (contract_with principal text forms) node.state))
-    (order text p.accepted.forms q.accepted.forms p.accepted.order q.accepted.order p.accepted.typed.is_ordered q.accepted.typed.is_ordered).0
-    ∙ sym q.is
-run_same order costs node (Call common contract function args) a b p q = p ∙ sym q
-run_same order costs node (Block height) a b p q = p ∙ sym q
-
 pub one_trace : OneOrder → OneTrace
-one_trace order costs node entry Moved a b p q = p ∙ sym q
-one_trace order costs node entry Done a b p q = run_same order costs node entry a b p q
-one_trace order costs node entry (Good v) a b p q = run_same order costs node entry a b p q
-one_trace order costs node entry (Bad v) a b p q = run_same order costs node entry a b p q
-one_trace order costs node entry (Plain v) a b p q = run_same order costs node entry a b p q
-one_trace order costs node entry (Aborted why) a b p q = run_same order costs node entry a b p q
-one_trace order costs node entry (Refused why) a b p q = p ∙ sym q
+one_trace order costs node entry outcome a b p q = nodes.one_trace shown order costs node entry outcome a b p q
 
 -- ---- one after another
 

@@ -1,5 +1,5 @@
 -- The steps of a file's traces while they are done.
-use Rattle.std.proofs.Common.{◌≡◌, Fits, w64, ℕ, zero, suc, ◌+◌, ◌-◌, ◌<◌, ◌≤◌, List, [], ◌∷◌, ◌++◌, length, take, get_or, map, Some, Ok, refl, sym, ap, subst, ◌∙◌, length-take, arith}
+use Rattle.std.proofs.Common.{◌≡◌, Fits, w64, ℕ, zero, suc, ◌+◌, ◌-◌, ◌<◌, ◌≤◌, List, [], ◌∷◌, ◌++◌, length, take, get_or, Some, Ok, refl, sym, ap, subst, ◌∙◌, length-take, arith}
 use Rattle.std.proofs.lemmas.List.{take_all, take_more}
 use Rattle.std.specs.List.{All}
 use Rattle.std.proofs.lemmas.List.Elements.{All-nil, All-push}
@@ -15,16 +15,16 @@ use Rattle.cl_tx.specs.declared.outcome.TxResult.{TxResult}
 use Rattle.cl_tx.specs.Nodes.{NodeSeen, Stepped}
 use Rattle.cl_tx.specs.Step.{Steps, costs_for, first_node, schedule_of}
 use Rattle.cl_node_sound.specs.Sound.{HasParts}
-use Rattle.cl_engine.specs.Seen.{Seen}
-use Rattle.cl_engine.specs.Laws.{OneNode}
-use Rattle.cl_engine.specs.Steps.{Makes}
+use Rattle.cl_nodes.specs.Seen.{Seen}
+use Rattle.cl_nodes.specs.Laws.{OneNode}
+use Rattle.cl_nodes.specs.Steps.{Makes}
 use Rattle.cl_engine.specs.Traces.{Trace, IsTrace, SeesTrace}
 use Rattle.cl_entries.specs.declared.status.Step.{Step}
 use Rattle.cl_entries.specs.declared.status.Status.TheVariants.{Done}
-use Rattle.cl_entries.specs.Entries.{HasPartsAt, IsFirst, Reaches}
+use Rattle.cl_entries.specs.Entries.{HasPartsAt, IsFirst}
 use Rattle.cl_entries.specs.Scripts.{Script}
 use Rattle.cl_entries.proofs.Reached.{may_follow}
-use Rattle.cl_traces.specs.Traces.{AllTraced, HasTrace, IsSomeTracing, IsTraceScript, IsTraceStep, IsTraceStepAt, IsTracing, OneTrace, ReachesTraced, Tracing, left_of, trace_step, trace_steps}
+use Rattle.cl_traces.specs.Traces.{AllTraced, HasTrace, IsSomeTracing, IsTraceScript, IsTraceStepAt, IsTracing, OneTrace, ReachesTraced, Tracing, left_of, trace_step, trace_steps}
 use Rattle.cl_traces.proofs.Traced.{all_same, all_step, all_then, each_trace, front_same, steps_front, steps_then}
 
 abbrev Holders : Type 0

@@ -13,9 +13,9 @@ use Rattle.cl_tx.specs.declared.outcome.TxResult.{TxResult}
 use Rattle.cl_tx.specs.Nodes.{NodeSeen, Stepped}
 use Rattle.cl_tx.specs.Step.{Steps, costs_for, first_node, schedule_of}
 use Rattle.cl_node_sound.specs.Sound.{HasParts, FileHasParts}
-use Rattle.cl_engine.specs.Seen.{Seen}
-use Rattle.cl_engine.specs.Known.{IsNodeOf}
-use Rattle.cl_engine.specs.Steps.{Makes}
+use Rattle.cl_nodes.specs.Seen.{Seen}
+use Rattle.cl_nodes.specs.Known.{IsNodeOf}
+use Rattle.cl_nodes.specs.Steps.{Makes}
 use Rattle.cl_engine.specs.Traces.{Trace, IsTrace}
 use Rattle.cl_entries.specs.declared.status.Status.TheVariants.{Done}
 use Rattle.cl_entries.specs.declared.status.Step.{Step}

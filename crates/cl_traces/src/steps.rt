@@ -45,8 +45,8 @@ impl Model for TraceSteps {
     ghost use Rattle.std.specs.Coded.{code_by, coded_ℕ, coded×};
     ghost use Rattle.cl_costs.specs.Schedules.{ScheduleSeen};
     ghost use Rattle.cl_costs.specs.contracts.schedule.Schedule as schedule;
-    ghost use Rattle.cl_engine.specs.Codes.{seen_code};
-    ghost use Rattle.cl_engine.specs.Seen.{Seen};
+    ghost use Rattle.cl_nodes.specs.Codes.{seen_code};
+    ghost use Rattle.cl_nodes.specs.Seen.{Seen};
     ghost use Rattle.cl_file.specs.Files.{FileSeen};
     ghost use Rattle.cl_file.specs.contracts.tx_file.TxFile as tx_file;
     ghost use Rattle.cl_traces.specs.Traces.{Tracing};

@@ -20,7 +20,7 @@ loop-place-preserved c =
     let few : c.loop-place.place < length c.args.params.now = omega arith in
     let here : c.loop-place.place < length c.args.values.now = omega arith in
     record {
-      leads = binds_turn c.args.scope.now c.args.params.now c.args.values.now _ _ _ _ _ _ _ _ _ _ few c.index-params-place.is here c.index-values-place.is c.of.ensures (c.in_ok-push.ensures.items ∙ ap (λ v. c.loop-place.own.items ++ (c.index-params-place.result.0, v) ∷ []) c.in_ok-copy.ensures) c.in_ok-pay.ensures c.loop-place.invariant.leads;
+      leads = binds_turn c.args.scope.now c.args.params.now c.args.values.now _ _ _ _ _ _ _ _ _ _ few c.index-params-place.is here c.index-values-place.is c.of.ensures (c.in_ok-push.ensures.added ∙ ap (λ v. c.loop-place.own ++ (c.index-params-place.result.0, v) ∷ []) c.in_ok-copy.ensures) c.in_ok-pay.ensures c.loop-place.invariant.leads;
       world = c.in_ok-pay.ensures.world ∙ c.loop-place.invariant.world;
     }
 

@@ -1,5 +1,5 @@
 -- The walk: each function is put together as its answer is, by the rules of proofs/Rules.antt.
-use Rattle.std.proofs.Common.{◌<◌, ◌-◌, ◌++◌, length, option_map, refl, sym, ap, ◌∙◌, arith}
+use Rattle.std.proofs.Common.{◌<◌, ◌-◌, ◌++◌, ◌∷◌, [], length, option_map, refl, sym, ap, ◌∙◌, arith}
 use Rattle.std.proofs.lemmas.List.{drop_all}
 use Rattle.std.proofs.lemmas.Result.{err_from_is_err_and}
 use Rattle.cl_values.proofs.Lists.{next_part}
@@ -122,7 +122,10 @@ pub end_as-returns-in-Enter : goal.end_as-returns-in-Enter
 end_as-returns-in-Enter t c = at_last c.args.scope.now (means c.args.below) (applied c.args.below) (seen c.args.scope.now c.args.names.now.values) _ _ _ _ _ c.in-Enter.is (at_values c.args.scope.now _ _ _ _ _ _ _ _ c.deref.ensures.value (c.enter.ensures c.args.names.now.values))
 
 pub with-returns : goal.with-returns
-with-returns t c = c.within.ensures
+with-returns t c = at_names c.args.scope.now c.args.below _ _ _ _ _ _ (ap (λ o. c.args.names.now.values ++ o) (c.in_ok-push.ensures.added ∙ ap (λ o. o ++ (c.args.bound.0.now, c.args.bound.1) ∷ []) c.new-own.ensures)) c.within.ensures
+
+pub with-returns-in_err-push : goal.with-returns-in_err-push
+with-returns-in_err-push t c = forgets c.args.scope.now _ _ _ _ (err_from_is_err_and c.from_residual.result c.from_residual.ensures.1) refl
 
 pub within-returns : goal.within-returns
 within-returns t c = at_names c.args.scope.now c.args.below _ _ _ _ _ _ c.within-inner.ensures c.take.ensures
@@ -144,7 +147,7 @@ enter-returns-in_err-own t c outer = let h = (err_from_is_err_and c.from_residua
     so c.args.scope.now _ _ _ _ _ (λ s. entered c.args.scope.now c.args.depth (seen c.args.scope.now outer) (function_seen c.args.function.now) c.args.values.now _ _ s c.if-depth-eq0.false c.in_ok-charge.ensures refl) (paid c.args.scope.now _ _ _ _ _ _ _ c.in_ok-pay.ensures (c.in_err-own.ensures.bound _ _ h.0 h.1 h.2))
 
 pub enter-returns : goal.enter-returns
-enter-returns t c outer = so c.args.scope.now _ _ _ _ _ (λ s. entered c.args.scope.now c.args.depth (seen c.args.scope.now outer) (function_seen c.args.function.now) c.args.values.now _ _ s c.if-depth-eq0.false c.in_ok-charge.ensures refl) (paid c.args.scope.now _ _ _ _ _ _ _ c.in_ok-pay.ensures (c.in_ok-own.ensures.bound _ _ _ (at_bound c.args.scope.now (means (c.args.depth - 1)) (seen c.args.scope.now outer) (function_seen c.args.function.now) _ _ _ _ _ c.deref.ensures.value (c.body.ensures outer))))
+enter-returns t c outer = so c.args.scope.now _ _ _ _ _ (λ s. entered c.args.scope.now c.args.depth (seen c.args.scope.now outer) (function_seen c.args.function.now) c.args.values.now _ _ s c.if-depth-eq0.false c.in_ok-charge.ensures refl) (paid c.args.scope.now _ _ _ _ _ _ _ c.in_ok-pay.ensures (c.in_ok-own.ensures.bound _ _ _ (at_bound c.args.scope.now (means (c.args.depth - 1)) (seen c.args.scope.now outer) (function_seen c.args.function.now) _ _ _ _ _ refl (c.body.ensures outer))))
 
 pub body-returns-else-is_public : goal.body-returns-else-is_public
 body-returns-else-is_public t c outer = other_ends c.args.scope.now c.args.function.now.access (means c.args.below (seen c.args.scope.now c.args.own.now) c.args.function.now.body.now) _ _ _ _ (sym c.is_public.ensures ∙ c.if-is_public.false) c.take_early_return-else-is_public.ensures (at_names c.args.scope.now c.args.below _ _ _ _ _ _ c.alone-names.ensures c.take.ensures)
@@ -156,7 +159,7 @@ pub body-returns-in_ok-push_layer : goal.body-returns-in_ok-push_layer
 body-returns-in_ok-push_layer t c outer = public_ends c.args.scope.now (means c.args.below (seen c.args.scope.now c.args.own.now) c.args.function.now.body.now) _ _ _ _ refl c.in_ok-push_layer.ensures.done refl c.args.function.now.access _ _ _ (sym c.is_public.ensures ∙ c.if-is_public.true) c.take_early_return.ensures (at_names c.args.scope.now c.args.below _ _ _ _ _ _ c.alone-names.ensures c.take-answer.ensures) c.close.ensures
 
 pub let_in-loop-item-init : goal.let_in-loop-item-init
-let_in-loop-item-init t c = lets_first c.args.scope.now (means c.args.below) (seen c.args.scope.now c.args.names.now.values) c.args.body.now _ _ _ c.new-own.ensures.items
+let_in-loop-item-init t c = lets_first c.args.scope.now (means c.args.below) (seen c.args.scope.now c.args.names.now.values) c.args.body.now _ _ _ c.new-own.ensures
 
 pub let_in-returns-in_default : goal.let_in-returns-in_default
 let_in-returns-in_default t c = let here : c.loop-item.item-index < length c.args.bindings.now = c.loop-item-test.true in
@@ -164,21 +167,21 @@ let_in-returns-in_default t c = let here : c.loop-item.item-index < length c.arg
 
 pub let_in-returns-in_err-value : goal.let_in-returns-in_err-value
 let_in-returns-in_err-value t c = let here : c.loop-item.item-index < length c.args.bindings.now = c.loop-item-test.true in
-    let_stopped c.args.scope.now (means c.args.below) (seen c.args.scope.now c.args.names.now.values) c.args.body.now _ _ _ _ _ _ _ _ _ _ _ here c.item-item.is c.in-Some.ensures (err_from_is_err_and c.from_residual.result c.from_residual.ensures.1) c.loop-item.invariant (at_names c.args.scope.now c.args.below _ _ _ _ _ _ (ap (λ o. c.args.names.now.values ++ o) c.deref.ensures.value) c.in_err-value.ensures)
+    let_stopped c.args.scope.now (means c.args.below) (seen c.args.scope.now c.args.names.now.values) c.args.body.now _ _ _ _ _ _ _ _ _ _ _ here c.item-item.is c.in-Some.ensures (err_from_is_err_and c.from_residual.result c.from_residual.ensures.1) c.loop-item.invariant (at_names c.args.scope.now c.args.below _ _ _ _ _ _ refl c.in_err-value.ensures)
 
 pub let_in-returns-in_err-pay : goal.let_in-returns-in_err-pay
 let_in-returns-in_err-pay t c = let here : c.loop-item.item-index < length c.args.bindings.now = c.loop-item-test.true in
-    let_unpaid c.args.scope.now (means c.args.below) (seen c.args.scope.now c.args.names.now.values) c.args.body.now _ _ _ _ _ _ _ _ _ _ _ _ _ _ here c.item-item.is c.in-Some.ensures c.of.ensures (err_from_is_err_and c.from_residual-in_err-pay.result c.from_residual-in_err-pay.ensures.1) c.loop-item.invariant (at_names c.args.scope.now c.args.below _ _ _ _ _ _ (ap (λ o. c.args.names.now.values ++ o) c.deref.ensures.value) c.in_ok-value.ensures) c.in_err-pay.ensures
+    let_unpaid c.args.scope.now (means c.args.below) (seen c.args.scope.now c.args.names.now.values) c.args.body.now _ _ _ _ _ _ _ _ _ _ _ _ _ _ here c.item-item.is c.in-Some.ensures c.of.ensures (err_from_is_err_and c.from_residual-in_err-pay.result c.from_residual-in_err-pay.ensures.1) c.loop-item.invariant (at_names c.args.scope.now c.args.below _ _ _ _ _ _ refl c.in_ok-value.ensures) c.in_err-pay.ensures
 
 pub let_in-loop-item-preserved : goal.let_in-loop-item-preserved
 let_in-loop-item-preserved t c = let here : c.loop-item.item-index < length c.args.bindings.now = c.loop-item-test.true in
-    let_turn c.args.scope.now (means c.args.below) (seen c.args.scope.now c.args.names.now.values) c.args.body.now _ _ _ _ _ _ _ _ _ _ _ _ _ _ here c.item-item.is c.in-Some.ensures c.of.ensures c.in_ok-push.ensures.items c.loop-item.invariant (at_names c.args.scope.now c.args.below _ _ _ _ _ _ (ap (λ o. c.args.names.now.values ++ o) c.deref.ensures.value) c.in_ok-value.ensures) c.in_ok-pay.ensures
+    let_turn c.args.scope.now (means c.args.below) (seen c.args.scope.now c.args.names.now.values) c.args.body.now _ _ _ _ _ _ _ _ _ _ _ _ _ _ here c.item-item.is c.in-Some.ensures c.of.ensures c.in_ok-push.ensures.added c.loop-item.invariant (at_names c.args.scope.now c.args.below _ _ _ _ _ _ refl c.in_ok-value.ensures) c.in_ok-pay.ensures
 
 pub let_in-returns : goal.let_in-returns
-let_in-returns t c = let_end c.args.scope.now (means c.args.below) (seen c.args.scope.now c.args.names.now.values) c.args.body.now _ _ _ _ _ _ _ c.loop-item-test.false c.loop-item.invariant (goes_on c.args.scope.now _ _ _ _ _ _ _ (at_parts c.args.scope.now _ _ _ _ _ _ _ (c.within-inner.ensures ∙ ap (λ o. c.args.names.now.values ++ o) c.deref-2.ensures.value) c.in_ok-values.ensures) (so c.args.scope.now _ _ _ _ _ (λ s. c.last.ensures (seen c.args.scope.now c.within-inner.result.values) (means c.args.below) (applied c.args.below) s) c.end_as.ensures))
+let_in-returns t c = let_end c.args.scope.now (means c.args.below) (seen c.args.scope.now c.args.names.now.values) c.args.body.now _ _ _ _ _ _ _ c.loop-item-test.false c.loop-item.invariant (goes_on c.args.scope.now _ _ _ _ _ _ _ (at_parts c.args.scope.now _ _ _ _ _ _ _ c.within-inner.ensures c.in_ok-values.ensures) (so c.args.scope.now _ _ _ _ _ (λ s. c.last.ensures (seen c.args.scope.now c.within-inner.result.values) (means c.args.below) (applied c.args.below) s) c.end_as.ensures))
 
 pub let_in-returns-in_err-values : goal.let_in-returns-in_err-values
-let_in-returns-in_err-values t c = let_end c.args.scope.now (means c.args.below) (seen c.args.scope.now c.args.names.now.values) c.args.body.now _ _ _ _ _ _ _ c.loop-item-test.false c.loop-item.invariant (stopped c.args.scope.now _ _ _ _ _ _ (err_from_is_err_and c.from_residual-in_err-values.result c.from_residual-in_err-values.ensures.1) (at_parts c.args.scope.now _ _ _ _ _ _ _ (c.within-inner.ensures ∙ ap (λ o. c.args.names.now.values ++ o) c.deref-2.ensures.value) c.in_err-values.ensures))
+let_in-returns-in_err-values t c = let_end c.args.scope.now (means c.args.below) (seen c.args.scope.now c.args.names.now.values) c.args.body.now _ _ _ _ _ _ _ c.loop-item-test.false c.loop-item.invariant (stopped c.args.scope.now _ _ _ _ _ _ (err_from_is_err_and c.from_residual-in_err-values.result c.from_residual-in_err-values.ensures.1) (at_parts c.args.scope.now _ _ _ _ _ _ _ c.within-inner.ensures c.in_err-values.ensures))
 
 pub let_in-returns-in_err-push : goal.let_in-returns-in_err-push
 let_in-returns-in_err-push t c = c.loop-item.invariant _ _ (forgets c.args.scope.now _ _ _ _ (err_from_is_err_and c.from_residual-in_err-push.result c.from_residual-in_err-push.ensures.1) (ap (λ (k : Stack). k.below) c.in_ok-pay.ensures.world ∙ c.in_ok-value.ensures.below))

@@ -64,7 +64,7 @@ abbrev pub decreases-let_in : goal.decreases-let_in
 decreases-let_in l = 16 * l.below + 12
 
 abbrev pub invariant-let_in-loop-item : goal.invariant-let_in-loop-item
-invariant-let_in-loop-item l = Lets l.scope (means l.below) (seen l.scope l.names.values) l.body l.bindings l.item-index l.own.items l.initial.run l.run
+invariant-let_in-loop-item l = Lets l.scope (means l.below) (seen l.scope l.names.values) l.body l.bindings l.item-index l.own l.initial.run l.run
 
 abbrev pub decreases-read : goal.decreases-read
 decreases-read l = 16 * l.below + 10

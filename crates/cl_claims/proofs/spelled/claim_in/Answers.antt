@@ -1,5 +1,5 @@
-use Rattle.std.proofs.Common.{◌≡◌, List, ℕ, Some, refl, sym, ◌∙◌}
-use Rattle.cl_claims.proofs.LineParts.{Cut, claim_so, no_entry, no_number, no_places, no_span, no_value}
+use Rattle.std.proofs.Common.{refl, sym}
+use Rattle.cl_claims.proofs.LineParts.{claim_so, no_entry, no_number, no_places, no_span, no_value}
 use Rattle.cl_claims.proofs.spelled.claim_in.Goals as goal
 
 pub returns-in_default-clause-none : goal.returns-in_default-clause-none

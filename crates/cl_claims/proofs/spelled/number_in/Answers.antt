@@ -1,4 +1,4 @@
-use Rattle.std.proofs.Common.{◌≡◌, false, true, refl, sym, ◌∙◌}
+use Rattle.std.proofs.Common.{◌≡◌, false, true, sym, ◌∙◌}
 use Rattle.std.proofs.lemmas.Slice.Eq.{bytes_eq-Decides}
 use Rattle.cl_claims.proofs.LineParts.{no_wide, not_digits, not_so_spelled, too_wide}
 use Rattle.cl_claims.proofs.spelled.number_in.Goals as goal

@@ -1,4 +1,4 @@
-use Rattle.std.proofs.Common.{List, [], Some, map, subst}
+use Rattle.std.proofs.Common.{List, Some, map, subst}
 use Rattle.cl_audit_walk.specs.declared.cursor.Claim.{Claim}
 use Rattle.cl_audit.specs.Told.{claim_told}
 use Rattle.cl_engine.specs.Traces.{SeesTrace}

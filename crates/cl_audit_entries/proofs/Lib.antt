@@ -1,0 +1,9 @@
+pub mod Fresh
+pub mod Ends
+pub mod Deployments
+pub mod Ran
+pub mod Calls
+pub mod Bare
+pub mod Texts
+pub mod Opening
+pub mod Stepping

@@ -1,0 +1,5 @@
+pub mod Ending
+pub mod Seen
+pub mod Agreeing
+pub mod Calling
+pub mod Deploying

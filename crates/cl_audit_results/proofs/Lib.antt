@@ -1,0 +1,5 @@
+pub mod Entries
+pub mod Reached
+pub mod Taken
+pub mod Along
+pub mod Here
