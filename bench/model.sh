@@ -68,6 +68,19 @@ END
 shown 8 answer value 0703ff <<'END'
 refused Extra 2
 END
+# (The text of the call is counted by hand; 2a is 42.)
+printf '{"version": 1, "genesis": [], "entries": [{"deploy": {"sender": "SP000000000000000000002Q6VF78", "name": "main", "source": "(define-read-only (add1 (x int)) (+ x 1))"}}, {"call": {"sender": "SP000000000000000000002Q6VF78", "contract": "SP000000000000000000002Q6VF78.main", "function": "add1", "args": ["41"]}}]}' >"$folder/calls.json"
+printf '1 %s %032x\n' 36..37 41 38..39 1 33..40 42 | sed 's/ \(0*..\)$/ 00\1/' >"$folder/trace"
+python3 tools/model answer call "$folder/inc.clar" add1 41 >"$folder/report"
+shown 0 answer audit examples/unit.json "$folder/calls.json" "$folder/trace" "$folder/report" <<'END'
+yes
+END
+shown 6 answer audit examples/unit.json "$folder/calls.json" <(sed 's/2a$/2b/' "$folder/trace") "$folder/report" <<'END'
+no claim 1 2
+END
+shown 6 answer audit examples/unit.json "$folder/calls.json" "$folder/trace" /dev/null <<'END'
+no report 0
+END
 # (The SHA-256 of nothing, and of a byte 0 and four of the length of an empty key.)
 printf '{"version": 1, "genesis": [], "entries": []}' >"$folder/empty.json"
 printf '{"version": 1, "genesis": [], "entries": [{"deploy": {"sender": "SP000000000000000000002Q6VF78", "name": "inc", "source": "(define-read-only (add1 (x int)) (+ x 1))"}}]}' >"$folder/deploys.json"

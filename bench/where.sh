@@ -150,6 +150,13 @@ bad file unit.json BadShape arith runtime
   do: write one of the four shapes, with whole numbers in digits alone, or a dimension that there is
 status 1
 SHOWN
+echo "bad file badge.trace BadLine 3" >given
+wanted calls.json <<'SHOWN'
+bad file badge.trace BadLine 3
+  why: line N, from 0, is the first that is no claim, or whose entry is absent or below that of the line before
+  do: take the file as trace wrote it
+status 1
+SHOWN
 echo "refused KeysOrder 8" >given
 wanted f.clar <<'SHOWN'
 refused KeysOrder 8
@@ -243,7 +250,7 @@ rules = [f"{letter}{number}" for letter, count in (("T", 10), ("F", 5), ("O", 1)
 endings = [f"A{number}" for number in range(1, 10)] + [f"E{number}" for number in range(1, 9)]
 faults = ["TooLong", "NotJson", "Version", "Field /x", "BadValue /entries", "Field /entries/0/x", "BadValue /genesis/0/stx", "GenesisTooBig"]
 faults += ["BadValue /genesis/0/principal", "BadValue /epochs", "BadValue /epochs/1/height", "BadValue /epochs/1/costs", "Field /epochs/1/x"]
-faults += ["TooMany", "HeightFalls /entries/1/block/height", "Missing arith", "BadShape arith runtime", "TooBig arith", "Unknown x"]
+faults += ["TooMany", "HeightFalls /entries/1/block/height", "Missing arith", "BadShape arith runtime", "TooBig arith", "Unknown x", "BadLine 0"]
 values = ["NotALiteral 0..1", "TooDeep 0..1", "TooLarge 0..1", "T9 BadAddress 0..1", "TooLong", "NotHex"]
 values += [f"{fault} 1" for fault in ("Ended", "TooDeep", "BadPrefix", "BadName", "KeysOrder", "BadText", "NoKeys", "Extra")]
 texts = [("rule", rule, advice.of_rules().get(rule, [])) for rule in rules] + [("ending", ending, advice.of_endings().get(ending, [])) for ending in endings]

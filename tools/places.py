@@ -11,7 +11,7 @@ BROKEN = re.compile(r"(?:(?P<entry>[0-9]{1,9}) deploy|contract) '(?P<contract>\S
 ENDED = re.compile(r"(?P<entry>[0-9]{1,9}) (?:deploy|call) '.* (?P<how>aborted|refused) (?P<rule>[AE][0-9]) \w+(?P<more>(?: \w+)*)\Z")
 TRACED = re.compile(r"(?P<entry>[0-9]{1,9}) (?P<start>[0-9]{1,10})\.\.(?P<end>[0-9]{1,10}) (?:[0-9a-f]{2})+\Z")
 BAD_FILE = re.compile(r"bad file (?P<name>.*?) (?P<fault>TooLong|NotJson|Version|GenesisTooBig|TooMany|(?:Field|BadValue|HeightFalls) /.*"
-                      r"|(?:Missing|TooBig|Unknown) .*|BadShape .*)\Z")  # fmt: skip
+                      r"|(?:Missing|TooBig|Unknown) .*|BadShape .*|BadLine [0-9]+)\Z")  # fmt: skip
 BAD_VALUE = re.compile(r"refused (?P<refusal>[A-Z]\w+(?: \w+)?(?: [0-9]{1,9}(?:\.\.[0-9]{1,9})?)?)\Z")
 
 

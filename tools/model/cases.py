@@ -54,10 +54,6 @@ def answer(theme, case):
     return PROGRAMS[program](words, commands.Files(held, failing))
 
 
-def bytes_of(lines):
-    return "".join(line + "\n" for line in lines).encode()
-
-
 def hearings(heard, failing):
     """What each listener hears, and which go deaf, in that order: each gets all events of an entry before the next one does."""
     hears, deaf = {name: [] for name in LISTENERS}, []
@@ -76,7 +72,7 @@ def hearings(heard, failing):
 def differences(theme, case, given):
     """What of a case isn't as the model says."""
     wanted = {**theme, **case}
-    whole, room = bytes_of(given.lines), wanted.get("room", ROOM)
+    whole, room = commands.bytes_of(given.lines), wanted.get("room", ROOM)
     written, status = whole[:room], given.status if len(whole) <= room else 4
     found = []
     if wanted.get("status") != status:
@@ -90,7 +86,7 @@ def differences(theme, case, given):
     if deaf != wanted.get("deaf", []):
         found.append(f"leaves {deaf} deaf")
     for name, lines in wanted.get("heard", {}).items():
-        if content(lines) != bytes_of(hears[name]):
+        if content(lines) != commands.bytes_of(hears[name]):
             found.append(f"lets listener {name} hear {hears[name]}")
     return found
 

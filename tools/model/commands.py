@@ -3,6 +3,7 @@ import pathlib
 import re
 
 from addresses import is_contract_name, read_address, write_principal
+from audits import compared, read_claims
 from checking import check
 from costs import BadCosts, Schedule, read_costs, unit_table
 from lanes import in_lanes
@@ -30,6 +31,11 @@ class Answer:
 
     def __init__(self, status, written, asked=(), heard=()):
         self.status, self.lines, self.asked, self.heard = status, written, list(asked), list(heard)
+
+
+def bytes_of(written):
+    """Lines, each with its line feed."""
+    return "".join(line + "\n" for line in written).encode()
 
 
 class Files:
@@ -90,6 +96,7 @@ def are_taken(command, words):
         "wire": lambda: len(words) == 1,
         "gen": lambda: len(words) == 2 and is_number(words[0], 1 << 64) and is_number(words[1], 100000),
         "trace": lambda: len(words) == 2,
+        "audit": lambda: len(words) == 4,
         "root": lambda: len(words) == 2,
         "prove": lambda: len(words) == 3 and is_number(words[2], 1 << 32),
         "verify": lambda: 3 <= len(words) <= 3 + MOST_SIDES and len(words[1].encode(errors="surrogateescape")) < LONGEST_KEY_WORD,
@@ -140,14 +147,21 @@ def node_before(files, costs, file):
     return Node(Schedule(table, transactions.epochs), transactions.holders), transactions.entries
 
 
+def reported(node, entries):
+    """The results of entries, one after another, and the lines of their report."""
+    results, written = [], []
+    for place, entry in enumerate(entries):
+        head, result = node.step(entry)
+        results.append(result)
+        written += lines(place, head, result)
+    return results, written
+
+
 def entries_done(files, heard, costs, file):
     """The state after the entries of a transaction file, and the lines of their report."""
     node, entries = node_before(files, costs, file)
-    written = []
-    for place, entry in enumerate(entries):
-        head, result = node.step(entry)
-        heard.append(event_lines(result.events))
-        written += lines(place, head, result)
+    results, written = reported(node, entries)
+    heard += [event_lines(result.events) for result in results]
     return node.state, written
 
 
@@ -157,12 +171,17 @@ def run(files, flags, heard, costs, file):
 
 
 def trace(files, flags, heard, costs, file):
+    results, _ = reported(*node_before(files, costs, file))
+    claims = [(entry, *claim) for entry, result in enumerate(results) for claim in result.trace]
+    return 0, [f"{entry} {start}..{end} {wire(value).hex()}" for entry, start, end, value in claims]
+
+
+def audit(files, flags, heard, costs, file, trace_file, report_file):
     node, entries = node_before(files, costs, file)
-    written = []
-    for place, entry in enumerate(entries):
-        _, result = node.step(entry)
-        written += [f"{place} {start}..{end} {wire(value).hex()}" for start, end, value in result.trace]
-    return 0, written
+    claims = files.read_as(trace_file, lambda data: read_claims(data, len(entries)))
+    report = files.read(report_file)
+    results, written = reported(node, entries)
+    return compared(results, claims, bytes_of(written), report)
 
 
 def shown(data):
@@ -276,6 +295,7 @@ COMMANDS = {
     "wire": wire_form,
     "gen": generated,
     "trace": trace,
+    "audit": audit,
     "root": state_root,
     "prove": prove,
     "verify": verify,

@@ -1,6 +1,6 @@
 -- Each command has a script by what is held.
 use Rattle.std.proofs.Common.{◌≡◌, inl, inr, ◌⊎◌, ℕ, zero, suc, ◌<◌, ◌%◌, ◌==◌, Bool, true, false, List, [], ◌∷◌, ◌++◌, length, take, drop, get_or, Option, Some, None, Ok, Err, refl, sym, ap, subst, ◌∙◌, arith, take-append-drop}
-use Rattle.std.specs.Prelude.{IfOk, nat_lt, codes, if◌then◌else◌}
+use Rattle.std.specs.Prelude.{IfOk, nat_lt, codes, option_map, if◌then◌else◌}
 use Rattle.std.specs.List.{All, AllByRecursion, flat_map, list_all}
 use Rattle.std.proofs.Math.Seq.{drop-cons}
 use Rattle.std.proofs.lemmas.Bool.{ltb-true, ltb-false, and_parts}
@@ -43,7 +43,7 @@ use Rattle.cl_root.specs.HashTree.{IsRoot}
 use Rattle.cl_results.specs.Laws.{EachRuns, TextsHaveValues, FilesHaveParts, EachHasText, EachHasRoot, EachLineHasRow}
 use Rattle.cl_words.specs.declared.sources.Source.{Source}
 use Rattle.cl_words.specs.Seen.{text_in as source_text}
-use Rattle.cl_words.specs.Words.{Command, Call, Run, Check, Value, Wire, Gen, Trace, Root, Prove, Verify}
+use Rattle.cl_words.specs.Words.{Command, Call, Run, Check, Value, Wire, Gen, Trace, Audit, Root, Prove, Verify}
 use Rattle.cl_words.specs.Argument.{Arguments, before, Spell}
 use Rattle.cl_entries.specs.declared.status.Reply.{Reply}
 use Rattle.cl_entries.specs.declared.status.Step.{Step}
@@ -52,12 +52,17 @@ use Rattle.cl_entries.specs.declared.status.Status.TheVariants.{Done, BadWord}
 use Rattle.cl_entries.specs.Scripts.{Script, script_of}
 use Rattle.cl_entries.specs.Entries.{AreStateSteps, IsRun, RunsAreSound, steps_from}
 use Rattle.cl_traces.specs.Traces.{EachHasTraceScript}
+use Rattle.cl_audit_walk.specs.declared.cursor.Claim.{Claim}
+use Rattle.cl_audit_reply.specs.Grouped.{grouped, grouped_result}
+use Rattle.cl_audit_reply.specs.Laws.{EachHasAuditReply}
+use Rattle.cl_audit_reply.proofs.TraceFiles.{grouped_length}
+use Rattle.cl_claims.specs.Parsed.{Claims, claims_in as lines_of}
 use Rattle.cl_replies.specs.declared.inputs.FileFault.TheVariants.{Transactions}
-use Rattle.cl_replies.specs.Inputs.{Inputs, NoCommand, MissingFile, BadFile, BadArgument, CallInputs, RunInputs, CheckInputs, ValueInputs, WireInputs, GenInputs, TraceInputs, RootInputs, ProveInputs, VerifyInputs, bad_file_reply}
+use Rattle.cl_replies.specs.Inputs.{Inputs, NoCommand, MissingFile, BadFile, BadArgument, CallInputs, RunInputs, CheckInputs, ValueInputs, WireInputs, GenInputs, TraceInputs, AuditInputs, RootInputs, ProveInputs, VerifyInputs, bad_file_reply}
 use Rattle.cl_replies.specs.Spelling.{no_value_reply, value_reply, wire_reply, verify_reply}
 use Rattle.cl_replies.specs.Checked.{IsReport, accepted_reply, refused_source_reply, source_at, all_checked}
 use Rattle.cl_replies.specs.Reports.{home, deployment, call, called_reply, file_of, IsCalled, IsGenerated, HasRoot, IsRootReply, IsProved, no_row, proved, IsProveReply, IsScript, root_line, row_text, side_line, usage_reply}
-use Rattle.cl_app.specs.Reading.{CommandReads, FileResult, IsTransactionsOf, Reads, costs_in, ends_with, reads_called, reads_entries, reads_file, reads_sources, reads_transactions, text_in}
+use Rattle.cl_app.specs.Reading.{CommandReads, FileResult, IsTransactionsOf, Reads, claims_by, claims_in, claims_result, costs_in, ends_with, reads_audited, reads_called, reads_entries, reads_file, reads_file_of_entries, reads_sources, reads_transactions, text_in}
 use Rattle.cl_app.specs.Top.{EachHasScript}
 
 -- something comes of each text, file, source, run and state
@@ -70,6 +75,7 @@ pub record SomethingOfEach : Type 0 where
   pub runs : EachRuns
   pub sound : RunsAreSound
   pub traces : EachHasTraceScript
+  pub audits : EachHasAuditReply
   pub ends : RunsEndSound
   pub text : EachHasText
   pub root : EachHasRoot
@@ -77,11 +83,12 @@ pub record SomethingOfEach : Type 0 where
 
 -- ---- what is read
 
--- values, principals and heights in inputs are within the limits
+-- values, principals and heights in inputs are within the limits, and there are claims for each entry
 abbrev InputsHaveParts : Inputs → Type 0
 InputsHaveParts (CallInputs source function args) = All IsVal args
 InputsHaveParts (RunInputs table file state) = FileHasParts file
 InputsHaveParts (TraceInputs table file) = FileHasParts file
+InputsHaveParts (AuditInputs table file claims report) = FileHasParts file × (length claims ≡ length file.entries)
 InputsHaveParts (RootInputs table file) = FileHasParts file
 InputsHaveParts (ProveInputs table file number) = FileHasParts file
 InputsHaveParts inputs = Unit {0}
@@ -106,6 +113,25 @@ sources_found files address version [] Then behind = behind []
 sources_found files address version (path ∷ paths) Then behind =
     file_found path (text_in files path) (λ text. reads_sources files address version paths (λ sources. Then (source_at address version path text ∷ sources)))
     (λ text is. sources_found files address version paths (λ sources. Then (source_at address version path text ∷ sources)) (λ sources. behind (source_at address version path text ∷ sources)))
+
+claims_counted : (entries : ℕ) (lines : Claims) (claims : List (List Claim)) → ◌≡◌ {A = FileResult (List (List Claim))} (Some (claims_result (grouped_result entries lines))) (Some (Ok claims)) → length claims ≡ entries
+claims_counted entries (Ok lines) claims is =
+    let same : claims ≡ grouped lines entries = cc in
+    ap length same ∙ grouped_length lines 0 entries
+claims_counted entries (Err line) claims is = absurd cc
+
+-- a trace file has claims for each entry
+read_counted : (entries : ℕ) (text : FileResult (List ℕ)) (claims : List (List Claim)) → option_map (claims_by entries) text ≡ Some (Ok claims) → length claims ≡ entries
+read_counted entries None claims is = absurd cc
+read_counted entries (Some (Err fault)) claims is = absurd cc
+read_counted entries (Some (Ok bytes)) claims is = claims_counted entries (lines_of entries bytes) claims is
+
+audited_found : (files : Held) (trace report : List ℕ) (table : List CostFn) (file : FileSeen) → FileHasParts file → Found (reads_audited files trace report (length file.entries) (AuditInputs table file))
+audited_found files trace report table file parts =
+    file_found trace (claims_in files trace (length file.entries)) (λ claims. reads_file report (text_in files report) (λ text. ends_with (AuditInputs table file claims text)))
+    (λ claims is.
+    file_found report (text_in files report) (λ text. ends_with (AuditInputs table file claims text))
+    (λ text there. ends_found (AuditInputs table file claims text) (parts, read_counted (length file.entries) (text_in files trace) claims is)))
 
 same_file : (a b : FileSeen) → ◌≡◌ {A = FileResult FileSeen} (Some (Ok a)) (Some (Ok b)) → a ≡ b
 same_file a b is = cc
@@ -176,11 +202,14 @@ module _ (each : SomethingOfEach) where
   transactions_of (Some (Err fault)) = record { result = Some (Err fault); are = refl; parts = λ file is. absurd cc }
   transactions_of (Some (Ok bytes)) = let r = each.file bytes in transactions_by bytes r.0 r.1
 
-  transactions_found : (files : Held) (name : List ℕ) (found : FileSeen → Inputs) → ((file : FileSeen) → FileHasParts file → InputsHaveParts (found file)) → Found (reads_transactions files name found)
-  transactions_found files name found good =
+  file_of_entries_found : (files : Held) (name : List ℕ) (Then : FileSeen → Reads) → ((file : FileSeen) → FileHasParts file → Found (Then file)) → Found (reads_file_of_entries files name Then)
+  file_of_entries_found files name Then behind =
       let t = transactions_of (text_in files name) in
-      let f = file_found name t.result (λ file. ends_with (found file)) (λ file is. ends_found (found file) (good file (t.parts file is))) in
+      let f = file_found name t.result Then (λ file is. behind file (t.parts file is)) in
       record { asked = f.asked; inputs = f.inputs; read = (t.result, t.are, f.read); parts = f.parts }
+
+  transactions_found : (files : Held) (name : List ℕ) (found : FileSeen → Inputs) → ((file : FileSeen) → FileHasParts file → InputsHaveParts (found file)) → Found (reads_transactions files name found)
+  transactions_found files name found good = file_of_entries_found files name (λ file. ends_with (found file)) (λ file parts. ends_found (found file) (good file parts))
 
   entries_found : (files : Held) (costs name : List ℕ) (found : List CostFn → FileSeen → Inputs) → ((table : List CostFn) (file : FileSeen) → FileHasParts file → InputsHaveParts (found table file)) → Found (reads_entries files costs name found)
   entries_found files costs name found good =
@@ -225,6 +254,9 @@ module _ (each : SomethingOfEach) where
   command_found (Some (Wire word)) files = ends_found (WireInputs word) tt
   command_found (Some (Gen seed count)) files = ends_found (GenInputs seed count) tt
   command_found (Some (Trace costs file)) files = entries_found files costs file TraceInputs (λ table f parts. parts)
+  command_found (Some (Audit costs file trace report)) files =
+      file_found costs (costs_in files costs) (λ table. reads_file_of_entries files file (λ f. reads_audited files trace report (length f.entries) (AuditInputs table f)))
+      (λ table is. file_of_entries_found files file (λ f. reads_audited files trace report (length f.entries) (AuditInputs table f)) (audited_found files trace report table))
   command_found (Some (Root costs file)) files = entries_found files costs file RootInputs (λ table f parts. parts)
   command_found (Some (Prove costs file number)) files = entries_found files costs file (λ table f. ProveInputs table f number) (λ table f parts. parts)
   command_found (Some (Verify root key value sides)) files = ends_found (VerifyInputs root key value sides) tt
@@ -374,6 +406,7 @@ module _ (each : SomethingOfEach) where
   script_there (WireInputs word) parts = let o = each.outcome word in (script_of (wire_reply o.0), (wire_reply o.0, (o.0, o.1, refl), refl))
   script_there (GenInputs seed count) parts = let r = generated_there seed count in (script_of r.0, (r.0, r.1, refl))
   script_there (TraceInputs table file) parts = each.traces table file parts
+  script_there (AuditInputs table file claims report) parts = let r = each.audits table file claims report parts.0 parts.1 in (script_of r.0, (r.0, r.1, refl))
   script_there (RootInputs table file) parts = let r = root_reply_there table file parts in (script_of r.0, (r.0, r.1, refl))
   script_there (ProveInputs table file number) parts = let r = prove_reply_there table file number parts in (script_of r.0, (r.0, r.1, refl))
   script_there (VerifyInputs root key value sides) parts = (script_of (verify_reply root key value sides), (verify_reply root key value sides, refl, refl))

@@ -15,7 +15,7 @@ use Rattle.cl_rules.specs.Context.{CostTable, Known}
 use Rattle.cl_rules.specs.Acceptance.{known_of}
 use Rattle.cl_words.specs.Argument.{Arguments}
 use Rattle.cl_words.specs.declared.sources.Source.{Source}
-use Rattle.cl_words.specs.Words.{Command, Call, Run, Check, Value, Wire, Gen, Trace, Root, Prove, Verify}
+use Rattle.cl_words.specs.Words.{Command, Call, Run, Check, Value, Wire, Gen, Trace, Audit, Root, Prove, Verify}
 use Rattle.cl_entries.specs.declared.entries.End.{End}
 use Rattle.cl_entries.specs.declared.entries.End.TheVariants.{Good, Bad, Aborted, Refused as RefusedEntry}
 use Rattle.cl_entries.specs.declared.status.Reply.{Reply}
@@ -23,6 +23,9 @@ use Rattle.cl_entries.specs.declared.status.Status.{Status}
 use Rattle.cl_entries.specs.declared.status.Status.TheVariants.{Done, Usage, BadFile as BadFileStatus, Refused, NotGood, BadWord}
 use Rattle.cl_entries.specs.Scripts.{Script, end_number, number_of, script_of}
 use Rattle.cl_entries.specs.Entries.{end_of}
+use Rattle.cl_audit_reply.specs.Verdicts.{reply_of}
+use Rattle.cl_audit_reply.specs.declared.reply.Verdict.{Verdict}
+use Rattle.cl_audit_reply.specs.declared.reply.Verdict.TheVariants.{Yes, NoClaim, NoReport}
 use Rattle.cl_replies.specs.Inputs.{Inputs, CallInputs}
 use Rattle.cl_replies.specs.Spelling.{bytes_reply, digits_in, hex_reply, verdict_on, verdict_reply, wire_reply, yes_or_no}
 use Rattle.cl_replies.specs.Checked.{IsReport}
@@ -74,7 +77,7 @@ call_suits function version (Err outcome) inputs suits = subst (EndsBy (CallEnds
 call_suits function version (Ok args) inputs (inl bad) = bad_file_ends (CallEnds (Ok args)) (inr (inl refl)) inputs bad
 call_suits function version (Ok args) inputs (inr good) = subst (EndsBy (CallEnds (Ok args))) (sym good.1) (call_ends (text_of good.0 version) function args)
 
--- ---- `check`
+-- ---- `check` and `audit`
 
 abbrev CheckStatus : Status → Type 0
 CheckStatus status = (status ≡ Done) ⊎ (status ≡ BadFileStatus) ⊎ (status ≡ Refused)
@@ -84,6 +87,11 @@ report_ends table known [] reply is = inl (ap (λ (r : Reply). r.status) is)
 report_ends table known (s ∷ sources) reply (inl accepted) =
     subst CheckStatus (sym (ap (λ (r : Reply). r.status) accepted.3)) (report_ends table (known ++ known_of s.principal (length s.text) accepted.0.defined ∷ []) sources accepted.1 accepted.2)
 report_ends table known (s ∷ sources) reply (inr refused) = inr (inr (ap (λ (r : Reply). r.status) refused.2))
+
+audit_ends : (verdict : Verdict) (reply : Reply) → reply ≡ reply_of verdict → CheckStatus reply.status
+audit_ends Yes reply is = inl (ap (λ (r : Reply). r.status) is)
+audit_ends (NoClaim entry claim) reply is = inr (inr (ap (λ (r : Reply). r.status) is))
+audit_ends (NoReport at) reply is = inr (inr (ap (λ (r : Reply). r.status) is))
 
 -- ---- `prove`
 
@@ -115,6 +123,9 @@ command_ends (Some (Wire word)) inputs suits =
 command_ends (Some (Gen seed count)) inputs suits = subst (EndsBy (EndsWith (Some (Gen seed count)))) (sym suits) (λ script is. of_reply (EndsWith (Some (Gen seed count))) is.0 script is.2 (ap (λ (r : Reply). r.status) is.1.is))
 command_ends (Some (Trace costs file)) inputs (inl bad) = bad_file_ends (EndsWith (Some (Trace costs file))) (inr refl) inputs bad
 command_ends (Some (Trace costs file)) inputs (inr good) = subst (EndsBy (EndsWith (Some (Trace costs file)))) (sym good.2) (λ script is. (Done, ap (λ (s : Script). s.end) is.is, inl refl))
+command_ends (Some (Audit costs file trace report)) inputs (inl bad) = bad_file_ends (EndsWith (Some (Audit costs file trace report))) (inr (inl refl)) inputs bad
+command_ends (Some (Audit costs file trace report)) inputs (inr good) =
+    subst (EndsBy (EndsWith (Some (Audit costs file trace report)))) (sym good.4) (λ script is. of_reply CheckStatus is.0 script is.2 (audit_ends is.1.verdict is.0 is.1.is))
 command_ends (Some (Root costs file)) inputs (inl bad) = bad_file_ends (EndsWith (Some (Root costs file))) (inr refl) inputs bad
 command_ends (Some (Root costs file)) inputs (inr good) = subst (EndsBy (EndsWith (Some (Root costs file)))) (sym good.2) (λ script is. of_reply (EndsWith (Some (Root costs file))) is.0 script is.2 (inl (ap (λ (r : Reply). r.status) is.1.is)))
 command_ends (Some (Prove costs file number)) inputs (inl bad) = bad_file_ends (EndsWith (Some (Prove costs file number))) (inr (inl refl)) inputs bad
@@ -195,6 +206,7 @@ command_plain (Value word) status ends = ap is_usage ends ∙ hex_plain (decode_
 command_plain (Wire word) status ends = ap is_usage ends.2 ∙ wire_plain ends.0
 command_plain (Gen seed count) status ends = ap is_usage ends
 command_plain (Trace costs file) status ends = two_plain Done BadFileStatus status refl refl ends
+command_plain (Audit costs file trace report) status ends = three_plain Done BadFileStatus Refused status refl refl refl ends
 command_plain (Root costs file) status ends = two_plain Done BadFileStatus status refl refl ends
 command_plain (Prove costs file number) status ends = three_plain Done BadFileStatus BadWord status refl refl refl ends
 command_plain (Verify root key value sides) status ends = ap is_usage ends ∙ verdict_plain (verdict_on root key value sides)

@@ -22,19 +22,21 @@ use Rattle.cl_tx.specs.Laws.{OneRun}
 use Rattle.cl_tx.specs.Step.{told_of}
 use Rattle.cl_words.specs.declared.sources.Source.{Source}
 use Rattle.cl_words.specs.Seen.{text_in as source_text}
-use Rattle.cl_words.specs.Words.{Command, Call, Run, Check, Value, Wire, Gen, Trace, Root, Prove, Verify}
+use Rattle.cl_words.specs.Words.{Command, Call, Run, Check, Value, Wire, Gen, Trace, Audit, Root, Prove, Verify}
 use Rattle.cl_words.specs.Argument.{Arguments, before, from_word, Spell}
 use Rattle.cl_entries.specs.declared.status.Reply.{Reply}
 use Rattle.cl_entries.specs.Scripts.{Script, script_of}
 use Rattle.cl_entries.specs.Entries.{OneRunScript}
 use Rattle.cl_traces.specs.Traces.{OneTraceScript}
-use Rattle.cl_replies.specs.Inputs.{Inputs, NoCommand, MissingFile, BadFile, BadArgument, CallInputs, RunInputs, CheckInputs, ValueInputs, WireInputs, GenInputs, TraceInputs, RootInputs, ProveInputs, VerifyInputs}
+use Rattle.cl_audit_walk.specs.declared.cursor.Claim.{Claim}
+use Rattle.cl_audit_reply.specs.Laws.{OneAuditReply}
+use Rattle.cl_replies.specs.Inputs.{Inputs, NoCommand, MissingFile, BadFile, BadArgument, CallInputs, RunInputs, CheckInputs, ValueInputs, WireInputs, GenInputs, TraceInputs, AuditInputs, RootInputs, ProveInputs, VerifyInputs}
 use Rattle.cl_replies.specs.Spelling.{wire_reply}
 use Rattle.cl_replies.specs.Reports.{IsCalled, IsReply, IsScript, IsWireReply, call, called_reply, deployment, file_of}
 use Rattle.cl_replies.specs.Checked.{IsReport, accepted_reply, refused_source_reply, source_at}
 use Rattle.cl_replies.proofs.Counted.{generated_same}
 use Rattle.cl_replies.proofs.Rooted.{OneOfRoots, proved_same, root_same}
-use Rattle.cl_app.specs.Reading.{CommandReads, FileResult, IsTransactionsOf, Reads, costs_in, ends_with, reads_called, reads_entries, reads_file, reads_sources, reads_transactions, text_in, transactions_result}
+use Rattle.cl_app.specs.Reading.{CommandReads, FileResult, IsTransactionsOf, Reads, claims_in, costs_in, ends_with, reads_audited, reads_called, reads_entries, reads_file, reads_file_of_entries, reads_sources, reads_transactions, text_in, transactions_result}
 use Rattle.cl_app.specs.Top.{HasScript}
 
 abbrev pub OneOutcome : Type 0
@@ -54,6 +56,7 @@ pub record OneOfEach : Type 0 where
   pub run : OneRun
   pub script : OneRunScript
   pub traces : OneTraceScript
+  pub audits : OneAuditReply
   pub sources : OneOfSources
   pub roots : OneOfRoots
 
@@ -103,6 +106,7 @@ reply_same laws (ValueInputs word) x y p q = p ∙ sym q
 reply_same laws (WireInputs word) x y p q = wire_same laws.outcome word x y p q
 reply_same laws (GenInputs seed count) x y p q = generated_same laws.run seed count x y p q
 reply_same laws (TraceInputs table file) x y p q = absurd p
+reply_same laws (AuditInputs table file claims report) x y p q = laws.audits table file claims report x y p q
 reply_same laws (RootInputs table file) x y p q = root_same laws.run laws.roots table file x y p q
 reply_same laws (ProveInputs table file number) x y p q = proved_same laws.run laws.roots table file number x y p q
 reply_same laws (VerifyInputs root key value sides) x y p q = p ∙ sym q
@@ -128,6 +132,7 @@ script_same laws (ValueInputs word) a b p q = replied_same laws (ValueInputs wor
 script_same laws (WireInputs word) a b p q = replied_same laws (WireInputs word) a b p q
 script_same laws (GenInputs seed count) a b p q = replied_same laws (GenInputs seed count) a b p q
 script_same laws (TraceInputs table file) a b p q = laws.traces table file a b p q
+script_same laws (AuditInputs table file claims report) a b p q = replied_same laws (AuditInputs table file claims report) a b p q
 script_same laws (RootInputs table file) a b p q = replied_same laws (RootInputs table file) a b p q
 script_same laws (ProveInputs table file number) a b p q = replied_same laws (ProveInputs table file number) a b p q
 script_same laws (VerifyInputs root key value sides) a b p q = replied_same laws (VerifyInputs root key value sides) a b p q
@@ -148,18 +153,26 @@ file_same name (Some (Ok x)) Then once m n a b p q =
     let behind = once x p.0 q.0 a b p.2 q.2 in
     (p.1 ∙ ap (λ (l : List (List ℕ)). name ∷ l) behind.0 ∙ sym q.1, behind.1)
 
-transactions_of_same : OneFile → (text : FileResult (List ℕ)) (a b : FileResult FileSeen) → IsTransactionsOf text a → IsTransactionsOf text b → a ≡ b
+pub transactions_of_same : OneFile → (text : FileResult (List ℕ)) (a b : FileResult FileSeen) → IsTransactionsOf text a → IsTransactionsOf text b → a ≡ b
 transactions_of_same once None a b p q = p ∙ sym q
 transactions_of_same once (Some (Err fault)) a b p q = p ∙ sym q
 transactions_of_same once (Some (Ok bytes)) a b p q = p.2 ∙ ap (λ (r : Read FileSeen). Some (transactions_result r)) (once bytes p.0 q.0 p.1 q.1) ∙ sym q.2
 
-transactions_same : OneFile → (files : Held) (name : List ℕ) (found : FileSeen → Inputs) → OneRead (reads_transactions files name found)
-transactions_same once files name found m n a b p q =
+file_of_entries_same : OneFile → (files : Held) (name : List ℕ) (Then : FileSeen → Reads) → ((file : FileSeen) → OneRead (Then file)) → OneRead (reads_file_of_entries files name Then)
+file_of_entries_same once files name Then behind m n a b p q =
     let same = transactions_of_same once (text_in files name) p.0 q.0 p.1 q.1 in
-    file_same name q.0 (λ file. ends_with (found file)) (λ file. ends_same (found file)) m n a b (subst (λ (r : FileResult FileSeen). reads_file name r (λ file. ends_with (found file)) m a) same p.2) q.2
+    file_same name q.0 Then behind m n a b (subst (λ (r : FileResult FileSeen). reads_file name r Then m a) same p.2) q.2
+
+transactions_same : OneFile → (files : Held) (name : List ℕ) (found : FileSeen → Inputs) → OneRead (reads_transactions files name found)
+transactions_same once files name found = file_of_entries_same once files name (λ file. ends_with (found file)) (λ file. ends_same (found file))
 
 entries_same : OneFile → (files : Held) (costs file : List ℕ) (found : List CostFn → FileSeen → Inputs) → OneRead (reads_entries files costs file found)
 entries_same once files costs file found = file_same costs (costs_in files costs) (λ table. reads_transactions files file (found table)) (λ table. transactions_same once files file (found table))
+
+audited_same : (files : Held) (trace report : List ℕ) (entries : ℕ) (found : List (List Claim) → List ℕ → Inputs) → OneRead (reads_audited files trace report entries found)
+audited_same files trace report entries found =
+    file_same trace (claims_in files trace entries) (λ claims. reads_file report (text_in files report) (λ text. ends_with (found claims text)))
+    (λ claims. file_same report (text_in files report) (λ text. ends_with (found claims text)) (λ text. ends_same (found claims text)))
 
 sources_same : (files : Held) (address : AddressParts) (version : Version) (paths : List (List ℕ)) (Then : List Source → Reads) → ((sources : List Source) → OneRead (Then sources)) → OneRead (reads_sources files address version paths Then)
 sources_same files address version [] Then once = once []
@@ -197,6 +210,9 @@ read_same outcome once (Some (Value word)) files = ends_same (ValueInputs word)
 read_same outcome once (Some (Wire word)) files = ends_same (WireInputs word)
 read_same outcome once (Some (Gen seed count)) files = ends_same (GenInputs seed count)
 read_same outcome once (Some (Trace costs file)) files = entries_same once files costs file TraceInputs
+read_same outcome once (Some (Audit costs file trace report)) files =
+    file_same costs (costs_in files costs) (λ table. reads_file_of_entries files file (λ f. reads_audited files trace report (length f.entries) (AuditInputs table f)))
+    (λ table. file_of_entries_same once files file (λ f. reads_audited files trace report (length f.entries) (AuditInputs table f)) (λ f. audited_same files trace report (length f.entries) (AuditInputs table f)))
 read_same outcome once (Some (Root costs file)) files = entries_same once files costs file RootInputs
 read_same outcome once (Some (Prove costs file number)) files = entries_same once files costs file (λ table f. ProveInputs table f number)
 read_same outcome once (Some (Verify root key value sides)) files = ends_same (VerifyInputs root key value sides)

@@ -9,6 +9,8 @@ use Rattle.cl_ports.proofs.Grown.{part_next, part_more}
 use Rattle.cl_ports.specs.declared.TheConstants.{MAX_FILE_BYTES}
 use Rattle.cl_forms.specs.declared.version.Version.{Version}
 use Rattle.cl_file.specs.Files.{FileSeen}
+use Rattle.cl_file.specs.Laws.{OneFile}
+use Rattle.cl_audit_walk.specs.declared.cursor.Claim.{Claim}
 use Rattle.cl_replies.specs.declared.inputs.FileFault.{FileFault}
 use Rattle.cl_replies.specs.declared.inputs.FileFault.TheVariants.{TooLong}
 use Rattle.cl_values.specs.Tree.{Tree}
@@ -17,8 +19,8 @@ use Rattle.cl_words.specs.Argument.{Arguments, Spell}
 use Rattle.cl_words.specs.Words.{Call}
 use Rattle.cl_replies.specs.declared.inputs.Inputs.{Inputs as InputsOfCode}
 use Rattle.cl_replies.specs.Inputs.{Inputs, BadFile, CallInputs, inputs_seen}
-use Rattle.cl_app.proofs.Once.{OneOutcome, spell_same}
-use Rattle.cl_app.specs.Reading.{AreInputs, AsksPart, CallSuits, AreCostsAt, AreTransactionsAt, Asks, FileResult, Gives, IsTextAt, IsTransactionsOf, Reads, costs_in, costs_of, ends_with, is_long, reads_called, reads_entries, reads_file, reads_transactions, text_in, text_result}
+use Rattle.cl_app.proofs.Once.{OneOutcome, spell_same, transactions_of_same}
+use Rattle.cl_app.specs.Reading.{AreInputs, AsksPart, CallSuits, AreClaimsAt, AreCostsAt, AreTransactionsAt, Asks, FileResult, Gives, IsTextAt, IsTransactionsOf, Reads, claims_by, claims_in, costs_in, costs_of, ends_with, is_long, reads_audited, reads_called, reads_entries, reads_file, reads_file_of_entries, reads_transactions, text_in, text_result}
 
 -- ---- the bytes of a file
 
@@ -43,6 +45,9 @@ costs_are held name text table at is = record { told = λ files h. ap (option_ma
 
 pub transactions_are : (held : Option Held) (name : List ℕ) (text : Result (List ℕ) FileFault) (file : Result FileSeen FileFault) → IsTextAt held name text → IsTransactionsOf (Some text) (Some file) → AreTransactionsAt held name file
 transactions_are held name text file at is = record { told = λ files h. subst (λ (t : FileResult (List ℕ)). IsTransactionsOf t (Some file)) (sym (at.told files h)) is }
+
+pub claims_are : (held : Option Held) (name : List ℕ) (entries : ℕ) (text : Result (List ℕ) FileFault) (claims : Result (List (List Claim)) FileFault) → IsTextAt held name text → claims ≡ claims_by entries text → AreClaimsAt held name entries claims
+claims_are held name entries text claims at is = record { told = λ files h. ap (option_map (claims_by entries)) (at.told files h) ∙ ap Some (sym is) }
 
 -- ---- one file, and what is read behind it
 
@@ -88,10 +93,35 @@ gives_end held inputs = record { told = λ files h. ([], (refl, refl)) }
 pub asks_nothing : (Is : Held → Reads) (held : Option Held) (before now : Option (List (List ℕ))) → GrowsPart before now [] → Asks Is held before now
 asks_nothing Is held before now grown = record { told = λ files asked inputs h is. part_more before now [] asked grown }
 
--- ---- a cost file and a transaction file
+-- ---- a transaction file, and what is read behind it
 
-transactions_ask : (file : List ℕ) (found : FileSeen → Inputs) (held : Option Held) (before now : Option (List (List ℕ))) → GrowsPart before now (file ∷ []) → Asks (λ files. reads_transactions files file found) held before now
-transactions_ask file found held before now grown = record { told = λ files asked inputs h is. part_of_first file is.0 (λ f. ends_with (found f)) asked inputs before now is.2 grown }
+module _ (file : List ℕ) (Then : Held → FileSeen → Reads) (held : Option Held) where
+  abbrev OfEntries : Held → Reads
+  OfEntries files = reads_file_of_entries files file (Then files)
+
+  pub file_asks_first : (before now : Option (List (List ℕ))) → GrowsPart before now (file ∷ []) → Asks OfEntries held before now
+  file_asks_first before now grown = record { told = λ files asked inputs h is. part_of_first file is.0 (Then files) asked inputs before now is.2 grown }
+
+  pub file_asks_more : OneFile → (f : FileSeen) (before between now : Option (List (List ℕ))) → AreTransactionsAt held file (Ok f) → Grows before between (file ∷ []) → Asks (λ files. Then files f) held between now → Asks OfEntries held before now
+  file_asks_more once f before between now at first behind = record { told = so }
+    where
+      so : (files : Held) (asked : List (List ℕ)) (inputs : Inputs) → held ≡ Some files → OfEntries files asked inputs → GrowsPart before now asked
+      so files asked inputs h is =
+          let same : is.0 ≡ Some (Ok f) = transactions_of_same once (text_in files file) is.0 (Some (Ok f)) is.1 (at.told files h) in
+          let there = subst (λ (r : FileResult FileSeen). reads_file file r (Then files) asked inputs) same is.2 in
+          subst (GrowsPart before now) (sym there.1) (part_next before between now (file ∷ []) there.0 first (behind.told files there.0 inputs h there.2))
+
+  pub file_bad : (fault : FileFault) → AreTransactionsAt held file (Err fault) → Gives OfEntries held (BadFile file fault)
+  file_bad fault at = record { told = λ files h. (file ∷ [], (Some (Err fault), at.told files h, (refl, refl))) }
+
+  pub file_gives : (f : FileSeen) (inputs : Inputs) → AreTransactionsAt held file (Ok f) → Gives (λ files. Then files f) held inputs → Gives OfEntries held inputs
+  file_gives f inputs at behind = record {
+    told = λ files h.
+        let there = behind.told files h in
+        (file ∷ there.0, (Some (Ok f), at.told files h, (there.0, refl, there.1)));
+  }
+
+-- ---- a cost file and a transaction file
 
 module _ (costs file : List ℕ) (found : List CostFn → FileSeen → Inputs) (held : Option Held) where
   abbrev pub Entries : Held → Reads
@@ -102,7 +132,7 @@ module _ (costs file : List ℕ) (found : List CostFn → FileSeen → Inputs) (
 
   pub entries_ask : (table : List CostFn) (before between now : Option (List (List ℕ))) → AreCostsAt held costs (Ok table) → Grows before between (costs ∷ []) → GrowsPart between now (file ∷ []) → Asks Entries held before now
   entries_ask table before between now at first part =
-      asks_behind costs (λ files. costs_in files costs) (λ files table. reads_transactions files file (found table)) table held before between now at.told first (transactions_ask file (found table) held between now part)
+      asks_behind costs (λ files. costs_in files costs) (λ files table. reads_transactions files file (found table)) table held before between now at.told first (file_asks_first file (λ files f. ends_with (found table f)) held between now part)
 
   pub entries_bad_costs : (fault : FileFault) → AreCostsAt held costs (Err fault) → Gives Entries held (BadFile costs fault)
   entries_bad_costs fault at = gives_bad costs (λ files. costs_in files costs) (λ files table. reads_transactions files file (found table)) fault held at.told
@@ -110,12 +140,42 @@ module _ (costs file : List ℕ) (found : List CostFn → FileSeen → Inputs) (
   pub entries_bad_file : (table : List CostFn) (fault : FileFault) → AreCostsAt held costs (Ok table) → AreTransactionsAt held file (Err fault) → Gives Entries held (BadFile file fault)
   entries_bad_file table fault at there =
       gives_behind costs (λ files. costs_in files costs) (λ files table. reads_transactions files file (found table)) table held (BadFile file fault) at.told
-      (record { told = λ files h. (file ∷ [], (Some (Err fault), there.told files h, (refl, refl))) })
+      (file_bad file (λ files f. ends_with (found table f)) held fault there)
 
   pub entries_give : (table : List CostFn) (f : FileSeen) → AreCostsAt held costs (Ok table) → AreTransactionsAt held file (Ok f) → Gives Entries held (found table f)
   entries_give table f at there =
       gives_behind costs (λ files. costs_in files costs) (λ files table. reads_transactions files file (found table)) table held (found table f) at.told
-      (record { told = λ files h. (file ∷ [], (Some (Ok f), there.told files h, ([], refl, (refl, refl)))) })
+      (file_gives file (λ files f. ends_with (found table f)) held f (found table f) there (gives_end held (found table f)))
+
+-- ---- a trace file and a report
+
+module _ (trace report : List ℕ) (entries : ℕ) (found : List (List Claim) → List ℕ → Inputs) (held : Option Held) where
+  abbrev Audits : Held → Reads
+  Audits files = reads_audited files trace report entries found
+
+  abbrev BehindTrace : Held → List (List Claim) → Reads
+  BehindTrace files claims = reads_file report (text_in files report) (λ text. ends_with (found claims text))
+
+  pub audited_ask_first : (before now : Option (List (List ℕ))) → GrowsPart before now (trace ∷ []) → Asks Audits held before now
+  audited_ask_first before now grown = asks_one trace (λ files. claims_in files trace entries) BehindTrace held before now grown
+
+  pub audited_ask : (claims : List (List Claim)) (before between now : Option (List (List ℕ))) → AreClaimsAt held trace entries (Ok claims) → Grows before between (trace ∷ []) → GrowsPart between now (report ∷ []) → Asks Audits held before now
+  audited_ask claims before between now at first part =
+      asks_behind trace (λ files. claims_in files trace entries) BehindTrace claims held before between now at.told first
+      (asks_one report (λ files. text_in files report) (λ files text. ends_with (found claims text)) held between now part)
+
+  pub audited_bad_trace : (fault : FileFault) → AreClaimsAt held trace entries (Err fault) → Gives Audits held (BadFile trace fault)
+  audited_bad_trace fault at = gives_bad trace (λ files. claims_in files trace entries) BehindTrace fault held at.told
+
+  pub audited_bad_report : (claims : List (List Claim)) (fault : FileFault) → AreClaimsAt held trace entries (Ok claims) → IsTextAt held report (Err fault) → Gives Audits held (BadFile report fault)
+  audited_bad_report claims fault at there =
+      gives_behind trace (λ files. claims_in files trace entries) BehindTrace claims held (BadFile report fault) at.told
+      (gives_bad report (λ files. text_in files report) (λ files text. ends_with (found claims text)) fault held there.told)
+
+  pub audited_give : (claims : List (List Claim)) (text : List ℕ) → AreClaimsAt held trace entries (Ok claims) → IsTextAt held report (Ok text) → Gives Audits held (found claims text)
+  audited_give claims text at there =
+      gives_behind trace (λ files. claims_in files trace entries) BehindTrace claims held (found claims text) at.told
+      (gives_behind report (λ files. text_in files report) (λ files text. ends_with (found claims text)) text held (found claims text) there.told (gives_end held (found claims text)))
 
 -- ---- the source of `call`
 

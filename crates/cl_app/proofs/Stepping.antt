@@ -13,9 +13,9 @@ use Rattle.cl_entries.specs.declared.status.Status.TheVariants.{Done}
 use Rattle.cl_entries.specs.declared.status.Step.{Step}
 use Rattle.cl_entries.specs.Scripts.{DoesAll, DoesPart, Script, script_of}
 use Rattle.cl_entries.specs.Entries.{FirstAreDone, IsOnTheWay, IsRunning, LastEnds, Progress}
-use Rattle.cl_replies.specs.Inputs.{Inputs, NoCommand, MissingFile, BadFile, BadArgument, CallInputs, RunInputs, CheckInputs, ValueInputs, WireInputs, GenInputs, TraceInputs, RootInputs, ProveInputs, VerifyInputs}
+use Rattle.cl_replies.specs.Inputs.{Inputs, NoCommand, MissingFile, BadFile, BadArgument, CallInputs, RunInputs, CheckInputs, ValueInputs, WireInputs, GenInputs, TraceInputs, AuditInputs, RootInputs, ProveInputs, VerifyInputs}
 use Rattle.cl_replies.specs.Reports.{IsReply, IsScript}
-use Rattle.cl_traces.specs.Traces.{FirstTracesAreDone, IsSomeTracing, IsTracing, LastTraceEnds, Tracing}
+use Rattle.cl_traces.specs.Traces.{FirstTracesAreDone, IsTracing, LastTraceEnds, Tracing}
 use Rattle.cl_app.specs.declared.steps.Steps.{Steps}
 use Rattle.cl_app.specs.declared.steps.Steps.TheVariants.{Whole, Entries, Traces}
 use Rattle.cl_app.specs.Top.{DoesInputs, IsAt, IsSomewhere, OneScriptOfInputs, left_of, status_of}
@@ -33,6 +33,7 @@ replied (ValueInputs word) reply script is e = (reply, is, e)
 replied (WireInputs word) reply script is e = (reply, is, e)
 replied (GenInputs seed count) reply script is e = (reply, is, e)
 replied (TraceInputs table file) reply script is e = absurd is
+replied (AuditInputs table file claims report) reply script is e = (reply, is, e)
 replied (RootInputs table file) reply script is e = (reply, is, e)
 replied (ProveInputs table file number) reply script is e = (reply, is, e)
 replied (VerifyInputs root key value sides) reply script is e = (reply, is, e)
@@ -69,9 +70,6 @@ pub traces_next_so : {E : Type 0} (p q : Tracing) (s : Steps) (r : Result Step E
     → IfOk r (λ step. (inputs : Inputs) (steps : List Step) → IsAt inputs steps s → IsAt inputs (steps ++ step ∷ []) (Traces q))
 traces_next_so p q s (Ok step) is next = λ inputs steps at. traces_next p q step next inputs steps (subst (IsAt inputs steps) is at)
 traces_next_so p q s (Err e) is next = tt
-
-pub some_tracing : (p : Tracing) → IsSomewhere (Traces p) → IsSomeTracing p
-some_tracing p there = record { table = there.2.0; file = there.2.1; steps = there.1; tracing = there.2.3 }
 
 -- ---- the last, and the first ones
 

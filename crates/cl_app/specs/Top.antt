@@ -12,7 +12,7 @@ use Rattle.cl_tx.specs.Step.{committed}
 use Rattle.cl_report.specs.Lines.{report_from}
 use Rattle.cl_shapes.specs.declared.function.CostFn.{CostFn}
 use Rattle.cl_words.specs.Argument.{Arguments, Spell}
-use Rattle.cl_words.specs.Words.{Command, Call, Run, Check, Value, Wire, Gen, Trace, Root, Prove, Verify}
+use Rattle.cl_words.specs.Words.{Command, Call, Run, Check, Value, Wire, Gen, Trace, Audit, Root, Prove, Verify}
 use Rattle.cl_entries.specs.declared.status.Status.{Status}
 use Rattle.cl_entries.specs.declared.status.Status.TheVariants.{Done, Usage, BadFile, Refused, NotGood, BadWord}
 use Rattle.cl_entries.specs.Scripts.{Script, DoesAll, DoesPart, IsDoneTo, bytes_of, events_of, end_number, number_of, script_of}
@@ -90,6 +90,7 @@ EndsWith (Some (Value word)) status = status ≡ (value_reply word).status
 EndsWith (Some (Wire word)) status = (outcome : Reading) × Parses word outcome × (status ≡ (wire_reply outcome).status)
 EndsWith (Some (Gen seed count)) status = status ≡ Done
 EndsWith (Some (Trace costs file)) status = (status ≡ Done) ⊎ (status ≡ BadFile)
+EndsWith (Some (Audit costs file trace report)) status = (status ≡ Done) ⊎ (status ≡ BadFile) ⊎ (status ≡ Refused)
 EndsWith (Some (Root costs file)) status = (status ≡ Done) ⊎ (status ≡ BadFile)
 EndsWith (Some (Prove costs file number)) status = (status ≡ Done) ⊎ (status ≡ BadFile) ⊎ (status ≡ BadWord)
 EndsWith (Some (Verify root key value sides)) status = status ≡ (verify_reply root key value sides).status

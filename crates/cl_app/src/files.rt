@@ -1,9 +1,14 @@
 //! Reads single files.
-ghost use Rattle.std.specs.Prelude.{◌≡◌, ◌∷◌, [], Some, IfOk, OnOk};
+ghost use Rattle.std.specs.Prelude.{◌≡◌, ◌<◌, ◌≤◌, ◌^◌, ◌∷◌, [], Some, length, IfOk, OnOk};
+ghost use Rattle.std.specs.List.{All};
+ghost use Rattle.cl_ports.specs.declared.TheConstants.{MAX_FILE_BYTES};
 ghost use Rattle.cl_ports.specs.Growth.{Grows, GrowsPart};
 ghost use Rattle.cl_entries.specs.Scripts.{CountsRead};
-ghost use Rattle.cl_app.specs.Reading.{IsTextAt, AreCostsAt, AreTransactionsAt, IsTransactionsOf, costs_of};
+ghost use Rattle.cl_app.specs.Reading.{IsTextAt, AreClaimsAt, AreCostsAt, AreTransactionsAt, IsTransactionsOf, claims_by, claims_seen, costs_of};
+ghost use Rattle.cl_audit_results.specs.Audits.{claims_of};
 
+use cl_audit::Trace;
+use cl_audit_reply::read_traces;
 use cl_costs::CostTable;
 use cl_entries::Stop;
 use cl_file::Row;
@@ -27,6 +32,8 @@ pub(crate) fn read_text<F: Files>(
     files: &mut F,
 ) -> Result<Result<Row<u8>, FileFault>, Stop>
     ensures text { IfOk result (λ text. IsTextAt (F.held files.old) name.now text) }
+    ensures short { IfOk result
+        (λ text. IfOk text (λ bytes. length bytes ≤ MAX_FILE_BYTES)) }
     ensures kept { F.held files.new ≡ F.held files.old }
     ensures cause { CountsRead (F.faults files.old) (F.faults files.new) result }
     ensures asked { OnOk result (Grows (F.asked files.old) (F.asked files.new) (name.now ∷ [])) }
@@ -108,4 +115,51 @@ pub(crate) fn read_transactions<F: Files>(
 {
     let text = read_text(name, files)?;
     Ok(transactions_of(alloc, text)?)
+}
+
+/// The traces of so many entries that the bytes of a trace file hold. Nothing is left of the bytes.
+fn traces_of(
+    alloc: Global,
+    text: Result<Row<u8>, FileFault>,
+    entries: u32,
+) -> Result<Result<Vec<Trace>, FileFault>, NoMemory>
+    requires { IfOk text (λ bytes. length bytes ≤ MAX_FILE_BYTES) }
+    ensures claims { IfOk result (λ read. claims_seen read ≡ claims_by entries text) }
+    ensures count { IfOk result
+        (λ read. IfOk read (λ traces. length (claims_of traces.items) ≡ entries)) }
+    ensures few { IfOk result
+        (λ read. IfOk read (λ traces. All (λ c. length c < 2 ^ 32) (claims_of traces.items))) }
+{
+    let bytes = match text {
+        Ok(bytes) => bytes,
+        Err(fault) => return Ok(Err(fault)),
+    };
+    match read_traces(alloc, bytes.as_slice(), entries) {
+        Ok(traces) => Ok(Ok(traces)),
+        Err(Fault::Refused(fault)) => Ok(Err(FileFault::Traces(fault))),
+        Err(Fault::NoMemory) => Err(NoMemory),
+    }
+}
+
+/// The traces of so many entries that a trace file holds.
+#[tactic(auto, using(crate::proofs::Read::claims_are))]
+pub(crate) fn read_trace_file<F: Files>(
+    alloc: Global,
+    name: &str,
+    entries: u32,
+    files: &mut F,
+) -> Result<Result<Vec<Trace>, FileFault>, Stop>
+    ensures claims { IfOk result
+        (λ read. AreClaimsAt (F.held files.old) name.now entries (claims_seen read)) }
+    ensures count { IfOk result
+        (λ read. IfOk read (λ traces. length (claims_of traces.items) ≡ entries)) }
+    ensures few { IfOk result
+        (λ read. IfOk read (λ traces. All (λ c. length c < 2 ^ 32) (claims_of traces.items))) }
+    ensures kept { F.held files.new ≡ F.held files.old }
+    ensures cause { CountsRead (F.faults files.old) (F.faults files.new) result }
+    ensures asked { OnOk result (Grows (F.asked files.old) (F.asked files.new) (name.now ∷ [])) }
+    ensures part { GrowsPart (F.asked files.old) (F.asked files.new) (name.now ∷ []) }
+{
+    let text = read_text(name, files)?;
+    Ok(traces_of(alloc, text, entries)?)
 }

@@ -1,19 +1,23 @@
 //! Reads the inputs of a command: the files that its words name, in their order, up to the first that is bad.
-ghost use Rattle.std.specs.Prelude.{◌≡◌, ◌≢◌, ◌++◌, ◌∷◌, [], Ok, true, None, Some, IfOk, IfErr, List, ℕ, map, option_map};
+ghost use Rattle.std.specs.Prelude.{◌≡◌, ◌≢◌, ◌<◌, ◌^◌, ◌++◌, ◌∷◌, [], Ok, true, None, Some, IfOk, IfErr, List, ℕ, length, map, option_map};
+ghost use Rattle.std.specs.List.{All};
 ghost use Rattle.cl_ports.specs.Growth.{GrowsPart};
 ghost use Rattle.cl_shapes.specs.declared.function.CostFn.{CostFn};
-ghost use Rattle.cl_words.specs.Seen.{check_seen, command_seen};
+ghost use Rattle.cl_file.specs.Files.{FileSeen};
+ghost use Rattle.cl_words.specs.Seen.{audit_seen, check_seen, command_seen};
 ghost use Rattle.cl_words.specs.Sources.{are_sources, contract_at};
 ghost use Rattle.cl_words.specs.Words.{Call, IsOfTable, names_of, texts};
 ghost use Rattle.cl_entries.specs.Scripts.{CountsRead};
-ghost use Rattle.cl_replies.specs.Inputs.{CheckInputs, inputs_seen};
+ghost use Rattle.cl_audit_results.specs.Audits.{claims_of};
+ghost use Rattle.cl_replies.specs.Inputs.{AuditInputs, CheckInputs, inputs_seen};
 ghost use Rattle.cl_replies.specs.Checked.{source_at};
-ghost use Rattle.cl_app.specs.Reading.{AreInputs, Asks, AsksPart, CallSuits, CommandReads, EntriesSuit, Gives, KeepTable, Suits, ends_with, inputs_for, reads_called, reads_entries, reads_sources, sources_seen};
+ghost use Rattle.cl_app.specs.Reading.{AreInputs, Asks, AsksPart, AuditSuits, CallSuits, CommandReads, EntriesSuit, Gives, KeepTable, Suits, audited_seen, ends_with, inputs_for, reads_audited, reads_called, reads_entries, reads_file_of_entries, reads_sources, sources_seen};
 
-use crate::files::{BadFile, read_costs, read_text, read_transactions};
+use crate::files::{BadFile, read_costs, read_text, read_trace_file, read_transactions};
+use cl_audit::Trace;
 use cl_costs::CostTable;
 use cl_entries::Stop;
-use cl_file::Row;
+use cl_file::{Row, files_have_one_reading};
 use cl_forms::Version;
 use cl_ports::Files;
 use cl_replies::{FileFault, Inputs};
@@ -21,7 +25,7 @@ use cl_text::one_outcome;
 use cl_tx::TxFile;
 use cl_types::{Fault, NoMemory};
 use cl_values::Val;
-use cl_words::{CheckWords, Command, Source, contract_at, values};
+use cl_words::{AuditWords, CheckWords, Command, Source, contract_at, values};
 use std::alloc::Global;
 
 /// What the entries of a transaction file are read for.
@@ -161,6 +165,117 @@ fn read_check<'a, F: Files>(
     }
 }
 
+/// What `audit` compares with the entries of a transaction file.
+#[derive(Drop)]
+pub struct Audited {
+    pub traces: Vec<Trace>,
+    pub report: Row<u8>,
+}
+
+/// A trace file of so many entries and then a report, or the first that is bad.
+fn read_audited<'a, F: Files>(
+    alloc: Global,
+    words: &AuditWords<'a>,
+    entries: u32,
+    files: &mut F,
+) -> Result<Result<Audited, BadFile<'a>>, Stop>
+    ensures gives { IfOk result (λ read. (table : List CostFn) (file : FileSeen) → Gives
+        (λ held. reads_audited held words.now.trace.now words.now.report.now entries
+        (AuditInputs table file)) (F.held files.old) (audited_seen table file read)) }
+    ensures count { IfOk result (λ read. IfOk read
+        (λ audited. length (claims_of audited.traces.items) ≡ entries)) }
+    ensures few { IfOk result (λ read. IfOk read
+        (λ audited. All (λ c. length c < 2 ^ 32) (claims_of audited.traces.items))) }
+    ensures cause { CountsRead (F.faults files.old) (F.faults files.new) result }
+    ensures asked { (table : List CostFn) (file : FileSeen) → Asks
+        (λ held. reads_audited held words.now.trace.now words.now.report.now entries
+        (AuditInputs table file)) (F.held files.old) (F.asked files.old) (F.asked files.new) }
+    ensures names { GrowsPart (F.asked files.old) (F.asked files.new)
+        (words.now.trace.now ∷ words.now.report.now ∷ []) }
+{
+    let traces = match read_trace_file(alloc, words.trace, entries, files)? {
+        Ok(traces) => traces,
+        Err(fault) => {
+            return Ok(Err(BadFile {
+                name: words.trace,
+                fault,
+            }));
+        }
+    };
+    match read_text(words.report, files)? {
+        Ok(report) => Ok(Ok(Audited { traces, report })),
+        Err(fault) => Ok(Err(BadFile {
+            name: words.report,
+            fault,
+        })),
+    }
+}
+
+/// A transaction file, its trace file and then its report, behind a cost file.
+fn read_entries_audited<'a, F: Files>(
+    alloc: Global,
+    words: &AuditWords<'a>,
+    costs: CostTable,
+    files: &mut F,
+) -> Result<Inputs<'a>, Stop>
+    ensures gives { IfOk result (λ inputs. Gives
+        (λ held. reads_file_of_entries held words.now.file.now (λ f.
+        reads_audited held words.now.trace.now words.now.report.now (length f.entries)
+        (AuditInputs costs f))) (F.held files.old) (inputs_seen inputs)) }
+    ensures suits { IfOk result (λ inputs. AuditSuits (inputs_seen inputs)) }
+    ensures table { IfOk result (λ inputs. KeepTable (inputs_seen inputs)) }
+    ensures cause { CountsRead (F.faults files.old) (F.faults files.new) result }
+    ensures asked { Asks (λ held. reads_file_of_entries held words.now.file.now (λ f.
+        reads_audited held words.now.trace.now words.now.report.now (length f.entries)
+        (AuditInputs costs f))) (F.held files.old) (F.asked files.old) (F.asked files.new) }
+    ensures names { GrowsPart (F.asked files.old) (F.asked files.new)
+        (words.now.file.now ∷ words.now.trace.now ∷ words.now.report.now ∷ []) }
+{
+    files_have_one_reading();
+    let file = match read_transactions(alloc, words.file, files)? {
+        Ok(file) => file,
+        Err(fault) => {
+            return Ok(Inputs::BadFile {
+                name: words.file,
+                fault,
+            });
+        }
+    };
+    match read_audited(alloc, words, file.entries().len() as u32, files)? {
+        Ok(Audited { traces, report }) => Ok(Inputs::Audit {
+            costs,
+            file,
+            traces,
+            report,
+        }),
+        Err(BadFile { name, fault }) => Ok(Inputs::BadFile { name, fault }),
+    }
+}
+
+/// A cost file, a transaction file, its trace file and then its report.
+fn read_audit<'a, F: Files>(
+    alloc: Global,
+    words: &AuditWords<'a>,
+    files: &mut F,
+) -> Result<Inputs<'a>, Stop>
+    ensures inputs { IfOk result (λ inputs. AreInputs (Some (audit_seen words.now))
+        (F.held files.old) (inputs_seen inputs)) }
+    ensures table { IfOk result (λ inputs. KeepTable (inputs_seen inputs)) }
+    ensures cause { CountsRead (F.faults files.old) (F.faults files.new) result }
+    ensures asked { AsksPart (Some (audit_seen words.now)) (F.held files.old) (F.asked files.old)
+        (F.asked files.new) }
+    ensures names { GrowsPart (F.asked files.old) (F.asked files.new)
+        (names_of (Some (audit_seen words.now))) }
+{
+    match read_costs(alloc, words.costs, files)? {
+        Ok(costs) => read_entries_audited(alloc, words, costs, files),
+        Err(fault) => Ok(Inputs::BadFile {
+            name: words.costs,
+            fault,
+        }),
+    }
+}
+
 /// The source of `call`, whose arguments are these values.
 fn read_called<'a, F: Files>(
     file: &'a str,
@@ -249,6 +364,7 @@ fn read_command<'a, F: Files>(
         Command::Trace { costs, file } => {
             read_entries(alloc, Purpose::Values, *costs, *file, files)
         }
+        Command::Audit(words) => read_audit(alloc, words, files),
         Command::Root { costs, file } => {
             read_entries(alloc, Purpose::StateRoot, *costs, *file, files)
         }

@@ -15,6 +15,7 @@ pub fn scripts_are_one()
     cl_rules::texts_have_one_order();
     cl_entries::a_file_has_one_script();
     cl_traces::a_file_has_one_trace_script();
+    cl_audit_reply::a_file_has_one_audit_reply();
     cl_root::states_have_one_root();
     cl_root::rows_have_keys_of_their_own();
 }
@@ -46,6 +47,7 @@ pub fn each_command_has_a_script()
     cl_results::each_file_has_results();
     cl_entries::runs_are_sound();
     cl_traces::each_file_has_a_trace_script();
+    cl_audit_reply::each_file_has_an_audit_reply();
     cl_node_sound::nodes_stay_sound();
     cl_results::each_state_has_a_text();
 }

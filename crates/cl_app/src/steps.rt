@@ -10,6 +10,7 @@ ghost use Rattle.cl_replies.specs.Reports.{IsReply, IsScript};
 ghost use Rattle.cl_app.specs.Reading.{KeepTable};
 ghost use Rattle.cl_app.specs.Top.{DoesInputs, HasReply, IsAt, IsSomewhere, left_of, status_of};
 
+use cl_audit_reply::audit_reply;
 use cl_costs::CostTable;
 use cl_entries::{EntrySteps, Reply, Status, Step, Stop};
 use cl_file::Row;
@@ -96,6 +97,12 @@ fn reply_to(alloc: Global, inputs: Inputs<'_>) -> Result<Reply, NoMemory>
         Inputs::Value(word) => value_reply(alloc, word.as_bytes()),
         Inputs::Wire(word) => reply_to_wire(alloc, word),
         Inputs::Gen { seed, count } => gen_reply(alloc, seed, count),
+        Inputs::Audit {
+            costs,
+            file,
+            traces,
+            report,
+        } => audit_reply(alloc, &costs, &file, traces.as_slice(), report.as_slice()),
         Inputs::Root { costs, file } => root_reply(alloc, &costs, &file),
         Inputs::Prove {
             costs,

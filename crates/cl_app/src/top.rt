@@ -93,8 +93,8 @@ fn act<F: Files, K: Sink, L: Listener>(
 /// | 2 | the words are not of the table |
 /// | 3 | a read failed; nothing is written |
 /// | 4 | a write failed; a first part of the answer is written |
-/// | 5 | a file that the words name is too long, no cost file or no transaction file |
-/// | 6 | the deployment of `call` is refused, or a contract of `check`, or `verify` says no |
+/// | 5 | a file that the words name is too long, no cost, transaction or trace file |
+/// | 6 | a contract of `check` is refused, the deployment of `call`, or `audit` or `verify` says no |
 /// | 7 | its deployment aborts, or its call is an err, aborted or refused |
 /// | 8 | a word is no value or isn't in hexadecimal digits, or `prove` finds no row |
 /// | 9 | memory ran out |

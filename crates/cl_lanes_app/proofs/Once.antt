@@ -12,7 +12,7 @@ use Rattle.cl_tx.specs.Nodes.{NodeSeen}
 use Rattle.cl_tx.specs.Step.{first_node, schedule_of}
 use Rattle.cl_report.specs.Lines.{report_from}
 use Rattle.cl_lanes.specs.declared.moves.Move.{Move}
-use Rattle.cl_lanes.specs.Lanes.{AllMove, HeldSeen, ProgressSeen, first_progress}
+use Rattle.cl_lanes.specs.Lanes.{AllMove, ProgressSeen, first_progress}
 use Rattle.cl_lanes.specs.Laws.{MovesHaveOneResult}
 use Rattle.cl_lanes.specs.Same.{SameLanes, SameProgress}
 use Rattle.cl_entries.specs.declared.status.Reply.{Reply}

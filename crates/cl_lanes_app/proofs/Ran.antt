@@ -5,7 +5,7 @@ use Rattle.cl_costs.specs.Schedules.{ScheduleSeen}
 use Rattle.cl_file.specs.Files.{FileSeen}
 use Rattle.cl_tx.specs.Step.{first_node, schedule_of}
 use Rattle.cl_report.specs.Lines.{report_from}
-use Rattle.cl_engine.specs.Seen.{Seen}
+use Rattle.cl_nodes.specs.Seen.{Seen}
 use Rattle.cl_lanes.specs.declared.moves.Move.{Move}
 use Rattle.cl_lanes.specs.InTurn.{EndsAs, RanAllOf}
 use Rattle.cl_lanes.specs.Lanes.{ProgressOf, ProgressSeen}

@@ -1,5 +1,5 @@
 -- A request from its words to its reply.
-use Rattle.std.proofs.Common.{◌≡◌, ◌≢◌, inl, inr, ◌⊎◌, ℕ, List, [], ◌++◌, Option, Some, None, Result, Ok, Err, IfErr, IfOk, refl, sym, ap, subst, ◌∙◌, append-nil, arith}
+use Rattle.std.proofs.Common.{◌≡◌, ◌≢◌, inl, inr, ◌⊎◌, ℕ, List, [], Option, Some, None, Result, Ok, Err, IfErr, IfOk, refl, sym, ap, subst, append-nil, arith}
 use Rattle.cl_ports.specs.Files.{Held}
 use Rattle.cl_ports.specs.Growth.{Grows, GrowsPart}
 use Rattle.cl_words.specs.Words.{IsOfTable}
@@ -15,7 +15,7 @@ use Rattle.cl_app.proofs.Ends.{two_is_usage, usage_is_two}
 use Rattle.cl_app.proofs.Results.{if_own}
 use Rattle.cl_lanes_app.specs.Replying.{CanHave, WritesAll, WritesSome}
 use Rattle.cl_lanes_app.specs.Reports.{IsLanesReply, usage_reply}
-use Rattle.cl_lanes_app.specs.Top.{HasLanesReply, WritesFirst, WritesPart, WritesReply}
+use Rattle.cl_lanes_app.specs.Top.{WritesPart, WritesReply}
 use Rattle.cl_lanes_app.specs.Words.{Request, run_of}
 
 -- ---- what is written

@@ -6,7 +6,7 @@ use Rattle.cl_file.specs.Files.{FileSeen}
 use Rattle.cl_tx.specs.Nodes.{NodeSeen}
 use Rattle.cl_tx.specs.Step.{Runs, schedule_of}
 use Rattle.cl_report.specs.Lines.{report_from}
-use Rattle.cl_engine.specs.Seen.{Seen}
+use Rattle.cl_nodes.specs.Seen.{Seen}
 use Rattle.cl_lanes.specs.Lanes.{ProgressOf, ProgressSeen}
 use Rattle.cl_lanes_app.specs.Reports.{AreDrawn, counts_line}
 use Rattle.cl_lanes_app.specs.Words.{Request}

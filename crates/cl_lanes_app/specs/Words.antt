@@ -1,5 +1,5 @@
 -- What the words of `clarity_lanes` ask for.
-use Rattle.std.specs.Prelude.{◌≡◌, ◌<◌, ◌≤◌, ◌-◌, ◌^◌, ℕ, false, List, [], ◌∷◌, Option, Some, None, option_map, if◌then◌else◌, ◌==◌}
+use Rattle.std.specs.Prelude.{◌≤◌, ◌-◌, ◌^◌, ℕ, false, List, [], ◌∷◌, Option, Some, None, option_map, if◌then◌else◌, ◌==◌}
 use Rattle.cl_words.specs.Numbers.{number_within}
 use Rattle.cl_words.specs.Words.{Command, Run}
 use Rattle.cl_lanes_app.specs.declared.words.Request.{Request as RequestOfCode}

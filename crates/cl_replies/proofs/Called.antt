@@ -1,6 +1,6 @@
 -- Two entries from the first node on, and their report.
 use Rattle.std.proofs.Common.{◌≡◌, ℕ, ◌<◌, ◌≤◌, List, [], ◌∷◌, ◌++◌, sym, ap, refl, ◌∙◌, subst, append-nil, arith}
-use Rattle.std.proofs.lemmas.List.Elements.{All-nil, All-cons}
+use Rattle.std.proofs.lemmas.List.Elements.{All-nil}
 use Rattle.cl_c32.specs.declared.principal.Principal.{Principal}
 use Rattle.cl_values.specs.Valid.{IsPrincipal}
 use Rattle.cl_costs.specs.Schedules.{ScheduleSeen, always}
@@ -9,9 +9,8 @@ use Rattle.cl_file.specs.Entries.{height_after, NeverFall}
 use Rattle.cl_file.specs.declared.entry.Entry.{Entry}
 use Rattle.cl_tx.specs.Laws.{HeightIsLast}
 use Rattle.cl_tx.specs.Step.{Runs}
-use Rattle.cl_node_sound.specs.Sound.{HasParts}
-use Rattle.cl_engine.specs.Seen.{Seen}
-use Rattle.cl_engine.specs.Laws.{OneNode}
+use Rattle.cl_nodes.specs.Seen.{Seen}
+use Rattle.cl_nodes.specs.Laws.{OneNode}
 use Rattle.cl_report.specs.Lines.{lines_of}
 use Rattle.cl_entries.specs.declared.entries.End.{End}
 use Rattle.cl_entries.specs.declared.status.Reply.{Reply}

@@ -18,10 +18,9 @@ use Rattle.cl_file.specs.Entries.{height_after}
 use Rattle.cl_tx.specs.declared.outcome.TxResult.{TxResult}
 use Rattle.cl_tx.specs.Laws.{OneRun}
 use Rattle.cl_tx.specs.Nodes.{NodeSeen}
-use Rattle.cl_tx.specs.Step.{Runs}
-use Rattle.cl_engine.specs.Seen.{Seen}
-use Rattle.cl_engine.specs.Laws.{OneNode}
-use Rattle.cl_engine.specs.Steps.{Makes}
+use Rattle.cl_nodes.specs.Seen.{Seen}
+use Rattle.cl_nodes.specs.Laws.{OneNode}
+use Rattle.cl_nodes.specs.Steps.{Makes}
 use Rattle.cl_workload.specs.Workload.{deployment, mint, transfer, next_number, drawn, call_for, number_after, calls, workload}
 use Rattle.cl_workload.specs.Summary.{Counts, counts_of, supply_of, balance_of, coins, summary_line, IsSummary, AreSmall, WorkloadsAreSmall}
 use Rattle.cl_entries.specs.Entries.{IsFirst, Reaches}

@@ -22,6 +22,7 @@ use Rattle.cl_contracts.specs.declared.contract.Contract.{Contract}
 use Rattle.cl_contracts.specs.Seen.{IsIndexed, contract_under, forms_of}
 use Rattle.cl_contracts.specs.Standings.{AllStand, AreStanding, StandsAfter, definitions_in_order}
 use Rattle.cl_contracts.specs.Known.{DefinedAsKept}
+use Rattle.cl_contracts.proofs.Fitting.{standing_push}
 use Rattle.cl_tx.specs.declared.outcome.Bounds.{Bounds}
 use Rattle.cl_tx.specs.Nodes.{Told}
 use Rattle.cl_tx.specs.Seen.{SourceBreak}
@@ -33,8 +34,8 @@ use Rattle.cl_replies.specs.Kept.{Contracts, IsAccepted, IsBounded, IsChecked, I
 use Rattle.cl_entries.specs.declared.status.Status.TheVariants.{Done, Refused}
 use Rattle.cl_words.specs.Seen.{text_in}
 use Rattle.cl_words.specs.Sources.{are_sources, contract_at, has_name, have_one_name, names_differ, source_name}
-use Rattle.cl_engine.specs.Deploying.{type_returned}
-use Rattle.cl_engine.proofs.Knowing.{standing_push, types_told}
+use Rattle.cl_nodes.specs.Accepting.{type_returned}
+use Rattle.cl_nodes.proofs.Knowing.{types_told}
 
 -- ---- one source
 

@@ -1,5 +1,5 @@
 -- Entries of a file one after another, whose results aren't kept, and the replies to `root` and `prove` behind them.
-use Rattle.std.proofs.Common.{◌≡◌, ℕ, ◌+◌, ◌<◌, ◌≤◌, List, [], ◌∷◌, ◌++◌, length, take, get_or, refl, sym, ap, subst, ◌∙◌, arith}
+use Rattle.std.proofs.Common.{◌≡◌, ℕ, ◌+◌, ◌<◌, ◌≤◌, List, [], ◌∷◌, ◌++◌, length, take, get_or, sym, ap, subst, ◌∙◌, arith}
 use Rattle.std.specs.List.{All}
 use Rattle.std.proofs.lemmas.List.{take_all, take_more}
 use Rattle.cl_c32.specs.declared.principal.Principal.{Principal}
@@ -15,9 +15,9 @@ use Rattle.cl_tx.specs.declared.outcome.TxResult.{TxResult}
 use Rattle.cl_tx.specs.Nodes.{NodeSeen}
 use Rattle.cl_tx.specs.Step.{AllStep, first_node, schedule_of}
 use Rattle.cl_node_sound.specs.Sound.{HasParts}
-use Rattle.cl_engine.specs.Seen.{Seen}
-use Rattle.cl_engine.specs.Laws.{OneNode}
-use Rattle.cl_engine.specs.Steps.{Makes}
+use Rattle.cl_nodes.specs.Seen.{Seen}
+use Rattle.cl_nodes.specs.Laws.{OneNode}
+use Rattle.cl_nodes.specs.Steps.{Makes}
 use Rattle.cl_root.specs.HashTree.{IsRoot}
 use Rattle.cl_entries.specs.declared.status.Reply.{Reply}
 use Rattle.cl_entries.specs.Entries.{IsFirst, Reaches}

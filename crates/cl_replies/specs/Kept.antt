@@ -11,7 +11,7 @@ use Rattle.cl_rules.specs.FormRules.{Defined}
 use Rattle.cl_rules.specs.Acceptance.{Accepted, Bounded, FirstBreakOf, NoneWrites, TypedAs, known_of}
 use Rattle.cl_contracts.specs.declared.checked.Checked.{Checked}
 use Rattle.cl_contracts.specs.declared.contract.Contract.{Contract}
-use Rattle.cl_contracts.specs.Seen.{AreIndexed, IsIndexed, contract_under, forms_of}
+use Rattle.cl_contracts.specs.Seen.{IsIndexed, contract_under, forms_of}
 use Rattle.cl_contracts.specs.Standings.{AreStanding, StandsAfter}
 use Rattle.cl_tx.specs.declared.outcome.Bounds.{Bounds}
 use Rattle.cl_tx.specs.Seen.{SourceBreak}
@@ -45,7 +45,7 @@ use Rattle.cl_tx.specs.declared.outcome.TxResult.{TxResult}
 use Rattle.cl_tx.specs.Nodes.{NodeSeen}
 use Rattle.cl_tx.specs.Step.{Runs}
 use Rattle.cl_node_sound.specs.Sound.{FileHasParts}
-use Rattle.cl_engine.specs.Seen.{Seen}
+use Rattle.cl_nodes.specs.Seen.{Seen}
 use Rattle.cl_workload.specs.Workload.{deployment as workload_deployment, number_after, calls}
 use Rattle.cl_workload.specs.Summary.{Counts, counts_of}
 use Rattle.cl_report.specs.Lines.{lines_of}
@@ -98,8 +98,7 @@ Judges table before source (judged.Refused text) after = IsRefused table before 
 
 -- contracts with the bounds of their functions under a table
 pub record Stand (table : CostTable) (accepted : AcceptedContracts) : Type 0 where
-  pub indexed : AreIndexed accepted.deployed
-  pub known : AreBounds table accepted.deployed.contracts.entries accepted.known
+  pub known : AreBounds table accepted.deployed.contracts accepted.known
 
 -- ---- one source after another
 

@@ -40,7 +40,8 @@ use Rattle.cl_entries.specs.declared.status.Stop.TheVariants.{ReadFailed}
 use Rattle.cl_entries.specs.Entries.{end_of, AreSound, IsRun}
 use Rattle.cl_entries.specs.Scripts.{Script, script_of}
 use Rattle.cl_traces.specs.Traces.{IsTraceScript}
-use Rattle.cl_replies.specs.Inputs.{Inputs, NoCommand, MissingFile, BadFile, BadArgument, CallInputs, RunInputs, CheckInputs, ValueInputs, WireInputs, GenInputs, TraceInputs, RootInputs, ProveInputs, VerifyInputs, bad_file_reply}
+use Rattle.cl_audit_reply.specs.Verdicts.{IsAuditReply}
+use Rattle.cl_replies.specs.Inputs.{Inputs, NoCommand, MissingFile, BadFile, BadArgument, CallInputs, RunInputs, CheckInputs, ValueInputs, WireInputs, GenInputs, TraceInputs, AuditInputs, RootInputs, ProveInputs, VerifyInputs, bad_file_reply}
 use Rattle.cl_replies.specs.Spelling.{no_value_reply, value_reply, wire_reply, verify_reply}
 use Rattle.cl_replies.specs.Checked.{IsReport}
 
@@ -201,6 +202,7 @@ IsReply (ValueInputs word) reply = reply ≡ value_reply word
 IsReply (WireInputs word) reply = IsWireReply word reply
 IsReply (GenInputs seed count) reply = IsGenerated seed count reply
 IsReply (TraceInputs table file) reply = ⊥
+IsReply (AuditInputs table file claims report) reply = IsAuditReply table file claims report reply
 IsReply (RootInputs table file) reply = IsRootReply table file reply
 IsReply (ProveInputs table file number) reply = IsProveReply table file number reply
 IsReply (VerifyInputs root key value sides) reply = reply ≡ verify_reply root key value sides

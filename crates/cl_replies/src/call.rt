@@ -13,6 +13,7 @@ use cl_costs::{CostTable, Schedule};
 use cl_engine::{Node, nodes_are_known_in_one_way};
 use cl_entries::{End, Ended, Reply, Status, bytes_reply, concat_bytes, end_entry, runs_are_sound};
 use cl_forms::Version;
+use cl_keyed::HashKey;
 use cl_post::Mode;
 use cl_tx::{Common, Conditions, Entry, Row, heights_are_those_of_the_file};
 use cl_types::NoMemory;
@@ -160,12 +161,17 @@ fn report_on(
     Ok(report(both)?)
 }
 
-/// The report of the two entries.
-fn report_of(alloc: Global, first: &Entry, second: &Entry) -> Result<Reply, NoMemory>
+/// The report of the two entries, on a node whose tables hash by the key.
+fn report_of(
+    alloc: Global,
+    hash_key: HashKey,
+    first: &Entry,
+    second: &Entry,
+) -> Result<Reply, NoMemory>
     requires { NeverFall 0 (first.now ∷ second.now ∷ []) }
     ensures { IfOk result (IsReportOf first.now second.now) }
 {
-    let mut node = Node::genesis(alloc, Vec::new(alloc))?;
+    let mut node = Node::genesis_with_hash_key(alloc, hash_key, Vec::new(alloc))?;
     let reply = report_on(alloc, &mut node, first, second);
     drop(node);
     reply
@@ -189,8 +195,9 @@ fn reply_for(
     requires { NeverFall 0 (deployment (text_of source version) ∷ second.now ∷ []) }
     ensures { IfOk result (IsReportOf (deployment (text_of source version)) second.now) }
 {
+    let hash_key = HashKey::of(source.as_slice());
     let first = deployment(alloc, source, version);
-    report_of(alloc, &first, second)
+    report_of(alloc, hash_key, &first, second)
 }
 
 /// The reply to `call` for a source of this version, the name of a function and its arguments.

@@ -1,9 +1,11 @@
 //! The inputs of a command, and the replies to words that are no command and to files that are bad.
 ghost use Rattle.std.specs.Prelude.{◌≡◌, ◌++◌, IfOk};
 ghost use Rattle.std.specs.Str.{encode_utf8_all};
-ghost use Rattle.cl_replies.specs.Inputs.{bad_file_reply, cost_fault_text, fault_text, transactions_fault_text};
+ghost use Rattle.cl_replies.specs.Inputs.{bad_file_reply, cost_fault_text, fault_text, line_fault_text, transactions_fault_text};
 ghost use Rattle.cl_replies.specs.Reports.{usage_reply};
 
+use cl_audit::Trace;
+use cl_claims::BadLine;
 use cl_costs::{CostRefusal, CostTable};
 use cl_entries::{Reply, Status, bytes_reply};
 use cl_file::{Row, TxRefusal};
@@ -24,6 +26,8 @@ pub enum FileFault {
     Costs(CostRefusal),
     /// It is no transaction file.
     Transactions(TxRefusal),
+    /// It is no trace file.
+    Traces(BadLine),
 }
 
 /// The inputs of a command: what its words say, with what its files hold.
@@ -62,6 +66,12 @@ pub enum Inputs<'a> {
     Trace {
         costs: CostTable,
         file: TxFile,
+    },
+    Audit {
+        costs: CostTable,
+        file: TxFile,
+        traces: Vec<Trace>,
+        report: Row<u8>,
     },
     Root {
         costs: CostTable,
@@ -140,6 +150,15 @@ fn write_transactions_fault(out: &mut Vec<u8>, fault: &TxRefusal) -> Result<(), 
     }
 }
 
+/// The line of a trace file that isn't in the format.
+fn write_line_fault(out: &mut Vec<u8>, fault: &BadLine) -> Result<(), AllocError>
+    ensures { IfOk result (λ _. out.new.items ≡ out.old.items ++ line_fault_text fault.now) }
+{
+    let line = fault.line;
+    let text = format!(in *out.allocator(); "BadLine {line}")?;
+    out.extend_from_slice(text.as_bytes())
+}
+
 fn write_fault(out: &mut Vec<u8>, fault: &FileFault) -> Result<(), AllocError>
     ensures { IfOk result (λ _. out.new.items ≡ out.old.items ++ fault_text fault.now) }
 {
@@ -147,6 +166,7 @@ fn write_fault(out: &mut Vec<u8>, fault: &FileFault) -> Result<(), AllocError>
         FileFault::TooLong => out.extend_from_slice(b"TooLong"),
         FileFault::Costs(fault) => write_cost_fault(out, fault),
         FileFault::Transactions(fault) => write_transactions_fault(out, fault),
+        FileFault::Traces(fault) => write_line_fault(out, fault),
     }
 }
 

@@ -1,21 +1,22 @@
 //! Sources one after another, each after those before it that were accepted.
 ghost use Rattle.std.specs.Prelude.{◌≡◌, ◌++◌, [], None, Some, IfOk, filter_map};
 ghost use Rattle.cl_costs.specs.Tables.{function_of};
-ghost use Rattle.cl_contracts.specs.Seen.{AreIndexed, IsIndexed, contract_under};
+ghost use Rattle.cl_contracts.specs.Seen.{contract_under};
+ghost use Rattle.cl_contracts.specs.Standings.{FitsAfter};
 ghost use Rattle.cl_rules.specs.Context.{CostTable as Table};
 ghost use Rattle.cl_bound.specs.Known.{AreBounds, AreBoundsOf};
-ghost use Rattle.cl_check.specs.Checking.{IsKnown};
 ghost use Rattle.cl_lines.specs.Checks.{accepted_lines, refused_line};
 ghost use Rattle.cl_replies.specs.Checked.{IsReport};
-ghost use Rattle.cl_engine.specs.Deploying.{type_returned};
+ghost use Rattle.cl_nodes.specs.Accepting.{type_returned};
 ghost use Rattle.cl_replies.specs.Kept.{AreApart, AreOfPaths, IsBounded, IsChecked, IsKept, Judges, Stand};
 
 use cl_bound::{ContractBounds, KnownBounds, Priced, bound};
 use cl_check::check;
-use cl_contracts::{Checked, Contract, Deployed, what_callers_know};
+use cl_contracts::{Checked, Deployed, what_callers_know};
 use cl_costs::CostTable;
 use cl_engine::types_of;
 use cl_entries::{Reply, Status, bytes_reply};
+use cl_keyed::HashKey;
 use cl_lines::{accepted_lines, refused_line};
 use cl_sexpr::Refusal;
 use cl_tx::{Bounds, SourceRefusal};
@@ -44,8 +45,9 @@ fn accepted_text(alloc: Global, checked: &Checked, bounds: Bounds) -> Result<Vec
         ≡ accepted_lines checked.now.principal (Some bounds)
         (filter_map type_returned checked.now.definitions.items)) }
 {
-    let types = types_of(alloc, &checked.definitions)?;
-    accepted_lines(alloc, &checked.principal, &Some(bounds), &types)
+    let own = checked.parts();
+    let types = types_of(alloc, &own.definitions)?;
+    accepted_lines(alloc, &own.principal, &Some(bounds), &types)
 }
 
 /// The line of a source that breaks a rule.
@@ -64,26 +66,21 @@ fn keep(
     checked: Checked,
     contract: ContractBounds,
 ) -> Result<(), NoMemory>
-    requires indexed { AreIndexed accepted.old.deployed }
-    requires names { IsIndexed checked }
-    requires new { contract_under checked.principal accepted.old.deployed.contracts.entries
-        ≡ None }
+    requires new { contract_under checked.principal accepted.old.deployed.contracts ≡ None }
+    requires fits { FitsAfter accepted.old.deployed checked }
     ensures kept { IfOk result
-        (λ _. IsKept accepted.old.deployed.contracts.entries checked
-        accepted.new.deployed.contracts.entries) }
+        (λ _. IsKept accepted.old.deployed.contracts checked
+        accepted.new.deployed.contracts) }
     ensures known { IfOk result
         (λ _. (table : Table) →
-        AreBounds table accepted.old.deployed.contracts.entries accepted.old.known →
-        AreBoundsOf table accepted.old.deployed.contracts.entries checked contract →
-        AreBounds table accepted.new.deployed.contracts.entries accepted.new.known) }
-    ensures indexed { IfOk result (λ _. AreIndexed accepted.new.deployed) }
+        AreBounds table accepted.old.deployed.contracts accepted.old.known →
+        AreBoundsOf table accepted.old.deployed.contracts checked contract →
+        AreBounds table accepted.new.deployed.contracts accepted.new.known) }
 {
     accepted.deployed.reserve()?;
     accepted.known.reserve()?;
-    accepted.deployed.add(Contract {
-        checked,
-        constants: IndexMap::new(alloc),
-    });
+    let constants = IndexMap::with_hasher(alloc, checked.hash_key());
+    accepted.deployed.add(checked, constants);
     accepted.known.add(contract);
     Ok(())
 }
@@ -98,16 +95,15 @@ fn accept(
     costs: &CostTable,
 ) -> Result<Judged, NoMemory>
     requires stand { Stand (function_of costs.now) accepted.old }
-    requires new { contract_under source.now.principal accepted.old.deployed.contracts.entries
-        ≡ None }
-    requires checked { IsChecked accepted.old.deployed.contracts.entries source.now checked }
+    requires new { contract_under source.now.principal accepted.old.deployed.contracts ≡ None }
+    requires checked { IsChecked accepted.old.deployed.contracts source.now checked }
     requires bounded { IsBounded (function_of costs.now)
-        accepted.old.deployed.contracts.entries checked priced.bounds }
-    requires kept { AreBoundsOf (function_of costs.now) accepted.old.deployed.contracts.entries
+        accepted.old.deployed.contracts checked priced.bounds }
+    requires kept { AreBoundsOf (function_of costs.now) accepted.old.deployed.contracts
         checked priced.contract }
     ensures judged { IfOk result
-        (λ judged. Judges (function_of costs.now) accepted.old.deployed.contracts.entries
-        source.now judged accepted.new.deployed.contracts.entries) }
+        (λ judged. Judges (function_of costs.now) accepted.old.deployed.contracts
+        source.now judged accepted.new.deployed.contracts) }
     ensures stand { IfOk result (λ _. Stand (function_of costs.now) accepted.new) }
 {
     what_callers_know();
@@ -125,12 +121,11 @@ fn judge_bounds(
     costs: &CostTable,
 ) -> Result<Judged, NoMemory>
     requires stand { Stand (function_of costs.now) accepted.old }
-    requires new { contract_under source.now.principal accepted.old.deployed.contracts.entries
-        ≡ None }
-    requires checked { IsChecked accepted.old.deployed.contracts.entries source.now checked }
+    requires new { contract_under source.now.principal accepted.old.deployed.contracts ≡ None }
+    requires checked { IsChecked accepted.old.deployed.contracts source.now checked }
     ensures judged { IfOk result
-        (λ judged. Judges (function_of costs.now) accepted.old.deployed.contracts.entries
-        source.now judged accepted.new.deployed.contracts.entries) }
+        (λ judged. Judges (function_of costs.now) accepted.old.deployed.contracts
+        source.now judged accepted.new.deployed.contracts) }
     ensures stand { IfOk result (λ _. Stand (function_of costs.now) accepted.new) }
 {
     match bound(alloc, &checked, &accepted.known, costs) {
@@ -150,12 +145,10 @@ fn judge(
     costs: &CostTable,
 ) -> Result<Judged, NoMemory>
     requires stand { Stand (function_of costs.now) accepted.old }
-    requires knows { IsKnown accepted.old.deployed }
-    requires new { contract_under source.now.principal accepted.old.deployed.contracts.entries
-        ≡ None }
+    requires new { contract_under source.now.principal accepted.old.deployed.contracts ≡ None }
     ensures judged { IfOk result
-        (λ judged. Judges (function_of costs.now) accepted.old.deployed.contracts.entries
-        source.now judged accepted.new.deployed.contracts.entries) }
+        (λ judged. Judges (function_of costs.now) accepted.old.deployed.contracts
+        source.now judged accepted.new.deployed.contracts) }
     ensures stand { IfOk result (λ _. Stand (function_of costs.now) accepted.new) }
 {
     let text = source.text.as_slice();
@@ -166,7 +159,10 @@ fn judge(
         text,
         source.version,
     ) {
-        Ok(checked) => judge_bounds(alloc, accepted, source, checked, costs),
+        Ok(checked) => {
+            checked.is_well_formed();
+            judge_bounds(alloc, accepted, source, checked, costs)
+        }
         Err(Fault::Refused(refusal)) => {
             Ok(Judged::Refused(refused_text(alloc, source, refusal)?))
         }
@@ -191,7 +187,7 @@ fn judge_all(
     costs: &CostTable,
 ) -> Result<Status, NoMemory>
     requires apart { AreApart sources.now }
-    requires none { accepted.old.deployed.contracts.entries ≡ [] }
+    requires none { accepted.old.deployed.contracts ≡ [] }
     requires stand { Stand (function_of costs.now) accepted.old }
     requires empty { text.old.items ≡ [] }
     ensures { IfOk result
@@ -211,14 +207,24 @@ fn judge_all(
     Ok(Status::Done)
 }
 
+/// The key of the texts of sources.
+fn hash_key_of(sources: &[Source]) -> HashKey {
+    let mut hash_key = HashKey::FIXED;
+    for source in sources {
+        hash_key = hash_key.with_bytes(source.text.as_slice());
+    }
+    hash_key
+}
+
 /// The report of sources of different contracts, up to the first that is refused.
 fn report(alloc: Global, sources: &[Source], costs: &CostTable) -> Result<Reply, NoMemory>
     requires apart { AreApart sources.now }
     ensures { IfOk result (IsReport (function_of costs.now) [] sources.now) }
 {
+    let hash_key = hash_key_of(sources);
     let mut accepted = Accepted {
-        deployed: Deployed::new(alloc),
-        known: KnownBounds::new(alloc),
+        deployed: Deployed::with_hash_key(alloc, hash_key),
+        known: KnownBounds::with_hash_key(alloc, hash_key),
     };
     let mut text = Vec::new(alloc);
     let judged = judge_all(alloc, &mut accepted, &mut text, sources, costs);

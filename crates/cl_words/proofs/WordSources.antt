@@ -11,7 +11,7 @@ use Rattle.cl_words.specs.declared.line.Flag.{Flag}
 use Rattle.cl_words.specs.declared.line.Flag.TheVariants.{State, Clarity2}
 use Rattle.cl_words.specs.Numbers.{number_within}
 use Rattle.cl_words.specs.Sources.{are_sources}
-use Rattle.cl_words.specs.Words.{Command, Call, Run, Check, Value, Wire, Gen, Trace, Root, Prove, Verify, are_short, check_under, run_of, gen_by, gen_of, trace_of, root_of, prove_of, verify_of, root_command, command_of, command_with, command_with_words, with_flag, command_in, command_on, IsOfTable}
+use Rattle.cl_words.specs.Words.{Command, Call, Run, Check, Value, Wire, Gen, Trace, Audit, Root, Prove, Verify, are_short, check_under, run_of, gen_by, gen_of, trace_of, audit_of, root_of, prove_of, verify_of, root_command, command_of, command_with, command_with_words, with_flag, command_in, command_on, IsOfTable}
 
 by_test : (b : Bool) (x y : Option Command) → IsOfTable x → IsOfTable y → IsOfTable (if b then x else y)
 by_test true x y p q = p
@@ -41,6 +41,12 @@ gen_has seed count (word ∷ words) = tt
 trace_has : (costs file : List ℕ) (words : List (List ℕ)) → IsOfTable (trace_of costs file words)
 trace_has costs file [] = tt
 trace_has costs file (word ∷ words) = tt
+
+audit_has : (costs file : List ℕ) (words : List (List ℕ)) → IsOfTable (audit_of costs file words)
+audit_has costs file [] = tt
+audit_has costs file (trace ∷ []) = tt
+audit_has costs file (trace ∷ report ∷ []) = tt
+audit_has costs file (trace ∷ report ∷ word ∷ words) = tt
 
 root_has : (costs file : List ℕ) (words : List (List ℕ)) → IsOfTable (root_of costs file words)
 root_has costs file [] = tt
@@ -73,7 +79,8 @@ of_root_has name first second words =
 
 words_have : (name first second : List ℕ) (words : List (List ℕ)) → IsOfTable (command_with_words name first second words)
 words_have name first second words =
-    let trace : Option Command = if bytes_eq name (codes "trace") then trace_of first second words else root_command name first second words in
+    let audit : Option Command = if bytes_eq name (codes "audit") then audit_of first second words else root_command name first second words in
+    let trace : Option Command = if bytes_eq name (codes "trace") then trace_of first second words else audit in
     let gen : Option Command = if bytes_eq name (codes "gen") then gen_of first second words else trace in
     let run : Option Command = if bytes_eq name (codes "run") then run_of first second words else gen in
     let check : Option Command = if bytes_eq name (codes "check") then check_under first words (decoded second) else run in
@@ -81,7 +88,8 @@ words_have name first second words =
     (by_test (bytes_eq name (codes "check")) (check_under first words (decoded second)) run (under_has first words (decoded second))
     (by_test (bytes_eq name (codes "run")) (run_of first second words) gen (run_has first second words)
     (by_test (bytes_eq name (codes "gen")) (gen_of first second words) trace (gen_has first second words)
-    (by_test (bytes_eq name (codes "trace")) (trace_of first second words) (root_command name first second words) (trace_has first second words) (of_root_has name first second words)))))
+    (by_test (bytes_eq name (codes "trace")) (trace_of first second words) audit (trace_has first second words)
+    (by_test (bytes_eq name (codes "audit")) (audit_of first second words) (root_command name first second words) (audit_has first second words) (of_root_has name first second words))))))
 
 word_has : (name word : List ℕ) → IsOfTable (command_with name word)
 word_has name word =
@@ -102,6 +110,7 @@ flag_has Clarity2 (Value word) h = tt
 flag_has Clarity2 (Wire word) h = tt
 flag_has Clarity2 (Gen seed count) h = tt
 flag_has Clarity2 (Trace costs file) h = tt
+flag_has Clarity2 (Audit costs file trace report) h = tt
 flag_has Clarity2 (Root costs file) h = tt
 flag_has Clarity2 (Prove costs file number) h = tt
 flag_has Clarity2 (Verify root key value sides) h = tt
@@ -112,6 +121,7 @@ flag_has State (Value word) h = tt
 flag_has State (Wire word) h = tt
 flag_has State (Gen seed count) h = tt
 flag_has State (Trace costs file) h = tt
+flag_has State (Audit costs file trace report) h = tt
 flag_has State (Root costs file) h = tt
 flag_has State (Prove costs file number) h = tt
 flag_has State (Verify root key value sides) h = tt

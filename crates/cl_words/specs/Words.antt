@@ -32,6 +32,8 @@ pub data Command : Type 0 where
   Gen : (seed count : ℕ) → Command
   -- the values that the nodes of the entries' evaluations give
   Trace : (costs file : List ℕ) → Command
+  -- whether a trace file and a report are those of a transaction file
+  Audit : (costs file trace report : List ℕ) → Command
   -- the root of the state after a transaction file
   Root : (costs file : List ℕ) → Command
   -- the row with this number of that state, and its path to the root
@@ -49,6 +51,7 @@ names_of (Some (Value word)) = []
 names_of (Some (Wire word)) = []
 names_of (Some (Gen seed count)) = []
 names_of (Some (Trace costs file)) = costs ∷ file ∷ []
+names_of (Some (Audit costs file trace report)) = costs ∷ file ∷ trace ∷ report ∷ []
 names_of (Some (Root costs file)) = costs ∷ file ∷ []
 names_of (Some (Prove costs file number)) = costs ∷ file ∷ []
 names_of (Some (Verify root key value sides)) = []
@@ -135,6 +138,13 @@ abbrev pub trace_of : List ℕ → List ℕ → List (List ℕ) → Option Comma
 trace_of costs file [] = Some (Trace costs file)
 trace_of costs file (word ∷ words) = None
 
+-- `audit` with four words, and with fewer or more
+abbrev pub audit_of : List ℕ → List ℕ → List (List ℕ) → Option Command
+audit_of costs file [] = None
+audit_of costs file (trace ∷ []) = None
+audit_of costs file (trace ∷ report ∷ []) = Some (Audit costs file trace report)
+audit_of costs file (trace ∷ report ∷ word ∷ words) = None
+
 -- `root` with two words, and with more
 abbrev pub root_of : List ℕ → List ℕ → List (List ℕ) → Option Command
 root_of costs file [] = Some (Root costs file)
@@ -170,7 +180,8 @@ command_with_words name first second words =
     else (if bytes_eq name (codes "run") then run_of first second words
     else (if bytes_eq name (codes "gen") then gen_of first second words
     else (if bytes_eq name (codes "trace") then trace_of first second words
-    else root_command name first second words))))
+    else (if bytes_eq name (codes "audit") then audit_of first second words
+    else root_command name first second words)))))
 
 -- the command of the first word, where it has its number of words
 abbrev pub command_of : List (List ℕ) → Option Command

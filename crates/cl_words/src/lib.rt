@@ -11,4 +11,4 @@ pub use argument::values;
 pub use line::{Flag, Line, read};
 pub use numbers::number_within;
 pub use sources::{Source, contract_at};
-pub use words::{CheckWords, Command, command_on};
+pub use words::{AuditWords, CheckWords, Command, command_on};

@@ -1,6 +1,6 @@
 //! The table of commands.
 ghost use Rattle.std.specs.Prelude.{◌≡◌, ◌≤◌, ◌-◌, ◌^◌, option_map, IfSome};
-ghost use Rattle.cl_words.specs.Words.{texts, check_under, run_of, gen_by, gen_of, trace_of, root_of, prove_of, are_short, verify_of, root_command, command_with, command_with_words, command_of, with_flag, command_in, command_on, IsOfTable};
+ghost use Rattle.cl_words.specs.Words.{texts, check_under, run_of, gen_by, gen_of, trace_of, audit_of, root_of, prove_of, are_short, verify_of, root_command, command_with, command_with_words, command_of, with_flag, command_in, command_on, IsOfTable};
 ghost use Rattle.cl_words.specs.Numbers.{number_within};
 ghost use Rattle.cl_words.specs.Seen.{command_seen, line_of};
 ghost use Rattle.cl_c32.specs.Codec.{decoded};
@@ -19,6 +19,15 @@ pub struct CheckWords<'a> {
     pub paths: &'a [String],
     /// The version of all its contracts.
     pub version: Version,
+}
+
+/// The words of `audit`.
+#[derive(Clone, Copy)]
+pub struct AuditWords<'a> {
+    pub costs: &'a str,
+    pub file: &'a str,
+    pub trace: &'a str,
+    pub report: &'a str,
 }
 
 /// A command with its words.
@@ -56,6 +65,8 @@ pub enum Command<'a> {
         costs: &'a str,
         file: &'a str,
     },
+    /// Whether a trace file and a report are those of a transaction file under a file of costs.
+    Audit(AuditWords<'a>),
     /// The root of the state after the entries of a transaction file under a file of costs.
     Root {
         costs: &'a str,
@@ -149,6 +160,21 @@ fn trace_of<'a>(costs: &'a str, file: &'a str, words: &'a [String]) -> Option<Co
 {
     match words {
         [] => Some(Command::Trace { costs, file }),
+        _ => None,
+    }
+}
+
+/// `audit` with these words.
+fn audit_of<'a>(costs: &'a str, file: &'a str, words: &'a [String]) -> Option<Command<'a>>
+    ensures { option_map command_seen result ≡ audit_of costs.now file.now (texts words.now) }
+{
+    match words {
+        [trace, report] => Some(Command::Audit(AuditWords {
+            costs,
+            file,
+            trace: trace.as_str(),
+            report: report.as_str(),
+        })),
         _ => None,
     }
 }
@@ -262,6 +288,9 @@ fn command_with_words<'a>(
     }
     if name == "trace" {
         return trace_of(first, second, words);
+    }
+    if name == "audit" {
+        return audit_of(first, second, words);
     }
     root_command(name, first, second, words)
 }

@@ -11,6 +11,7 @@ returns c = each_has_script (record {
   runs = c.each_file_has_results.ensures.results;
   sound = c.runs_are_sound.ensures;
   traces = c.each_file_has_a_trace_script.ensures;
+  audits = c.each_file_has_an_audit_reply.ensures;
   ends = c.nodes_stay_sound.ensures.run;
   text = c.each_state_has_a_text.ensures.text;
   root = c.each_state_has_a_text.ensures.root;

@@ -8,6 +8,7 @@ returns-clause-command c = command_same (record {
   run = c.steps_have_one_result.ensures.run;
   script = c.a_file_has_one_script.ensures.one;
   traces = c.a_file_has_one_trace_script.ensures.one;
+  audits = c.a_file_has_one_audit_reply.ensures;
   sources = record { clean = c.texts_have_one_answer.ensures.clean; defined = c.texts_have_one_answer.ensures.one_defined; first = c.texts_have_one_answer.ensures.one_first; order = c.texts_have_one_order.ensures.order };
   roots = record { root = c.states_have_one_root.ensures.root; path = c.states_have_one_root.ensures.path; own = c.rows_have_keys_of_their_own.ensures.own };
 })
@@ -19,6 +20,7 @@ returns-clause-read c = inputs_same (record {
   run = c.steps_have_one_result.ensures.run;
   script = c.a_file_has_one_script.ensures.one;
   traces = c.a_file_has_one_trace_script.ensures.one;
+  audits = c.a_file_has_one_audit_reply.ensures;
   sources = record { clean = c.texts_have_one_answer.ensures.clean; defined = c.texts_have_one_answer.ensures.one_defined; first = c.texts_have_one_answer.ensures.one_first; order = c.texts_have_one_order.ensures.order };
   roots = record { root = c.states_have_one_root.ensures.root; path = c.states_have_one_root.ensures.path; own = c.rows_have_keys_of_their_own.ensures.own };
 })
@@ -30,6 +32,7 @@ returns-clause-inputs c = script_same (record {
   run = c.steps_have_one_result.ensures.run;
   script = c.a_file_has_one_script.ensures.one;
   traces = c.a_file_has_one_trace_script.ensures.one;
+  audits = c.a_file_has_one_audit_reply.ensures;
   sources = record { clean = c.texts_have_one_answer.ensures.clean; defined = c.texts_have_one_answer.ensures.one_defined; first = c.texts_have_one_answer.ensures.one_first; order = c.texts_have_one_order.ensures.order };
   roots = record { root = c.states_have_one_root.ensures.root; path = c.states_have_one_root.ensures.path; own = c.rows_have_keys_of_their_own.ensures.own };
 })

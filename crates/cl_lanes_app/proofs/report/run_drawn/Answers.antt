@@ -1,4 +1,4 @@
-use Rattle.std.proofs.Common.{◌≡◌, ℕ, ◌*◌, List, length, ap, ◌∙◌, arith}
+use Rattle.std.proofs.Common.{◌≡◌, ◌*◌, List, length, ap, ◌∙◌, arith}
 use Rattle.cl_file.specs.declared.entry.Entry.{Entry}
 use Rattle.cl_lanes_app.specs.Words.{request_seen}
 use Rattle.cl_lanes.specs.declared.moves.Move.{Move}

@@ -4,8 +4,8 @@ use Rattle.cl_events.specs.State.{genesis}
 use Rattle.cl_file.specs.Files.{total, AreOnce}
 use Rattle.cl_replies.proofs.call.report_of.Goals as goal
 
-pub genesis-requires : goal.genesis-requires
-genesis-requires c =
+pub genesis_with_hash_key-requires : goal.genesis_with_hash_key-requires
+genesis_with_hash_key-requires c =
     let few : total [] < 2 ^ 128 = omega arith in
     record {
       once = subst (AreOnce []) (sym c.new.ensures.items) tt;

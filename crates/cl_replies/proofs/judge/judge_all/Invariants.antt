@@ -5,6 +5,6 @@ use Rattle.cl_replies.proofs.judge.judge_all.Given as goal
 
 abbrev pub invariant-loop-source : goal.invariant-loop-source
 invariant-loop-source l = record {
-  accepted : AcceptedSoFar (function_of l.costs) l.sources (drop l.source-index l.sources) l.text.items l.accepted.deployed.contracts.entries;
+  accepted : AcceptedSoFar (function_of l.costs) l.sources (drop l.source-index l.sources) l.text.items l.accepted.deployed.contracts;
   stand : Stand (function_of l.costs) l.accepted;
 }

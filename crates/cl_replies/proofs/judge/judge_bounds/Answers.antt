@@ -12,7 +12,7 @@ pub returns-in-Err-Refused-clause-judged : goal.returns-in-Err-Refused-clause-ju
 returns-in-Err-Refused-clause-judged c =
     let above = rw c.in-Err-Refused.field-0-is at c.in-Err-Refused.ensures.broken in
     let refusal = c.in-Err-Refused.refusal in
-    bound_is_refused (function_of c.args.costs.now) c.args.accepted.now.deployed.contracts.entries c.args.source.now c.args.checked c.requires.checked above.0
+    bound_is_refused (function_of c.args.costs.now) c.args.accepted.now.deployed.contracts c.args.source.now c.args.checked c.requires.checked above.0
     (record { rule = refusal.rule; span = refusal.span; names = refusal.names.items }) c.in_ok-refused_text-in-Err-Refused.field-0.items above.1
     (rw c.in-Err-Refused.field-0-is at c.in-Err-Refused.ensures.names) (λ known defined. above.2 c.args.accepted.now.deployed known defined c.requires.stand.known) c.in_ok-refused_text-in-Err-Refused.ensures
 

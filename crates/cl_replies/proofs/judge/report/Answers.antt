@@ -6,6 +6,5 @@ use Rattle.cl_replies.proofs.judge.report.Goals as goal
 
 pub judge_all-judged-requires-clause-stand : goal.judge_all-judged-requires-clause-stand
 judge_all-judged-requires-clause-stand c = record {
-  indexed = c.new.ensures.indexed;
-  known = subst (λ (es : Contracts). AreBounds (function_of c.args.costs.now) es c.new-2.result) (sym c.new.ensures.none) (c.new-2.ensures (function_of c.args.costs.now));
+  known = subst (λ (es : Contracts). AreBounds (function_of c.args.costs.now) es c.with_hash_key-2.result) (sym c.with_hash_key.ensures) (c.with_hash_key-2.ensures (function_of c.args.costs.now));
 }

@@ -1,4 +1,4 @@
-use Rattle.cl_app.proofs.Stepping.{entries_next_so, some_tracing, traces_next_so}
+use Rattle.cl_app.proofs.Stepping.{entries_next_so, traces_next_so}
 use Rattle.cl_app.proofs.steps.Steps.next.Goals as goal
 
 pub returns-in-Entries-clause-next : goal.returns-in-Entries-clause-next

@@ -1,0 +1,4 @@
+pub mod Grouped
+pub mod Verdicts
+pub mod Laws
+pub mod Own
