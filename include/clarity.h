@@ -3,8 +3,8 @@
  * Nothing checks a caller. Each call relies on this:
  *
  * - A pointer leads to as many items as the length behind it says. It isn't null, also where that length is 0: pass any address then.
- * - What a call writes (out, filled, node) overlaps nothing else that it is given, and no other thread uses what a call is given while
- *   the call runs. So a node is used by one thread at a time. Calls on different nodes may run in different threads.
+ * - What a call writes (out, needed, costs, node) overlaps nothing else that it is given, and no other thread uses what a call is given
+ *   while the call runs. So a handle is used by one thread at a time. Calls on different handles may run in different threads.
  * - malloc, realloc and free belong to one allocator, and no call is made from a signal handler.
  * - The stack has 2 MiB left.
  *
@@ -25,13 +25,13 @@ enum clarity_status {
     CLARITY_USAGE = 2,    /* the words are no command */
     CLARITY_READ = 3,     /* a file that the words name isn't there */
     CLARITY_WRITE = 4,    /* out is too short: it has a first part of the answer */
-    CLARITY_FILE = 5,     /* a file is longer than 16 MiB, no cost file or no transaction file */
-    CLARITY_REFUSED = 6,  /* a contract of check or the deployment of call is refused, or verify says no */
+    CLARITY_FILE = 5,     /* a file is longer than 16 MiB, or not in its format */
+    CLARITY_REFUSED = 6,  /* a contract of a check or the deployment of call is refused, or audit or verify says no */
     CLARITY_FAILED = 7,   /* the deployment of call aborts, or its call is an err, aborted or refused */
     CLARITY_VALUE = 8,    /* a word, a text or bytes are no value, or a word names a row that isn't there */
     CLARITY_MEMORY = 9,   /* memory ran out */
-    CLARITY_REQUEST = 10, /* the bytes are no request */
-    CLARITY_CLOSED = 11,  /* the handle has no node */
+    CLARITY_REQUEST = 10, /* the bytes are no request, or no call */
+    CLARITY_CLOSED = 11,  /* the handle has no node, or no table of costs */
     CLARITY_FALLS = 12,   /* a block's height is below the node's */
     CLARITY_HOLDERS = 13  /* the file has holders or epochs, which a node has from its opening */
 };
@@ -41,23 +41,42 @@ enum clarity_status {
 /* Does what the program does for some words over files in memory, and returns its status. The bytes are cut at ends: a piece ends at
  * its number there, and begins where the one before it ends, the first at 0. The first `words` pieces are the words, the others by
  * turns the names and contents of files; of two files with one name the first counts. What the program would write is copied to out,
- * and *filled says how many bytes that is.
+ * and *needed says how many bytes that is.
  *
- * CLARITY_WRITE: these are a first part of the answer; call again with a longer out.
+ * CLARITY_WRITE: *needed is above out_length, and out is full of the first of these bytes; call again with as long an out as is needed.
  * CLARITY_REQUEST: an end is below the one before it or above bytes_length, there are fewer pieces than words, a name has no content,
  * or a word or a name isn't UTF-8. */
 uint32_t clarity_answer(const uint8_t *bytes, size_t bytes_length, const size_t *ends, size_t ends_length, size_t words, uint8_t *out,
-                        size_t out_length, size_t *filled);
+                        size_t out_length, size_t *needed);
 
 /* ---- Values */
 
 /* The wire form (SIP-005) of the value that a text stands for (docs/TEXT.md), and the text of the value whose wire form the bytes are.
- * The result is copied to out, and *filled says how many bytes that is.
+ * The result is copied to out, and *needed says how many bytes that is.
  *
- * CLARITY_WRITE: these are a first part of it; call again with a longer out.
+ * CLARITY_WRITE: as above.
  * CLARITY_VALUE: the text stands for no value, or the bytes are the wire form of none. */
-uint32_t clarity_value_wire(const uint8_t *text, size_t text_length, uint8_t *out, size_t out_length, size_t *filled);
-uint32_t clarity_value_text(const uint8_t *bytes, size_t bytes_length, uint8_t *out, size_t out_length, size_t *filled);
+uint32_t clarity_value_wire(const uint8_t *text, size_t text_length, uint8_t *out, size_t out_length, size_t *needed);
+uint32_t clarity_value_text(const uint8_t *bytes, size_t bytes_length, uint8_t *out, size_t out_length, size_t *needed);
+
+/* ---- A table of costs */
+
+/* A handle. Begin with CLARITY_NO_COSTS; copy it nowhere, and change nothing in it. */
+typedef struct clarity_costs {
+    uint8_t *at;
+    _Bool is_open;
+} clarity_costs;
+
+#define CLARITY_NO_COSTS {0, 0}
+
+/* Reads the table of a cost file, or the unit table where file_length is 0. Read once, it serves any number of nodes. Close a table that
+ * the handle has before: it is lost otherwise.
+ *
+ * CLARITY_FILE, CLARITY_MEMORY: the handle has no table. clarity_answer with `run` says what is wrong with a file. */
+uint32_t clarity_costs_read(const uint8_t *file, size_t file_length, clarity_costs *costs);
+
+/* Frees the table, where there is one. Nodes that were opened under it keep their costs. */
+void clarity_costs_close(clarity_costs *costs);
 
 /* ---- A node between calls */
 
@@ -69,11 +88,16 @@ typedef struct clarity_node {
 
 #define CLARITY_NO_NODE {0, 0}
 
-/* Opens a node. Its holders and epochs are those of a transaction file, whose entries aren't done; its costs those of a cost file, or
- * the unit table where costs_length is 0. Close a node that the handle has before: it is lost otherwise.
+/* Opens a node under a table of costs. Its holders and epochs are those of a transaction file, whose entries aren't done; where
+ * file_length is 0 it has none. Close a node that the handle has before: it is lost otherwise.
  *
- * CLARITY_FILE, CLARITY_MEMORY: the handle has no node. clarity_answer with `run` says what is wrong with a file. */
-uint32_t clarity_node_open(const uint8_t *costs, size_t costs_length, const uint8_t *file, size_t file_length, clarity_node *node);
+ * A node that takes contracts or calls from strangers needs a key of 16 or more random bytes, its own (getrandom, /dev/urandom). Who
+ * knows the key, as everybody does where key_length is 0, can choose names, keys and principals that collide in the node's tables, and
+ * then each look-up takes time that grows with their number. No answer depends on the key.
+ *
+ * CLARITY_FILE, CLARITY_MEMORY, CLARITY_CLOSED: the handle has no node. clarity_answer with `run` says what is wrong with a file. */
+uint32_t clarity_node_open(clarity_costs *costs, const uint8_t *file, size_t file_length, const uint8_t *key, size_t key_length,
+                           clarity_node *node);
 
 /* Does the entries of a transaction file, one after another. The text is their lines, numbered from 0 (docs/REPORT.md). An entry that
  * errs, aborts or is refused has its lines, and leaves the node as it was.
@@ -96,6 +120,18 @@ uint32_t clarity_node_call(clarity_node *node, const uint8_t *bytes, size_t byte
 uint32_t clarity_node_peek(clarity_node *node, const uint8_t *bytes, size_t bytes_length, const size_t *ends, size_t ends_length,
                            const uint64_t *limits, size_t limits_length);
 
+/* Checks a source of version 1 or 2 of the language as a contract, a principal in its wire form, that would be deployed on the node,
+ * under the costs of its height. Nothing is evaluated, and the node stays as it is. It takes time for each function that is deployed.
+ *
+ * CLARITY_DONE: the contract is accepted. The numbers are five for its deployment and five for each function, in the order of the
+ * dimensions: what it is charged at most, as limits (a bound above 2^64-1 as 2^64-1). The text has the names of the functions, in the
+ * order of the source, each with a line feed behind it.
+ * CLARITY_REFUSED: the numbers are two, where the bytes begin and end that break a rule. The text has the rule with a line feed, as
+ * "C7 Undetermined" (docs/RULES.md), and behind it the names of a cycle or the dimension of a bound, each with a line feed.
+ * CLARITY_REQUEST: it is no principal of a contract, or another version. */
+uint32_t clarity_node_check(clarity_node *node, const uint8_t *contract, size_t contract_length, uint32_t version, const uint8_t *source,
+                            size_t source_length);
+
 /* The text is the lines of the state. */
 uint32_t clarity_node_state(clarity_node *node);
 
@@ -108,6 +144,11 @@ size_t clarity_node_length(clarity_node *node);
 
 /* Copies as much of that text as out has room for, and returns how many bytes that is. */
 size_t clarity_node_copy(clarity_node *node, uint8_t *out, size_t out_length);
+
+/* How many numbers the last check left, and a copy of as many of them as out has room for, which returns how many that is. 0 where
+ * there is no node. */
+size_t clarity_node_count(clarity_node *node);
+size_t clarity_node_numbers(clarity_node *node, uint64_t *out, size_t out_length);
 
 /* Frees the node, where there is one. The handle has none then, so a second call does nothing. */
 void clarity_node_close(clarity_node *node);

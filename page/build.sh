@@ -56,17 +56,17 @@ compile() {
         -e '/^declare .*@llvm\.x86\.ssse3\.pshuf\.b\.128(/d; s/@llvm\.x86\.ssse3\.pshuf\.b\.128(/@shuffle_bytes(/' "$1" >"$work/all.ll"
     cat "$page/wasm/shuffle.ll" >>"$work/all.ll"
     local clang=("$kit/toolchain/bin/clang" --target=wasm64-unknown-unknown -mcpu=lime1 -mllvm -expand-div-rem-bits=64
-        -mllvm -expand-fp-convert-bits=64 -ffunction-sections -fdata-sections --no-default-config -no-canonical-prefixes -w -c -O2)
-    "${clang[@]}" -x ir "$work/all.ll" -o "$work/all.o"
-    "${clang[@]}" -x ir "$page/wasm/shim.ll" -o "$work/shim.o"
-    "${clang[@]}" -ffreestanding -nostdinc -x c "$page/wasm/heap.c" -o "$work/heap.o"
-    "${clang[@]}" -fwrapv -ffreestanding -nostdinc -x c "$page/wasm/wide.c" -o "$work/wide.o"
+        -mllvm -expand-fp-convert-bits=64 -ffunction-sections -fdata-sections --no-default-config -no-canonical-prefixes -w -c)
+    "${clang[@]}" -Os -x ir "$work/all.ll" -o "$work/all.o"
+    "${clang[@]}" -O2 -x ir "$page/wasm/shim.ll" -o "$work/shim.o"
+    "${clang[@]}" -O2 -ffreestanding -nostdinc -x c "$page/wasm/heap.c" -o "$work/heap.o"
+    "${clang[@]}" -O2 -fwrapv -ffreestanding -nostdinc -x c "$page/wasm/wide.c" -o "$work/wide.o"
     local exports=()
     local it
     for it in clarity_answer heap_take heap_give; do exports+=("--export=$it"); done
     # The stack is first in memory, so that running over it is a trap.
-    "$kit/toolchain/bin/ld.lld" -flavor wasm -mwasm64 --no-entry --stack-first -z stack-size=8388608 "${exports[@]}" --gc-sections --strip-all \
-        --fatal-warnings -o "$2" "$work"/{wide,shim,heap,all}.o
+    "$kit/toolchain/bin/ld.lld" -flavor wasm -mwasm64 --no-entry --stack-first -z stack-size=8388608 "${exports[@]}" --gc-sections \
+        --compress-relocations --strip-all --fatal-warnings -o "$2" "$work"/{wide,shim,heap,all}.o
 }
 
 # The examples, the rules and what the page says of its engine, as JSON.

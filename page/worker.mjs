@@ -1,6 +1,6 @@
 // The engine in WebAssembly: words and files in, status and bytes out. As a worker it answers one request after another.
 const text = new TextEncoder();
-const FIRST_ROOM = 1 << 18, MOST_ROOM = 1 << 28, MOST_MEMORY = 2 ** 31;
+const FIRST_ROOM = 1 << 18, MOST_MEMORY = 2 ** 31;
 const WRITE = 4, MEMORY = 9;
 
 export class Engine {
@@ -15,10 +15,8 @@ export class Engine {
     // { status, bytes }. `files` are pairs of a name and its content; each word, name and content is a string or bytes.
     answer(words, files = []) {
         const pieces = [...words, ...files.flat()].map((it) => (typeof it === "string" ? text.encode(it) : it));
-        for (let room = FIRST_ROOM; ; room *= 8) {
-            const answer = this.#once(pieces, words.length, room);
-            if (answer.status !== WRITE || room >= MOST_ROOM) return answer;
-        }
+        const answer = this.#once(pieces, words.length, FIRST_ROOM);
+        return answer.status === WRITE ? this.#once(pieces, words.length, answer.needed) : answer;
     }
 
     get memory() {
@@ -30,7 +28,7 @@ export class Engine {
         const total = pieces.reduce((sum, it) => sum + it.length, 0);
         const blocks = [total, pieces.length * 8, room, 8].map((size) => heap_take(BigInt(size)));
         if (blocks.includes(0n)) return { status: MEMORY, bytes: new Uint8Array() };
-        const [bytes, ends, out, filled] = blocks.map(Number);
+        const [bytes, ends, out, length] = blocks.map(Number);
         const places = new BigUint64Array(memory.buffer, ends, pieces.length);
         let end = 0;
         pieces.forEach((piece, i) => {
@@ -38,13 +36,13 @@ export class Engine {
             end += piece.length;
             places[i] = BigInt(end);
         });
-        const numbers = [bytes, total, ends, pieces.length, words, out, room, filled].map(BigInt);
+        const numbers = [bytes, total, ends, pieces.length, words, out, room, length].map(BigInt);
         const status = clarity_answer(...numbers);
         // The memory may have grown, and then has another buffer.
-        const count = Number(new BigUint64Array(memory.buffer, filled, 1)[0]);
-        const answer = new Uint8Array(memory.buffer, out, count).slice();
+        const needed = Number(new BigUint64Array(memory.buffer, length, 1)[0]);
+        const answer = new Uint8Array(memory.buffer, out, Math.min(needed, room)).slice();
         blocks.forEach((block) => heap_give(block));
-        return { status, bytes: answer };
+        return { status, needed, bytes: answer };
     }
 }
 

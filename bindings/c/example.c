@@ -17,7 +17,7 @@
 #define FILE_OF(entries) "{\"version\": 1, \"genesis\": [], \"entries\": [" entries "]}"
 
 static uint8_t out[1 << 16];
-static size_t filled;
+static size_t needed;
 
 /* Bytes, and where its pieces end. */
 struct pieces {
@@ -39,11 +39,11 @@ static void add_text(struct pieces *to, const char *piece) {
 static uint32_t answer(size_t words, size_t count, const char *const *texts, size_t room) {
     struct pieces request = {0};
     for (size_t i = 0; i < count; i++) add_text(&request, texts[i]);
-    return clarity_answer(request.bytes, request.length, request.ends, request.count, words, out, room, &filled);
+    return clarity_answer(request.bytes, request.length, request.ends, request.count, words, out, room, &needed);
 }
 
 static int is_out(const char *text) {
-    return filled == strlen(text) && memcmp(out, text, filled) == 0;
+    return needed == strlen(text) && memcmp(out, text, needed) == 0;
 }
 
 static const uint8_t *at(const char *text) {
@@ -54,15 +54,20 @@ static void whole_answers(void) {
     const char *wire[] = {"wire", "u7"};
     check(answer(2, 2, wire, sizeof out) == CLARITY_DONE);
     check(is_out("0x0100000000000000000000000000000007\n"));
-    check(answer(2, 2, wire, 5) == CLARITY_WRITE && is_out("0x010"));
-    check(answer(2, 2, wire, 0) == CLARITY_WRITE && filled == 0);
+    size_t length = needed;
+    check(answer(2, 2, wire, length) == CLARITY_DONE && needed == length);
+    memset(out, '.', length);
+    check(answer(2, 2, wire, length - 1) == CLARITY_WRITE && needed == length && out[length - 2] == '7' && out[length - 1] == '.');
+    memset(out, '.', length);
+    check(answer(2, 2, wire, 5) == CLARITY_WRITE && needed == length && memcmp(out, "0x010.", 6) == 0);
+    check(answer(2, 2, wire, 0) == CLARITY_WRITE && needed == length);
     const char *no_value[] = {"value", "0x0703ff"};
     check(answer(2, 2, no_value, sizeof out) == CLARITY_VALUE && is_out("refused Extra 2\n"));
     const char *call[] = {"call", "inc", "add1", "41", "inc", "(define-read-only (add1 (x int)) (+ x 1))"};
     check(answer(4, 6, call, sizeof out) == CLARITY_DONE);
     check(is_out("0 deploy '" SENDER ".main done\n  cost 2 0 0 2 41\n  deploy-bound 2 0 0 2 41\n  bound add1 5 0 0 0 0 int\n"
                  "1 call '" SENDER ".main add1 value 42\n  cost 5 0 0 0 0\n"));
-    check(answer(4, 4, call, sizeof out) == CLARITY_READ && filled == 0);
+    check(answer(4, 4, call, sizeof out) == CLARITY_READ && needed == 0);
     check(answer(0, 0, call, sizeof out) == CLARITY_USAGE && is_out("usage: clarity COMMAND WORDS\n"));
     call[5] = "(define-read-only (add1 (x int)) (+ x \"1";
     check(answer(4, 6, call, sizeof out) == CLARITY_REFUSED);
@@ -71,28 +76,28 @@ static void whole_answers(void) {
 
 static void values(void) {
     const uint8_t seven[] = {1, 0, 0, 0, 0, 0, 0, 0, 0, 0, 0, 0, 0, 0, 0, 0, 7};
-    check(clarity_value_wire(at("u7"), 2, out, sizeof out, &filled) == CLARITY_DONE);
-    check(filled == sizeof seven && memcmp(out, seven, filled) == 0);
-    check(clarity_value_wire(at("u7"), 2, out, 3, &filled) == CLARITY_WRITE && filled == 3 && memcmp(out, seven, 3) == 0);
-    check(clarity_value_wire(at("u7"), 2, out, 0, &filled) == CLARITY_WRITE && filled == 0);
-    check(clarity_value_wire(at("u"), 1, out, sizeof out, &filled) == CLARITY_VALUE && filled == 0);
-    check(clarity_value_text(seven, sizeof seven, out, sizeof out, &filled) == CLARITY_DONE && is_out("u7"));
-    check(clarity_value_text(seven, sizeof seven, out, 1, &filled) == CLARITY_WRITE && is_out("u"));
-    check(clarity_value_text(seven, 16, out, sizeof out, &filled) == CLARITY_VALUE && filled == 0);
-    check(clarity_value_text(at(""), 0, out, sizeof out, &filled) == CLARITY_VALUE && filled == 0);
+    check(clarity_value_wire(at("u7"), 2, out, sizeof out, &needed) == CLARITY_DONE);
+    check(needed == sizeof seven && memcmp(out, seven, needed) == 0);
+    check(clarity_value_wire(at("u7"), 2, out, 3, &needed) == CLARITY_WRITE && needed == sizeof seven && memcmp(out, seven, 3) == 0);
+    check(clarity_value_wire(at("u7"), 2, out, 0, &needed) == CLARITY_WRITE && needed == sizeof seven);
+    check(clarity_value_wire(at("u"), 1, out, sizeof out, &needed) == CLARITY_VALUE && needed == 0);
+    check(clarity_value_text(seven, sizeof seven, out, sizeof out, &needed) == CLARITY_DONE && is_out("u7"));
+    check(clarity_value_text(seven, sizeof seven, out, 1, &needed) == CLARITY_WRITE && needed == 2 && out[0] == 'u');
+    check(clarity_value_text(seven, 16, out, sizeof out, &needed) == CLARITY_VALUE && needed == 0);
+    check(clarity_value_text(at(""), 0, out, sizeof out, &needed) == CLARITY_VALUE && needed == 0);
 }
 
 static void no_requests(void) {
     const char *call[] = {"call", "inc", "add1", "41", "inc", ""};
-    check(answer(4, 5, call, sizeof out) == CLARITY_REQUEST && filled == 0);
+    check(answer(4, 5, call, sizeof out) == CLARITY_REQUEST && needed == 0);
     check(answer(7, 6, call, sizeof out) == CLARITY_REQUEST);
     const char *bad[] = {"wire", "\xff"};
     check(answer(2, 2, bad, sizeof out) == CLARITY_REQUEST);
     size_t falls[] = {3, 2}, beyond[] = {3, 9}, greatest[] = {(size_t)-1};
-    check(clarity_answer(at("wire"), 4, falls, 2, 2, out, sizeof out, &filled) == CLARITY_REQUEST);
-    check(clarity_answer(at("wire"), 4, beyond, 2, 2, out, sizeof out, &filled) == CLARITY_REQUEST);
-    check(clarity_answer(at("wire"), 4, greatest, 1, 1, out, sizeof out, &filled) == CLARITY_REQUEST);
-    check(clarity_answer(at(""), 0, falls, 0, 0, out, sizeof out, &filled) == CLARITY_USAGE);
+    check(clarity_answer(at("wire"), 4, falls, 2, 2, out, sizeof out, &needed) == CLARITY_REQUEST);
+    check(clarity_answer(at("wire"), 4, beyond, 2, 2, out, sizeof out, &needed) == CLARITY_REQUEST);
+    check(clarity_answer(at("wire"), 4, greatest, 1, 1, out, sizeof out, &needed) == CLARITY_REQUEST);
+    check(clarity_answer(at(""), 0, falls, 0, 0, out, sizeof out, &needed) == CLARITY_USAGE);
 }
 
 /* A source of 16 MiB is read, one byte more isn't. */
@@ -103,20 +108,25 @@ static void long_files(void) {
     memcpy(bytes, "callf.clarff.clar", names);
     memset(bytes + names, ' ', most + 1);
     size_t ends[] = {4, 10, 11, names, names + most + 1};
-    check(clarity_answer(bytes, ends[4], ends, 5, 3, out, sizeof out, &filled) == CLARITY_FILE);
+    check(clarity_answer(bytes, ends[4], ends, 5, 3, out, sizeof out, &needed) == CLARITY_FILE);
     check(is_out("bad file f.clar TooLong\n"));
     ends[4]--;
-    check(clarity_answer(bytes, ends[4], ends, 5, 3, out, sizeof out, &filled) == CLARITY_REFUSED);
+    check(clarity_answer(bytes, ends[4], ends, 5, 3, out, sizeof out, &needed) == CLARITY_REFUSED);
     free(bytes);
 }
 
 static int is_text(clarity_node *node, const char *text) {
-    filled = clarity_node_copy(node, out, sizeof out);
-    return filled == clarity_node_length(node) && is_out(text);
+    needed = clarity_node_copy(node, out, sizeof out);
+    return needed == clarity_node_length(node) && is_out(text);
 }
 
 static uint32_t run(clarity_node *node, const char *file) {
     return clarity_node_run(node, at(file), strlen(file));
+}
+
+static uint32_t open_node(clarity_costs *costs, const char *file, clarity_node *node) {
+    static const uint8_t key[16] = "not so random..";
+    return clarity_node_open(costs, at(file), strlen(file), key, sizeof key, node);
 }
 
 static void closed_handles(void) {
@@ -125,11 +135,19 @@ static void closed_handles(void) {
     check(clarity_node_call(&node, at(""), 0, (size_t[]){0}, 0, (uint64_t[]){0}, 0) == CLARITY_CLOSED);
     check(clarity_node_length(&node) == 0 && clarity_node_copy(&node, out, sizeof out) == 0);
     check(clarity_node_height(&node) == 0 && clarity_node_done(&node) == 0);
+    check(clarity_node_check(&node, at(""), 0, 1, at(""), 0) == CLARITY_CLOSED && clarity_node_count(&node) == 0);
+    check(clarity_node_numbers(&node, (uint64_t[]){0}, 1) == 0);
     clarity_node_close(&node);
-    const char *file = FILE_OF("");
-    check(clarity_node_open(at("{}"), 2, at(file), strlen(file), &node) == CLARITY_FILE);
-    check(clarity_node_open(at(""), 0, at("[]"), 2, &node) == CLARITY_FILE);
+    clarity_costs costs = CLARITY_NO_COSTS;
+    check(open_node(&costs, "", &node) == CLARITY_CLOSED);
+    check(clarity_costs_read(at("{}"), 2, &costs) == CLARITY_FILE);
+    check(open_node(&costs, "", &node) == CLARITY_CLOSED);
+    check(clarity_costs_read(at(""), 0, &costs) == CLARITY_DONE);
+    check(open_node(&costs, "[]", &node) == CLARITY_FILE);
     check(clarity_node_state(&node) == CLARITY_CLOSED);
+    clarity_costs_close(&costs);
+    clarity_costs_close(&costs);
+    check(open_node(&costs, "", &node) == CLARITY_CLOSED);
 }
 
 #define COUNTER                                                                                                                           \
@@ -176,7 +194,7 @@ static void calls_in_parts(clarity_node *node) {
     check(clarity_node_peek(node, p.bytes, p.length, p.ends, p.count, most, 0) == CLARITY_DONE && is_text(node, ADDED("0", "6")));
     check(clarity_node_call(node, p.bytes, p.length, p.ends, p.count, most, 5) == CLARITY_DONE && is_text(node, ADDED("0", "6")));
     check(clarity_node_call(node, p.bytes, p.length, p.ends, p.count, few, 5) == CLARITY_DONE);
-    filled = clarity_node_copy(node, out, sizeof out);
+    needed = clarity_node_copy(node, out, sizeof out);
     check(strstr((const char *)out, " aborted A8 CostLimit write_length 17 16\n") != 0);
     check(clarity_node_state(node) == CLARITY_DONE && is_text(node, STATE("6")));
     /* no calls: four limits, a contract as the sender, an argument that is cut short, two pieces */
@@ -190,18 +208,54 @@ static void calls_in_parts(clarity_node *node) {
     check(clarity_node_state(node) == CLARITY_DONE && is_text(node, STATE("6")));
 }
 
-static void nodes(const char *costs) {
+static uint32_t check_source(clarity_node *node, const char *source) {
+    uint8_t contract[24] = {6, 22};
+    contract[22] = 1;
+    contract[23] = 'm';
+    return clarity_node_check(node, contract, sizeof contract, 1, at(source), strlen(source));
+}
+
+static int are_numbers(clarity_node *node, size_t count, const uint64_t *numbers) {
+    uint64_t all[16];
+    return clarity_node_count(node) == count && clarity_node_numbers(node, all, 16) == count && memcmp(all, numbers, count * 8) == 0;
+}
+
+/* Sources beside the contract `n`, whose function adds to its number. */
+static void checks(clarity_node *node) {
+    const char *caller = "(define-read-only (one) 1)(define-public (both (x uint)) (contract-call? .n add x))";
+    const uint64_t bounds[] = {3, 0, 0, 3, 83, 2, 0, 0, 0, 0, 15, 3, 156, 1, 17};
+    check(check_source(node, caller) == CLARITY_DONE && is_text(node, "one\nboth\n"));
+    check(are_numbers(node, 15, bounds));
+    uint64_t few[2] = {0, 9};
+    check(clarity_node_numbers(node, few, 1) == 1 && few[0] == bounds[0] && few[1] == 9);
+    check(check_source(node, "(define-read-only (f) (unwrap-panic none))") == CLARITY_REFUSED && is_text(node, "C7 Undetermined\n"));
+    check(are_numbers(node, 2, (uint64_t[]){22, 41}));
+    check(check_source(node, "(define-read-only (f) (g))(define-read-only (g) (f))") == CLARITY_REFUSED && is_text(node, "O1 Cycle\nf\ng\n"));
+    check(check_source(node, "") == CLARITY_DONE && is_text(node, "") && clarity_node_count(node) == 5);
+    check(clarity_node_check(node, at("n"), 1, 1, at(""), 0) == CLARITY_REQUEST && clarity_node_count(node) == 0);
+    check(clarity_node_state(node) == CLARITY_DONE && is_text(node, "var '" SENDER ".n n u2\n"));
+}
+
+static void nodes(const char *file) {
     const char *first = "{\"version\": 1, \"genesis\": [{\"principal\": \"" HOLDER "\", \"stx\": \"u9\"}], \"entries\": []}";
-    clarity_node node = CLARITY_NO_NODE, other = CLARITY_NO_NODE;
-    check(clarity_node_open(at(costs), strlen(costs), at(first), strlen(first), &node) == CLARITY_DONE);
-    check(clarity_node_open(at(""), 0, at(first), strlen(first), &other) == CLARITY_DONE && clarity_node_length(&other) == 0);
+    clarity_costs costs = CLARITY_NO_COSTS;
+    clarity_node node = CLARITY_NO_NODE, other = CLARITY_NO_NODE, empty = CLARITY_NO_NODE;
+    check(clarity_costs_read(at(file), strlen(file), &costs) == CLARITY_DONE);
+    check(open_node(&costs, first, &node) == CLARITY_DONE);
+    check(open_node(&costs, first, &other) == CLARITY_DONE && clarity_node_length(&other) == 0);
+    check(clarity_node_open(&costs, at(""), 0, at(""), 0, &empty) == CLARITY_DONE && clarity_node_height(&empty) == 0);
+    clarity_costs_close(&costs);
     files_of_entries(&node);
     calls_in_parts(&node);
     check(clarity_node_state(&other) == CLARITY_DONE && is_text(&other, "stx '" HOLDER " u9\n"));
+    check(clarity_node_state(&empty) == CLARITY_DONE && is_text(&empty, ""));
+    check(run(&empty, FILE_OF(COUNTER ", " ADD)) == CLARITY_DONE && clarity_node_done(&empty) == 2);
+    checks(&empty);
     clarity_node_close(&node);
     clarity_node_close(&node);
     check(clarity_node_state(&node) == CLARITY_CLOSED);
     clarity_node_close(&other);
+    clarity_node_close(&empty);
 }
 
 int main(int count, char **words) {

@@ -46,6 +46,12 @@ with engine.node(costs) as node:
     assert b" ok u11\n" in node.call(sender, contract, "add", [wire("u5")], [11, 2, 34, 1, 17])
     assert b" aborted A8 CostLimit runtime 11 10\n" in node.call(sender, contract, "add", [wire("u5")], [10, 2, 34, 1, 17])
     assert node.state() == f"var '{SENDER}.n n u11\n".encode()
+    source = "(define-read-only (f) (unwrap-panic none))"
+    refused = node.check(wire(f"'{SENDER}.f"), source)
+    assert (refused.rule, refused.names, source[refused.span]) == ("C7 Undetermined", (), "(unwrap-panic none)")
+    accepted = node.check(wire(f"'{SENDER}.f"), "(define-read-only (one) 1)")
+    assert (accepted.deploy, accepted.functions) == ((2, 0, 0, 2, 26), {"one": (2, 0, 0, 0, 0)})
+    assert status_of(node.check, sender, "") == Status.REQUEST
     node.run([{"block": {"height": 9}}])
     assert node.height == 9
     assert status_of(node.run, [{"block": {"height": 8}}]) == Status.FALLS
@@ -53,5 +59,9 @@ with engine.node(costs) as node:
     assert status_of(node.call, sender, contract, "add", [b"\1"]) == Status.REQUEST
     node.close()
     assert status_of(node.state) == Status.CLOSED
-assert status_of(engine.node, b"{}") == Status.FILE
+with engine.costs(costs) as table, engine.node(table) as node, engine.node(table) as other:
+    node.run([{"deploy": {"sender": SENDER, "name": "n", "source": SOURCE}}])
+    assert (node.state(), other.state()) == (f"var '{SENDER}.n n u0\n".encode(), b"")
+assert status_of(engine.node, b"{}") == status_of(engine.costs, b"{}") == status_of(engine.node, b"", b"{}") == Status.FILE
+assert status_of(engine.node, table) == Status.CLOSED
 print("each call did what it is to do")

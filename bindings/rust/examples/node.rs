@@ -1,5 +1,5 @@
 //! node COSTS: deploys a contract on a node, calls it, reads its events, and catches refusals.
-use lumpitseha::{answer, text, wire, Call, Error, Node, Status};
+use lumpitseha::{answer, text, wire, Call, Costs, Error, Node, Status, Verdict, Version};
 
 const SENDER: &str = "SP000000000000000000002Q6VF78";
 const SOURCE: &str =
@@ -16,7 +16,11 @@ fn main() -> Result<(), Error> {
     assert_eq!(status, Status::Refused);
     assert_eq!(said, format!("contract '{SENDER}.f refused C7 Undetermined 22..41\n").as_bytes());
 
-    let mut node = Node::open(&costs, &file(""))?;
+    assert_eq!(Costs::read(b"{}").err(), Some(Error::File(String::new())));
+    let mut costs = Costs::read(&costs)?;
+    assert_eq!(Node::open(&mut costs, b"{}").err(), Some(Error::File(String::new())));
+    let (mut node, mut other) = (Node::open(&mut costs, &file(""))?, Node::open(&mut costs, b"")?);
+    drop(costs);
     node.run(&file(&format!("{{\"deploy\": {{\"sender\": \"{SENDER}\", \"name\": \"n\", \"source\": \"{SOURCE}\"}}}}")))?;
     let (sender, contract, five) = (wire(&format!("'{SENDER}"))?, wire(&format!("'{SENDER}.n"))?, wire("u5")?);
     assert_eq!(text(&wire("{b: 0x01, a: -7}")?)?, "{a: -7, b: 0x01}");
@@ -28,6 +32,11 @@ fn main() -> Result<(), Error> {
     assert_eq!(events, [format!("  event print '{SENDER}.n u5")]);
     assert!(node.call(&Call { limits: Some([10, 2, 34, 1, 17]), ..call })?.contains(" aborted A8 CostLimit runtime 11 10\n"));
     assert_eq!(node.state()?, format!("var '{SENDER}.n n u5\n"));
+    assert_eq!(other.state()?, "");
+    let checked = wire(&format!("'{SENDER}.f"))?;
+    assert_eq!(node.check(&checked, Version::One, broken)?, Verdict::Refused(vec!["C7 Undetermined".into()], 22..41));
+    let accepted = node.check(&checked, Version::Two, b"(define-read-only (one) 1)")?;
+    assert_eq!(accepted, Verdict::Accepted(vec![2, 0, 0, 2, 26], vec![("one".into(), vec![2, 0, 0, 0, 0])]));
     node.run(&file("{\"block\": {\"height\": 9}}"))?;
     assert_eq!(node.height(), 9);
     assert_eq!(node.run(&file("{\"block\": {\"height\": 8}}")), Err(Error::Falls));

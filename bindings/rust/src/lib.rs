@@ -10,7 +10,10 @@
 mod sys;
 
 use std::fmt;
+use std::fs::File;
+use std::io::{self, Read};
 use std::marker::PhantomData;
+use std::ops::Range;
 
 /// The status of a whole answer, as the program has it.
 #[derive(Clone, Copy, Debug, PartialEq, Eq)]
@@ -21,8 +24,6 @@ pub enum Status {
     Usage,
     /// A file that the words name isn't among those that were given.
     Read,
-    /// The answer is longer than 2 GiB; this is a first part of it.
-    Write,
     /// A file is too long, no cost file or no transaction file.
     File,
     /// A contract of `check` or the deployment of `call` is refused, or `verify` says no.
@@ -44,12 +45,14 @@ pub enum Error {
     Memory(String, u32),
     /// The text stands for no value, or the bytes are the wire form of none.
     Value,
-    /// The parts are no call: a principal or an argument isn't a value in wire form, or is of another kind.
+    /// The parts are no call or check: a principal or an argument isn't a value in wire form, or is of another kind.
     Parts,
     /// A block's height is below the node's. Nothing was done.
     Falls,
     /// The file has holders or epochs, which a node has from its opening. Nothing was done.
     Holders,
+    /// The system gave no random bytes.
+    Random(String),
 }
 
 impl fmt::Display for Error {
@@ -61,6 +64,7 @@ impl fmt::Display for Error {
             Error::Parts => f.write_str("the parts are no call"),
             Error::Falls => f.write_str("a block's height falls"),
             Error::Holders => f.write_str("the file has holders or epochs"),
+            Error::Random(why) => write!(f, "no random bytes: {why}"),
         }
     }
 }
@@ -81,9 +85,6 @@ impl Pieces {
     }
 }
 
-const FIRST_ROOM: usize = 1 << 16;
-const MOST_ROOM: usize = 1 << 31;
-
 /// What the program answers to these words over these files, given as names with contents.
 pub fn answer(words: &[&str], files: &[(&str, &[u8])]) -> (Status, Vec<u8>) {
     let mut request = Pieces::default();
@@ -92,20 +93,8 @@ pub fn answer(words: &[&str], files: &[(&str, &[u8])]) -> (Status, Vec<u8>) {
         request.add(name.as_bytes());
         request.add(content);
     }
-    let (number, out) = written(|room| sys::answer(&request.bytes, &request.ends, words.len(), room));
+    let (number, out) = sys::answer(&request.bytes, &request.ends, words.len());
     (status(number), out)
-}
-
-/// What a call writes; one whose room is too short is made again with more.
-fn written(call: impl Fn(usize) -> (u32, Vec<u8>)) -> (u32, Vec<u8>) {
-    let mut room = FIRST_ROOM;
-    loop {
-        let (number, out) = call(room);
-        if number != sys::WRITE || room >= MOST_ROOM {
-            return (number, out);
-        }
-        room *= 8;
-    }
 }
 
 fn value((number, out): (u32, Vec<u8>)) -> Result<Vec<u8>, Error> {
@@ -118,13 +107,29 @@ fn value((number, out): (u32, Vec<u8>)) -> Result<Vec<u8>, Error> {
 
 /// The wire form (SIP-005) of the value that a text stands for.
 pub fn wire(text: &str) -> Result<Vec<u8>, Error> {
-    value(written(|room| sys::value_wire(text.as_bytes(), room)))
+    value(sys::value_wire(text.as_bytes()))
 }
 
 /// The text of the value with this wire form.
 pub fn text(wire: &[u8]) -> Result<String, Error> {
-    let bytes = value(written(|room| sys::value_text(wire, room)))?;
+    let bytes = value(sys::value_text(wire))?;
     Ok(String::from_utf8_lossy(&bytes).into_owned())
+}
+
+/// Random bytes of the system.
+fn random_key() -> io::Result<[u8; 16]> {
+    let mut key = [0; 16];
+    File::open("/dev/urandom")?.read_exact(&mut key)?;
+    Ok(key)
+}
+
+/// What was opened, by the number of the call; of a bad file there is no line.
+fn opened<T>(number: u32, it: T) -> Result<T, Error> {
+    match number {
+        0 => Ok(it),
+        9 => Err(Error::Memory(String::new(), 0)),
+        _ => Err(Error::File(String::new())),
+    }
 }
 
 fn status(number: u32) -> Status {
@@ -132,13 +137,12 @@ fn status(number: u32) -> Status {
         0 => Status::Done,
         2 => Status::Usage,
         3 => Status::Read,
-        4 => Status::Write,
         5 => Status::File,
         6 => Status::Refused,
         7 => Status::Failed,
         8 => Status::Value,
         9 => Status::Memory,
-        // Words and names are texts here, and each name has its content.
+        // Words and names are texts here, each name has its content, and there is room for the answer.
         _ => unreachable!("the request is one"),
     }
 }
@@ -170,6 +174,44 @@ impl Call<'_> {
     }
 }
 
+/// The version of the language that a source is written in.
+#[derive(Clone, Copy, Debug, PartialEq, Eq)]
+pub enum Version {
+    /// Clarity 1
+    One = 1,
+    /// Clarity 2
+    Two = 2,
+}
+
+/// What comes of a source as a contract, before it is deployed.
+#[derive(Clone, Debug, PartialEq, Eq)]
+pub enum Verdict {
+    /// It is accepted: what its deployment and each function, by name, is charged at most, as limits.
+    Accepted(Vec<u64>, Vec<(String, Vec<u64>)>),
+    /// The rule that it breaks first, with the names of a cycle or the dimension of a bound, and the bytes that do.
+    Refused(Vec<String>, Range<usize>),
+}
+
+/// A table of costs, read once for any number of nodes. It is freed when it is dropped, and stays on its thread.
+pub struct Costs {
+    handle: sys::Handle,
+    stays: PhantomData<*mut u8>,
+}
+
+impl Costs {
+    /// Reads the table of a cost file, or the unit table where `file` is empty.
+    pub fn read(file: &[u8]) -> Result<Costs, Error> {
+        let (number, handle) = sys::read_costs(file);
+        opened(number, Costs { handle, stays: PhantomData })
+    }
+}
+
+impl Drop for Costs {
+    fn drop(&mut self) {
+        sys::close_costs(&mut self.handle);
+    }
+}
+
 /// A node between calls. It is freed when it is dropped, and stays on its thread.
 pub struct Node {
     handle: sys::Handle,
@@ -177,16 +219,12 @@ pub struct Node {
 }
 
 impl Node {
-    /// Opens a node under a cost file, or the unit table where `costs` is empty, with the holders and epochs of a transaction file. Its
-    /// entries aren't done.
-    pub fn open(costs: &[u8], file: &[u8]) -> Result<Node, Error> {
-        let (number, handle) = sys::open(costs, file);
-        let node = Node { handle, stays: PhantomData };
-        match number {
-            0 => Ok(node),
-            9 => Err(Error::Memory(String::new(), 0)),
-            _ => Err(Error::File(String::new())),
-        }
+    /// Opens a node with the holders and epochs of a transaction file, whose entries aren't done; without them where `file` is empty. Its
+    /// tables hash by a random key.
+    pub fn open(costs: &mut Costs, file: &[u8]) -> Result<Node, Error> {
+        let key = random_key().map_err(|why| Error::Random(why.to_string()))?;
+        let (number, handle) = sys::open(&mut costs.handle, file, &key);
+        opened(number, Node { handle, stays: PhantomData })
     }
 
     /// Does the entries of a transaction file, and gives their lines.
@@ -209,6 +247,19 @@ impl Node {
         self.text_of(number)
     }
 
+    /// Checks a source as a contract, a principal in its wire form, that would be deployed on the node. The node stays as it is.
+    pub fn check(&mut self, contract: &[u8], version: Version, source: &[u8]) -> Result<Verdict, Error> {
+        let number = sys::check(&mut self.handle, contract, version as u32, source);
+        let numbers = sys::numbers(&mut self.handle);
+        if number == 6 {
+            return Ok(Verdict::Refused(self.lines(), numbers[0] as usize..numbers[1] as usize));
+        }
+        self.text_of(number)?;
+        let mut costs = numbers.chunks(5).map(<[u64]>::to_vec);
+        let deploy = costs.next().unwrap_or_default();
+        Ok(Verdict::Accepted(deploy, self.lines().into_iter().zip(costs).collect()))
+    }
+
     /// Gives the lines of the state.
     pub fn state(&mut self) -> Result<String, Error> {
         let number = sys::state(&mut self.handle);
@@ -220,8 +271,16 @@ impl Node {
         sys::height(&mut self.handle)
     }
 
+    fn text(&mut self) -> String {
+        String::from_utf8_lossy(&sys::text(&mut self.handle)).into_owned()
+    }
+
+    fn lines(&mut self) -> Vec<String> {
+        self.text().lines().map(String::from).collect()
+    }
+
     fn text_of(&mut self, number: u32) -> Result<String, Error> {
-        let text = String::from_utf8_lossy(&sys::text(&mut self.handle)).into_owned();
+        let text = self.text();
         match number {
             0 => Ok(text),
             5 => Err(Error::File(text)),

@@ -1,6 +1,5 @@
 -- The answer to a request, from what the top call says of its files, its sink and its listeners.
-use Rattle.std.proofs.Common.{◌≡◌, ◌≢◌, ℕ, List, [], ◌++◌, take, drop, refl, sym, ap, subst, ◌∙◌, Some, Result, Ok, Err, append_assoc, arith}
-use Rattle.std.proofs.lemmas.List.{take-append-drop}
+use Rattle.std.proofs.Common.{◌≡◌, ◌≢◌, ℕ, List, [], ◌++◌, refl, sym, ap, subst, ◌∙◌, Some, Result, Ok, Err, arith}
 use Rattle.cl_ports.specs.Files.{Held}
 use Rattle.cl_ports.specs.Growth.{Grows, GrowsPart}
 use Rattle.cl_words.specs.Words.{taken}
@@ -12,7 +11,8 @@ use Rattle.cl_entries.specs.declared.status.Stop.TheVariants.{ReadFailed, WriteF
 use Rattle.cl_listeners.specs.Hearing.{Both}
 use Rattle.cl_app.specs.Top.{DoesCommand, DoesFirst, EachHasScript, HasScript, WritesPart}
 use Rattle.cl_request.specs.Request.{Parts, request_of}
-use Rattle.cl_exports.specs.Answers.{AnswersRequest, AnswersRequestPart, IsAnswer, IsAnswerPart}
+use Rattle.cl_exports.specs.Answers.{AnswersRequest, AnswersRequestPart, CutsAnswer, IsAnswer, IsAnswerPart}
+use Rattle.cl_exports.specs.Copies.{IsCut}
 
 -- an empty sink has what was added
 some_is : (out more : List ℕ) → Some out ≡ Some ([] ++ more) → out ≡ more
@@ -61,15 +61,6 @@ part_of each writes parts words held before out were are same all empty does =
     (subst (λ (h : Held). DoesFirst (taken parts.words) (Some h) (Some before) (Some out) were are) all
     (subst (λ (w : List (List ℕ)). DoesFirst (taken w) (Some held) (Some before) (Some out) were are) same does)))
 
--- a first part of a first part is one
-part_of_part : (parts : Parts) (out : List ℕ) (n : ℕ) → IsAnswerPart parts out → IsAnswerPart parts (take n out)
-part_of_part parts out n part = record {
-  script = part.script;
-  has = part.has;
-  rest = drop n out ++ part.rest;
-  bytes = sym (append_assoc (take n out) (drop n out) part.rest) ∙ ap (λ (x : List ℕ). x ++ part.rest) (take-append-drop n out) ∙ part.bytes;
-}
-
 -- of a request that was read
 pub answers : (bytes ends : List ℕ) (words : ℕ) (parts : Parts) (out : List ℕ) (status : ℕ) → request_of bytes ends words ≡ Some parts → IsAnswer parts out status → AnswersRequest bytes ends words out status
 answers bytes ends words parts out status is answer = record { parts = parts; is_request = is; answer = answer }
@@ -77,21 +68,22 @@ answers bytes ends words parts out status is answer = record { parts = parts; is
 pub answers_part : (bytes ends : List ℕ) (words : ℕ) (parts : Parts) (out : List ℕ) → request_of bytes ends words ≡ Some parts → IsAnswerPart parts out → AnswersRequestPart bytes ends words out
 answers_part bytes ends words parts out is part = record { parts = parts; is_request = is; part = part }
 
-first_answers : (bytes ends : List ℕ) (words : ℕ) (out : List ℕ) (n : ℕ) → AnswersRequestPart bytes ends words out → AnswersRequestPart bytes ends words (take n out)
-first_answers bytes ends words out n a = record { parts = a.parts; is_request = a.is_request; part = part_of_part a.parts out n a.part }
-
 -- ---- an answer that was handed out, of which there are these bytes
 
 pub whole_out : (bytes ends : List ℕ) (words : ℕ) (all out : List ℕ) (status number : ℕ) → (number ≢ 4 → number ≡ status) → (number ≢ 4 → out ≡ all)
-    → (status ≢ 3 → status ≢ 4 → status ≢ 9 → AnswersRequest bytes ends words all status)
+    → (status ≢ 3 → status ≢ 9 → AnswersRequest bytes ends words all status)
     → number ≢ 3 → number ≢ 4 → number ≢ 9 → AnswersRequest bytes ends words out number
 whole_out bytes ends words all out status number same copied answers n3 n4 n9 =
     let is : number ≡ status = same n4 in
     subst (λ (o : List ℕ). AnswersRequest bytes ends words o number) (sym (copied n4))
-    (subst (λ (n : ℕ). AnswersRequest bytes ends words all n) (sym is) (answers (λ h. n3 (is ∙ h)) (λ h. n4 (is ∙ h)) (λ h. n9 (is ∙ h))))
+    (subst (λ (n : ℕ). AnswersRequest bytes ends words all n) (sym is) (answers (λ h. n3 (is ∙ h)) (λ h. n9 (is ∙ h))))
 
-pub part_out : (bytes ends : List ℕ) (words : ℕ) (all out : List ℕ) (n : ℕ) → out ≡ take n all → AnswersRequestPart bytes ends words all → AnswersRequestPart bytes ends words out
-part_out bytes ends words all out n copied part = subst (AnswersRequestPart bytes ends words) (sym copied) (first_answers bytes ends words all n part)
+pub part_out : (bytes ends : List ℕ) (words : ℕ) (all out : List ℕ) (number : ℕ) → (number ≢ 4 → out ≡ all) → AnswersRequestPart bytes ends words all → number ≡ 3 → AnswersRequestPart bytes ends words out
+part_out bytes ends words all out number copied part is = subst (AnswersRequestPart bytes ends words) (sym (copied (λ h. omega (arith, is, h)))) part
+
+pub cut_out : (bytes ends : List ℕ) (words : ℕ) (all out : List ℕ) (needed status : ℕ) → (status ≢ 4 → IsCut all out needed) → status ≢ 4
+    → (status ≢ 3 → status ≢ 9 → AnswersRequest bytes ends words all status) → AnswersRequestPart bytes ends words all → CutsAnswer bytes ends words out needed
+cut_out bytes ends words all out needed status cut kept whole part = record { all = all; status = status; cut = cut kept; whole = whole; part = part }
 
 -- the number of bytes that are no request is that of no answer
 not_ten : (end : Result Status Stop) → 10 ≡ end_number end → ⊥
@@ -109,7 +101,7 @@ none_is_ten : (bytes ends : List ℕ) (words : ℕ) (out : List ℕ) (number : �
 none_is_ten bytes ends words out number a is = not_ten a.answer.script.end (sym is ∙ a.answer.ends)
 
 pub no_request_out : (bytes ends : List ℕ) (words : ℕ) (all out : List ℕ) (status number : ℕ) → (number ≢ 4 → number ≡ status) → (number ≢ 4 → out ≡ all)
-    → (status ≢ 3 → status ≢ 4 → status ≢ 9 → AnswersRequest bytes ends words all status) → number ≡ 10 → ⊥
+    → (status ≢ 3 → status ≢ 9 → AnswersRequest bytes ends words all status) → number ≡ 10 → ⊥
 no_request_out bytes ends words all out status number same copied answers is =
     none_is_ten bytes ends words out number
     (whole_out bytes ends words all out status number same copied answers (λ h. omega (arith, is, h)) (λ h. omega (arith, is, h)) (λ h. omega (arith, is, h))) is

@@ -9,7 +9,7 @@ use Rattle.cl_session.specs.Calls.{call_in}
 use Rattle.cl_session.specs.Sessions.{IsCleared}
 use Rattle.cl_session.proofs.Running.{ran_none}
 use Rattle.cl_exports.specs.declared.outcome.Outcome.{Outcome}
-use Rattle.cl_exports.specs.declared.outcome.Outcome.TheVariants.{Done, BadFile, NoMemory, NoRequest, Falls, HasHolders}
+use Rattle.cl_exports.specs.declared.outcome.Outcome.TheVariants.{Done, BadFile, Refused, NoMemory, NoRequest, Falls, HasHolders}
 use Rattle.cl_exports.specs.Nodes.{CallEnds, MayNotRun, PeekEnds, RefusesFile, RunEnds, RunFileEnds, call_of_bytes, reads, refuses, lacks_memory}
 use Rattle.cl_exports.specs.Files.{IsFile, IsFileFault}
 
@@ -18,6 +18,7 @@ pub not_run : (file : FileSeen) (outcome : Outcome) (before after : Session) →
 not_run file Done before after cause cleared = absurd cause
 not_run file NoMemory before after cause cleared = ran_none file.entries before after cleared
 not_run file BadFile before after cause cleared = (cause, cleared)
+not_run file Refused before after cause cleared = (cause, cleared)
 not_run file NoRequest before after cause cleared = (cause, cleared)
 not_run file Falls before after cause cleared = (cause, cleared)
 not_run file HasHolders before after cause cleared = (cause, cleared)

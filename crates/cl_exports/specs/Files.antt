@@ -7,7 +7,7 @@ use Rattle.cl_costs.specs.Tables.{unit_table}
 use Rattle.cl_ports.specs.declared.TheConstants.{MAX_FILE_BYTES}
 use Rattle.cl_file.specs.Files.{FileReads, FileSeen}
 use Rattle.cl_replies.specs.declared.inputs.FileFault.{FileFault}
-use Rattle.cl_replies.specs.declared.inputs.FileFault.TheVariants.{TooLong, Costs, Transactions}
+use Rattle.cl_replies.specs.declared.inputs.FileFault.TheVariants.{TooLong, Costs, Transactions, Traces}
 
 -- the table of a cost file, or its first fault; where there are no bytes the unit table
 abbrev pub table_in : List ℕ → Result (List CostFn) CostRefusal
@@ -24,6 +24,7 @@ abbrev pub IsCostFault : List ℕ → FileFault → Type 0
 IsCostFault bytes TooLong = MAX_FILE_BYTES < length bytes
 IsCostFault bytes (Costs fault) = table_in bytes ≡ Err fault
 IsCostFault bytes (Transactions fault) = ⊥
+IsCostFault bytes (Traces fault) = ⊥
 
 -- the bytes are this transaction file
 pub record IsFile (bytes : List ℕ) (file : FileSeen) : Type 0 where
@@ -35,6 +36,7 @@ abbrev pub IsFileFault : List ℕ → FileFault → Type 0
 IsFileFault bytes TooLong = MAX_FILE_BYTES < length bytes
 IsFileFault bytes (Costs fault) = ⊥
 IsFileFault bytes (Transactions fault) = FileReads bytes (Err fault)
+IsFileFault bytes (Traces fault) = ⊥
 
 -- a file has neither holders nor epochs
 pub record OnlyEntries (file : FileSeen) : Type 0 where

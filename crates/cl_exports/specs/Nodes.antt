@@ -5,36 +5,48 @@ use Rattle.cl_file.specs.declared.entry.Entry.{Entry}
 use Rattle.cl_file.specs.Entries.{NeverFall}
 use Rattle.cl_file.specs.Files.{FileSeen}
 use Rattle.cl_tx.specs.Step.{schedule_of}
+use Rattle.cl_costs.specs.Schedules.{always}
 use Rattle.cl_lines.specs.StateLines.{IsStateText}
-use Rattle.cl_entries.specs.Entries.{IsFirst}
 use Rattle.cl_replies.specs.declared.inputs.FileFault.{FileFault}
 use Rattle.cl_replies.specs.Inputs.{bad_file_reply}
 use Rattle.cl_request.specs.Pieces.{pieces_of}
 use Rattle.cl_session.specs.declared.session.Session.{Session}
 use Rattle.cl_session.specs.Calls.{call_in}
-use Rattle.cl_session.specs.Sessions.{IsCleared, IsSame, Peeked, Ran, RanPart}
+use Rattle.cl_session.specs.Sessions.{IsCleared, IsOpened, IsSame, Peeked, Ran, RanPart}
 use Rattle.cl_exports.specs.declared.outcome.Outcome.{Outcome}
 use Rattle.cl_exports.specs.declared.outcome.Outcome.TheVariants.{Done, BadFile, NoMemory, NoRequest, Falls, HasHolders}
-use Rattle.cl_exports.specs.Files.{IsCostFault, IsFile, IsFileFault, IsTable, OnlyEntries}
+use Rattle.cl_exports.specs.Files.{IsCostFault, IsFile, IsFileFault, OnlyEntries}
+
+-- ---- costs
+
+-- the bytes give no table: they are bad, or there is no memory
+abbrev pub HasNoTable : List ℕ → Outcome → Type 0
+HasNoTable costs BadFile = (fault : FileFault) × IsCostFault costs fault
+HasNoTable costs NoMemory = Unit {0}
+HasNoTable costs outcome = ⊥
 
 -- ---- opening
 
 -- the node before all entries of a file, with its holders, under the costs of a table and of its epochs
-pub record Opens (costs file : List ℕ) (s : Session) : Type 0 where
-  pub table : List CostFn
-  pub is_table : IsTable costs table
+pub record OpensFile (table : List CostFn) (file : List ℕ) (s : Session) : Type 0 where
   pub seen : FileSeen
   pub is_file : IsFile file seen
-  pub first : IsFirst seen.genesis s.node
-  pub schedule : s.costs ≡ schedule_of table seen
-  pub text : s.text.items ≡ []
-  pub done : s.done ≡ 0
+  pub opened : IsOpened seen.genesis (schedule_of table seen) s
 
--- there is none: a file is bad, or there is no memory
-abbrev pub OpensNot : List ℕ → List ℕ → Outcome → Type 0
-OpensNot costs file BadFile = ((fault : FileFault) × IsCostFault costs fault) ⊎ ((fault : FileFault) × IsFileFault file fault)
-OpensNot costs file NoMemory = Unit {0}
-OpensNot costs file outcome = ⊥
+-- there is none: the file is bad, or there is no memory
+abbrev pub OpensNoFile : List ℕ → Outcome → Type 0
+OpensNoFile file BadFile = (fault : FileFault) × IsFileFault file fault
+OpensNoFile file NoMemory = Unit {0}
+OpensNoFile file outcome = ⊥
+
+-- the same, and where there are no bytes a node without holders, under the costs of a table
+abbrev pub Opens : List CostFn → List ℕ → Session → Type 0
+Opens table [] s = IsOpened [] (always table) s
+Opens table (b ∷ file) s = OpensFile table (b ∷ file) s
+
+abbrev pub OpensNot : List ℕ → Outcome → Type 0
+OpensNot [] outcome = outcome ≡ NoMemory
+OpensNot (b ∷ file) outcome = OpensNoFile (b ∷ file) outcome
 
 -- ---- a transaction file
 

@@ -1,8 +1,9 @@
 //! Bytes that are handed out.
 ghost use Rattle.std.specs.Prelude.{◌≡◌, ◌≤◌, ◌⊎◌, length, min, take};
+ghost use Rattle.cl_exports.specs.Copies.{IsCut};
 
-/// Copies as many bytes as there is room for, and says how many that are.
-pub fn copy_out(from: &[u8], to: &mut [u8]) -> usize
+/// Copies as many items as there is room for, and says how many that are.
+pub fn copy_out<T: Copy>(from: &[T], to: &mut [T]) -> usize
     ensures many { result ≡ min (length from.now) (length to.old) }
     ensures within { result ≤ length to.new }
     ensures copied { take result to.new ≡ take result from.now }
@@ -12,15 +13,17 @@ pub fn copy_out(from: &[u8], to: &mut [u8]) -> usize
     count
 }
 
-/// Copies bytes into `to`, and how many those are into `filled`; gives 0, or 4 where there isn't
-/// room for all of them.
-pub fn fill(from: &[u8], to: &mut [u8], filled: &mut usize) -> u32
+/// Copies bytes into `to`, and how many there are into `needed`; gives 0, or 4 where there isn't room
+/// for all of them.
+#[tactic(auto, using(crate::proofs::Copies::whole_of, crate::proofs::Copies::cut_of))]
+pub fn fill(from: &[u8], to: &mut [u8], needed: &mut usize) -> u32
     ensures number { (result ≡ 0) ⊎ (result ≡ 4) }
-    ensures whole { result ≡ 0 → take filled.new to.new ≡ from.now }
-    ensures part { take filled.new to.new ≡ take filled.new from.now }
-    ensures within { filled.new ≤ length to.new }
+    ensures needed { needed.new ≡ length from.now }
+    ensures within { result ≡ 0 → needed.new ≤ length to.new }
+    ensures whole { result ≡ 0 → take needed.new to.new ≡ from.now }
+    ensures cut { result ≡ 4 → IsCut from.now to.new needed.new }
 {
     let count = copy_out(from, to);
-    *filled = count;
+    *needed = from.len();
     if count < from.len() { 4 } else { 0 }
 }

@@ -9,9 +9,11 @@ pub enum Outcome {
     Done,
     /// A file is too long, no cost file or no transaction file.
     BadFile,
+    /// A source that was checked breaks a rule.
+    Refused,
     /// Memory ran out.
     NoMemory,
-    /// The pieces are no call.
+    /// The pieces are no call, or a check has no contract or no version.
     NoRequest,
     /// A block's height is below the node's.
     Falls,
@@ -19,13 +21,14 @@ pub enum Outcome {
     HasHolders,
 }
 
-/// The number of an outcome. 0, 5 and 9 are the statuses of the program.
+/// The number of an outcome. 0, 5, 6 and 9 are the statuses of the program.
 pub fn number_of(outcome: Outcome) -> u32
     ensures { result ≡ number_of outcome }
 {
     match outcome {
         Outcome::Done => 0,
         Outcome::BadFile => 5,
+        Outcome::Refused => 6,
         Outcome::NoMemory => 9,
         Outcome::NoRequest => 10,
         Outcome::Falls => 12,

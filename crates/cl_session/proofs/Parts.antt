@@ -5,7 +5,6 @@ use Rattle.cl_c32.specs.declared.principal.Principal.{Principal}
 use Rattle.cl_values.specs.Tree.{Tree}
 use Rattle.cl_post.specs.declared.condition.Condition.{Condition}
 use Rattle.cl_post.specs.declared.condition.Mode.TheVariants.{Allow}
-use Rattle.cl_file.specs.declared.entry.Entry.{Entry}
 use Rattle.cl_file.specs.declared.entry.Entry.TheVariants.{Call}
 use Rattle.cl_session.specs.Calls.{call_by, call_in, call_with, contract_in, limit_of, sender_in, values_in}
 use Rattle.cl_request.specs.Request.{text_of}

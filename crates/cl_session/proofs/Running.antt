@@ -1,13 +1,14 @@
 -- The entries of a run, one after another.
-use Rattle.std.proofs.Common.{Result, Ok, Err, OnOk, OnErr, ◌≡◌, ◌⊎◌, ℕ, ◌+◌, ◌<◌, ◌≤◌, List, [], ◌∷◌, ◌++◌, length, take, drop, get_or, refl, sym, ap, subst, ◌∙◌, suc, inl, inr, append_assoc, append-nil, length-take, arith}
+use Rattle.std.proofs.Common.{Result, Ok, Err, OnOk, OnErr, ◌≡◌, ℕ, ◌+◌, ◌<◌, ◌≤◌, List, [], ◌∷◌, ◌++◌, length, take, drop, get_or, refl, sym, ap, subst, ◌∙◌, suc, inl, inr, append_assoc, append-nil, length-take, arith}
 use Rattle.std.proofs.lemmas.List.{take_all, take_more}
 use Rattle.cl_costs.specs.Schedules.{ScheduleSeen}
 use Rattle.cl_file.specs.Entries.{height_after, NeverFall}
 use Rattle.cl_file.specs.declared.entry.Entry.{Entry}
 use Rattle.cl_tx.specs.declared.outcome.TxResult.{TxResult}
 use Rattle.cl_report.specs.Lines.{lines_of, report_from}
-use Rattle.cl_engine.specs.Seen.{Seen}
-use Rattle.cl_engine.specs.Steps.{IsCall, Makes}
+use Rattle.cl_nodes.specs.Seen.{Seen}
+use Rattle.cl_nodes.specs.Steps.{Makes}
+use Rattle.cl_engine.specs.Steps.{IsCall}
 use Rattle.cl_session.specs.declared.session.Session.{Session}
 use Rattle.cl_session.specs.Sessions.{AllMake, IsCleared, Made, MadeOrSame, Ran, RanPart, Stepped}
 use Rattle.cl_session.proofs.Rising.{call_rises, rises_next}

@@ -1,5 +1,5 @@
 -- A call in parts.
-use Rattle.std.specs.Prelude.{ℕ, List, [], ◌∷◌, Option, Some, None, option_map, option_and_then, is_some, Ok, Err, if◌then◌else◌}
+use Rattle.std.specs.Prelude.{ℕ, List, [], ◌∷◌, Option, Some, None, option_and_then, is_some, if◌then◌else◌}
 use Rattle.std.specs.Result.{result_ok}
 use Rattle.cl_c32.specs.Address.{AddressParts}
 use Rattle.cl_c32.specs.declared.principal.Principal.{Principal}

@@ -1,13 +1,23 @@
 -- What calls make of a session.
 use Rattle.std.specs.Prelude.{◌≡◌, ◌+◌, ◌≤◌, ◌⊎◌, ℕ, List, [], ◌∷◌, ◌++◌, length, take}
+use Rattle.cl_c32.specs.declared.principal.Principal.{Principal}
 use Rattle.cl_costs.specs.Schedules.{ScheduleSeen}
 use Rattle.cl_file.specs.declared.entry.Entry.{Entry}
 use Rattle.cl_file.specs.Entries.{height_after}
 use Rattle.cl_tx.specs.declared.outcome.TxResult.{TxResult}
 use Rattle.cl_report.specs.Lines.{lines_of, report_from}
-use Rattle.cl_engine.specs.Seen.{Seen}
-use Rattle.cl_engine.specs.Steps.{Gives, Makes}
+use Rattle.cl_nodes.specs.Seen.{Seen}
+use Rattle.cl_nodes.specs.Steps.{Makes}
+use Rattle.cl_engine.specs.Steps.{Gives}
+use Rattle.cl_entries.specs.Entries.{IsFirst}
 use Rattle.cl_session.specs.declared.session.Session.{Session}
+
+-- the node before all entries, with these holders and these costs
+pub record IsOpened (holders : List (Principal × ℕ)) (costs : ScheduleSeen) (s : Session) : Type 0 where
+  pub first : IsFirst holders s.node
+  pub costs_are : s.costs ≡ costs
+  pub text : s.text.items ≡ []
+  pub done : s.done ≡ 0
 
 -- the node and its costs stay
 pub record IsSame (before after : Session) : Type 0 where

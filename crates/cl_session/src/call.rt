@@ -54,8 +54,8 @@ fn sender_in(alloc: Global, bytes: &[u8]) -> Part<Address>
     }
 }
 
-/// The contract that bytes spell.
-fn contract_in(alloc: Global, bytes: &[u8]) -> Part<Principal>
+/// The contract that bytes spell: a principal in its wire form (SIP-005).
+pub fn contract_in(alloc: Global, bytes: &[u8]) -> Part<Principal>
     ensures found { IfOk result (λ p. contract_in bytes.now ≡ Some p) }
     ensures broken { IfRefused result (λ _. contract_in bytes.now ≡ None) }
 {

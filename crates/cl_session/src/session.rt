@@ -1,18 +1,20 @@
 //! A node between two calls.
 ghost use Rattle.std.specs.Prelude.{◌≡◌, ◌<◌, ◌≤◌, ◌++◌, ◌∷◌, [], length, IfOk, OnErr, OnOk};
+ghost use Rattle.cl_costs.specs.Schedules.{always};
 ghost use Rattle.cl_file.specs.Entries.{height_after, NeverFall};
 ghost use Rattle.cl_tx.specs.Step.{schedule_of};
 ghost use Rattle.cl_report.specs.Lines.{lines_of};
 ghost use Rattle.cl_lines.specs.StateLines.{IsStateText};
 ghost use Rattle.cl_engine.specs.Steps.{IsCall};
-ghost use Rattle.cl_entries.specs.Entries.{IsFirst};
-ghost use Rattle.cl_session.specs.Sessions.{IsCleared, IsSame, MadeOrSame, Peeked, Ran, RanPart, Stepped};
+ghost use Rattle.cl_session.specs.Sessions.{IsCleared, IsOpened, IsSame, MadeOrSame, Peeked, Ran, RanPart, Stepped};
 
+use cl_c32::Principal;
 use cl_costs::{CostTable, Schedule};
 use cl_engine::Node;
-use cl_entries::{first_node, schedule_of};
+use cl_entries::{first_node_with_hash_key, schedule_of};
+use cl_keyed::HashKey;
 use cl_lines::{AddressCache, state_lines};
-use cl_report::lines_with;
+use cl_report::{lines, lines_with};
 use cl_tx::{Entry, TxFile, TxResult};
 use cl_types::NoMemory;
 use std::alloc::Global;
@@ -22,8 +24,11 @@ use std::alloc::Global;
 pub struct Session {
     pub node: Node,
     pub costs: Schedule,
-    pub addresses: AddressCache,
+    /// The texts of addresses. They take memory from the first entry on, if there is any.
+    pub addresses: Option<AddressCache>,
     pub text: Vec<u8>,
+    /// What the last check left, in numbers.
+    pub numbers: Vec<u64>,
     pub done: u32,
 }
 
@@ -34,12 +39,33 @@ impl Drop for Session {
             costs,
             addresses,
             text,
+            numbers,
             done: _,
         } = self;
         drop(node);
         drop(costs);
         drop(addresses);
         drop(text);
+        drop(numbers);
+    }
+}
+
+/// The lines of an entry with its result.
+fn lines_of(
+    alloc: Global,
+    addresses: &mut Option<AddressCache>,
+    number: u32,
+    entry: &Entry,
+    given: &TxResult,
+) -> Result<Vec<u8>, NoMemory>
+    ensures { IfOk result (λ text. text.items ≡ lines_of number entry.now given.now) }
+{
+    if addresses.is_none() {
+        *addresses = AddressCache::new(alloc).ok();
+    }
+    match addresses {
+        Some(addresses) => lines_with(alloc, addresses, number, entry, given),
+        None => lines(alloc, number, entry, given),
     }
 }
 
@@ -47,7 +73,7 @@ impl Drop for Session {
 fn add_lines(
     out: &mut Vec<u8>,
     alloc: Global,
-    addresses: &mut AddressCache,
+    addresses: &mut Option<AddressCache>,
     number: u32,
     entry: &Entry,
     given: &TxResult,
@@ -56,29 +82,71 @@ fn add_lines(
         (out.new.items ≡ out.old.items ++ lines_of number entry.now given.now) }
     ensures same { OnErr result (out.new.items ≡ out.old.items) }
 {
-    let lines = lines_with(alloc, addresses, number, entry, given)?;
+    let lines = lines_of(alloc, addresses, number, entry, given)?;
     out.extend_from_slice(&lines)?;
     Ok(())
 }
 
+/// Nobody holds STX.
+fn no_holders(alloc: Global) -> Vec<(Principal, u128)>
+    ensures { result.items ≡ [] }
+{
+    Vec::new(alloc)
+}
+
+/// A session of a node under these costs, on the heap.
+fn boxed(alloc: Global, node: Node, costs: Schedule) -> Result<Box<Session>, NoMemory>
+    ensures node { IfOk result (λ b. b.value.node ≡ node) }
+    ensures costs { IfOk result (λ b. b.value.costs ≡ costs) }
+    ensures text { IfOk result (λ b. b.value.text.items ≡ []) }
+    ensures done { IfOk result (λ b. b.value.done ≡ 0) }
+{
+    let session = Session {
+        node,
+        costs,
+        addresses: None,
+        text: Vec::new(alloc),
+        numbers: Vec::new(alloc),
+        done: 0,
+    };
+    match Box::new(alloc, session) {
+        Ok(session) => Ok(session),
+        Err(failed) => Err(NoMemory::from(failed)),
+    }
+}
+
 impl Session {
-    /// Before all entries: the holders of a file have their STX, no contract is deployed, the height
-    /// is 0. The costs are those of a table and of the file's epochs. Its entries aren't done.
-    pub fn open(alloc: Global, table: &CostTable, file: &TxFile) -> Result<Session, NoMemory>
-        ensures first { IfOk result (λ s. IsFirst file.now.genesis s.node) }
-        ensures costs { IfOk result (λ s. s.costs ≡ schedule_of table.now file.now) }
-        ensures empty { IfOk result (λ s. (s.text.items ≡ []) × (s.done ≡ 0)) }
+    /// Before the entries of a file: its holders have their STX, no contract is deployed, the height
+    /// is 0. The costs are those of a table and of the file's epochs. Tables of the node hash by this
+    /// key: a random one, where strangers make the entries.
+    pub fn open(
+        alloc: Global,
+        hash_key: HashKey,
+        table: &CostTable,
+        file: &TxFile,
+    ) -> Result<Box<Session>, NoMemory>
+        ensures { IfOk result
+            (λ b. IsOpened file.now.genesis (schedule_of table.now file.now) b.value) }
     {
         let costs = schedule_of(alloc, table, file)?;
-        let addresses = AddressCache::new(alloc)?;
-        let node = first_node(alloc, file)?;
-        Ok(Session {
-            node,
-            costs,
-            addresses,
-            text: Vec::new(alloc),
-            done: 0,
-        })
+        match first_node_with_hash_key(alloc, hash_key, file) {
+            Ok(node) => boxed(alloc, node, costs),
+            Err(_) => Err(NoMemory),
+        }
+    }
+
+    /// The same without holders and epochs.
+    pub fn open_empty(
+        alloc: Global,
+        hash_key: HashKey,
+        table: &CostTable,
+    ) -> Result<Box<Session>, NoMemory>
+        ensures { IfOk result (λ b. IsOpened [] (always table.now) b.value) }
+    {
+        match Node::genesis_with_hash_key(alloc, hash_key, no_holders(alloc)) {
+            Ok(node) => boxed(alloc, node, Schedule::always(alloc, *table)),
+            Err(_) => Err(NoMemory),
+        }
     }
 
     /// Forgets what the last call left.
@@ -86,6 +154,7 @@ impl Session {
         ensures { IsCleared self.old self.new }
     {
         self.text.clear();
+        self.numbers.clear();
         self.done = 0;
     }
 

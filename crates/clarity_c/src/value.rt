@@ -4,6 +4,7 @@ ghost use Rattle.cl_values.specs.Reading.{decoded};
 ghost use Rattle.cl_values.specs.declared.fault.DecodeRefusal.{DecodeRefusal};
 ghost use Rattle.cl_text.specs.Parsed.{Parses, outcome_of};
 ghost use Rattle.cl_text.specs.declared.refusal.TextRefusal.{TextRefusal};
+ghost use Rattle.cl_exports.specs.Copies.{IsCut};
 ghost use Rattle.cl_exports.specs.Values.{IsTextOf, IsWireOf};
 
 use cl_exports::{fill, text_of, wire_of};
@@ -11,24 +12,24 @@ use cl_types::Fault;
 use std::alloc::Global;
 
 /// Gives the wire form (SIP-005) of the value that a text stands for: 0, or 4 where `out` is too
-/// short, 8 where the text stands for no value, 9 without memory. How many bytes were copied comes
-/// into `filled`.
+/// short and has its first bytes, 8 where the text stands for no value, 9 without memory. How many
+/// bytes it has comes into `needed`.
 #[unsafe(no_mangle)]
 pub extern "C" fn clarity_value_wire(
     alloc: Global,
     text: &[u8],
     out: &mut [u8],
-    filled: &mut usize,
+    needed: &mut usize,
 ) -> u32
-    ensures whole { result ≡ 0 → IsWireOf text.now (take filled.new out.new) }
-    ensures part { result ≡ 4 → (bytes : List ℕ) × IsWireOf text.now bytes
-        × (take filled.new out.new ≡ take filled.new bytes) }
+    ensures whole { result ≡ 0 → IsWireOf text.now (take needed.new out.new) }
+    ensures cut { result ≡ 4 →
+        (bytes : List ℕ) × IsWireOf text.now bytes × IsCut bytes out.new needed.new }
     ensures none { result ≡ 8 → (r : TextRefusal) × Parses text.now (outcome_of r) }
-    ensures within { filled.new ≤ length out.new }
+    ensures within { result ≡ 0 → needed.new ≤ length out.new }
 {
-    *filled = 0;
+    *needed = 0;
     match wire_of(alloc, text) {
-        Ok(bytes) => fill(&bytes, out, filled),
+        Ok(bytes) => fill(&bytes, out, needed),
         Err(Fault::Refused(_)) => 8,
         Err(Fault::NoMemory) => 9,
     }
@@ -40,17 +41,17 @@ pub extern "C" fn clarity_value_text(
     alloc: Global,
     bytes: &[u8],
     out: &mut [u8],
-    filled: &mut usize,
+    needed: &mut usize,
 ) -> u32
-    ensures whole { result ≡ 0 → IsTextOf bytes.now (take filled.new out.new) }
-    ensures part { result ≡ 4 → (text : List ℕ) × IsTextOf bytes.now text
-        × (take filled.new out.new ≡ take filled.new text) }
+    ensures whole { result ≡ 0 → IsTextOf bytes.now (take needed.new out.new) }
+    ensures cut { result ≡ 4 →
+        (text : List ℕ) × IsTextOf bytes.now text × IsCut text out.new needed.new }
     ensures none { result ≡ 8 → (fault : DecodeRefusal) × (decoded bytes.now ≡ Err fault) }
-    ensures within { filled.new ≤ length out.new }
+    ensures within { result ≡ 0 → needed.new ≤ length out.new }
 {
-    *filled = 0;
+    *needed = 0;
     match text_of(alloc, bytes) {
-        Ok(text) => fill(&text, out, filled),
+        Ok(text) => fill(&text, out, needed),
         Err(Fault::Refused(_)) => 8,
         Err(Fault::NoMemory) => 9,
     }

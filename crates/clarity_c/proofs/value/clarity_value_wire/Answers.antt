@@ -1,4 +1,5 @@
-use Rattle.std.proofs.Common.{◌∙◌, ap, subst, sym, take}
+use Rattle.std.proofs.Common.{◌∙◌, ℕ, List, subst, sym, take}
+use Rattle.cl_exports.specs.Copies.{IsCut}
 use Rattle.cl_exports.specs.Values.{IsWireOf}
 use Rattle.clarity_c.proofs.Numbers.{no_refusal}
 use Rattle.clarity_c.proofs.value.clarity_value_wire.Goals as goal
@@ -6,8 +7,8 @@ use Rattle.clarity_c.proofs.value.clarity_value_wire.Goals as goal
 pub returns-in-Ok-clause-whole : goal.returns-in-Ok-clause-whole
 returns-in-Ok-clause-whole c = λ is. subst (IsWireOf c.args.text.now) (sym (c.fill.ensures.whole is ∙ c.deref.ensures.value)) c.in-Ok.ensures.found
 
-pub returns-in-Ok-clause-part : goal.returns-in-Ok-clause-part
-returns-in-Ok-clause-part c = λ _. (c.in-Ok.bytes.items, c.in-Ok.ensures.found, c.fill.ensures.part ∙ ap (take c.fill.new.filled) c.deref.ensures.value)
+pub returns-in-Ok-clause-cut : goal.returns-in-Ok-clause-cut
+returns-in-Ok-clause-cut c = λ is. (c.in-Ok.bytes.items, c.in-Ok.ensures.found, subst (λ (all : List ℕ). IsCut all c.fill.new.to c.fill.new.needed) c.deref.ensures.value (c.fill.ensures.cut is))
 
 pub returns-in-Ok-clause-none : goal.returns-in-Ok-clause-none
 returns-in-Ok-clause-none c = λ is. absurd (no_refusal c.fill.result c.fill.ensures.number is)
