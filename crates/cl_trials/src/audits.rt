@@ -1,149 +1,80 @@
-//! Calls that are audited against traces worked out by hand: which nodes give a value is read off the text, and their spans are
-//! counted in it.
-use cl_audit::{Agreement, Audit, audit_call};
-use cl_audit_steps::{Contract, Frame, Scope};
-use cl_audit_walk::{Claim, Cursor, Run};
-use cl_c32::{Address, ContractName, Principal};
+//! The call `audit`, whose refusals of another number of results and of a result that differs no
+//! command reaches.
+use cl_audit::Trace;
+use cl_audit_results::{AuditRefusal, audit, audited};
 use cl_costs::CostTable;
-use cl_forms::{Form, Version, forms};
-use cl_seq::int_value;
-use cl_sexpr::{Span, read};
-use cl_shapes::Meter;
-use cl_state::World;
-use cl_types::Name;
-use cl_values::{Kind, Val};
+use cl_entries::schedule_of;
+use cl_tx::{TxFile, TxResult, read};
+use cl_types::{Fault, NoMemory};
 use std::alloc::Global;
 use std::test::Fail;
 
-// `n` is at 36..37, `1` at 38..39, and the sum at 33..40
-const ADD1: &[u8] = b"(define-read-only (add1 (n int)) (+ n 1))";
+// A block, and a deployment without expressions: neither has claims.
+const FILE: &str = "{\"version\": 1, \"genesis\": [], \"entries\": [
+{\"block\": {\"height\": 7}},
+{\"deploy\": {\"sender\": \"SP000000000000000000002Q6VF78\", \"name\": \"c\", \"source\": \"\"}}
+]}";
 
-fn principal() -> Result<Principal, Fail> {
-    Ok(Principal {
-        address: Address::new(22, &[0; 20]),
-        contract: Some(ContractName::make(b"inc").ok_or("a name")?),
-    })
-}
-
-// The forms of the text, if it breaks no rule.
-fn forms_of(alloc: Global) -> Option<Vec<Form>> {
-    match read(alloc, ADD1) {
-        Ok(items) => match forms(alloc, items, Version::One) {
-            Ok(list) => Some(list),
-            Err(_) => None,
-        },
-        Err(_) => None,
+fn file(alloc: Global) -> Result<TxFile, Fail> {
+    match read(alloc, FILE.as_bytes()) {
+        Ok(file) => Ok(file),
+        Err(_) => Err("a transaction file".into()),
     }
 }
 
-fn contract(alloc: Global) -> Result<Contract, Fail> {
-    Ok(Contract {
-        principal: principal()?,
-        version: Version::One,
-        forms: forms_of(alloc).ok_or("forms")?,
-        source_length: 41,
-        constants: Vec::new(alloc),
-    })
-}
-
-// the first so many claims of the trace of `add1` at 41, of which the last says this sum
-fn claims(alloc: Global, count: usize, sum: i128) -> Result<Vec<Claim>, Fail> {
-    let whole = [(36, 37, 41), (38, 39, 1), (33, 40, sum), (33, 40, sum)];
-    let mut claims = Vec::new(alloc);
-    for claim in whole.iter().take(count) {
-        let (start, end, number) = *claim;
-        claims.push(Claim {
-            span: Span { start, end },
-            value: int_value(number),
-        })?;
-    }
-    Ok(claims)
-}
-
-fn is_42(audit: &Audit) -> bool {
-    match &audit.end {
-        Ok(value) => match &value.value().kind {
-            Kind::Int(number) => *number == 42,
-            _ => false,
-        },
-        Err(_) => false,
+fn results(alloc: Global) -> Result<Vec<TxResult>, Fail> {
+    let file = file(alloc)?;
+    let costs = schedule_of(alloc, &CostTable::builtin(), &file)?;
+    let traces = [Trace::new(alloc), Trace::new(alloc)];
+    match audited(alloc, &file, &costs, &traces) {
+        Ok(results) => Ok(results),
+        Err(_) => Err("results".into()),
     }
 }
 
-// a call by the contract itself
-fn frame_of(own: &Principal) -> Frame {
-    Frame {
-        contract: *own,
-        sender: *own,
-        caller: *own,
-        height: 0,
+// why the auditor says no to these results, if it does
+fn refusal(alloc: Global, results: &[TxResult]) -> Result<Option<AuditRefusal>, Fail> {
+    let file = file(alloc)?;
+    let costs = schedule_of(alloc, &CostTable::builtin(), &file)?;
+    let traces = [Trace::new(alloc), Trace::new(alloc)];
+    match audit(alloc, &file, &costs, &traces, results) {
+        Ok(()) => Ok(None),
+        Err(Fault::Refused(refusal)) => Ok(Some(refusal)),
+        Err(Fault::NoMemory) => Err(NoMemory.into()),
     }
 }
 
-fn scope_over<'a>(
-    alloc: Global,
-    contracts: &'a [Contract],
-    frame: &'a Frame,
-    costs: &'a CostTable,
-) -> Scope<'a> {
-    let opening: Option<&'a Contract> = None;
-    Scope {
-        alloc,
-        opening,
-        contracts,
-        frame,
-        costs,
-    }
+fn refusal_of_all(alloc: Global) -> Result<Option<AuditRefusal>, Fail> {
+    let results = results(alloc)?;
+    refusal(alloc, &results)
 }
 
-// whether `add1` gives 42 at 41, and where these claims differ from its trace
-fn audited(alloc: Global, claims: &[Claim]) -> Result<(bool, Option<usize>), Fail> {
-    let contracts = [contract(alloc)?];
-    let frame = frame_of(&principal()?);
-    let costs = CostTable::builtin();
-    let scope = scope_over(alloc, &contracts, &frame, &costs);
-    let name = Name::make(b"add1").ok_or("a name")?;
-    let function = contracts[0].function(&name).ok_or("a function")?;
-    let values = [int_value(41)];
-    let mut run = Run {
-        world: World::genesis(Vec::new(alloc))?,
-        meter: Meter::new([100; 5]),
-        cursor: Cursor::new(claims),
-    };
-    let audit = audit_call(&mut run, &scope, &function, &values);
-    Ok((
-        is_42(&audit),
-        match audit.agreement {
-            Agreement::Agrees => None,
-            Agreement::DiffersAt(place) => Some(place),
-        },
-    ))
+fn refusal_of_none(alloc: Global) -> Result<Option<AuditRefusal>, Fail> {
+    let results = results(alloc)?;
+    refusal(alloc, &results[..0])
+}
+
+fn refusal_of_the_reverse(alloc: Global) -> Result<Option<AuditRefusal>, Fail> {
+    let mut results = results(alloc)?;
+    results.reverse();
+    refusal(alloc, &results)
 }
 
 #[test]
-fn the_trace_of_a_call_agrees(rt: HostRuntime) -> Result<(), Fail> {
-    let claims = claims(rt.alloc(), 3, 42)?;
-    assert!(rt; audited(rt.alloc(), &claims)? == (true, None));
+fn the_results_of_a_file_are_taken(rt: HostRuntime) -> Result<(), Fail> {
+    assert!(rt; refusal_of_all(rt.alloc())?.is_none());
     Ok(())
 }
 
 #[test]
-fn another_sum_differs(rt: HostRuntime) -> Result<(), Fail> {
-    let claims = claims(rt.alloc(), 3, 43)?;
-    assert!(rt; audited(rt.alloc(), &claims)? == (true, Some(2)));
+fn another_number_of_results_is_counted(rt: HostRuntime) -> Result<(), Fail> {
+    assert!(rt; matches!(refusal_of_none(rt.alloc())?, Some(AuditRefusal::Count)));
     Ok(())
 }
 
 #[test]
-fn one_claim_too_few_differs(rt: HostRuntime) -> Result<(), Fail> {
-    let claims = claims(rt.alloc(), 2, 42)?;
-    assert!(rt; audited(rt.alloc(), &claims)? == (true, Some(2)));
-    Ok(())
-}
-
-#[test]
-fn one_claim_too_many_differs(rt: HostRuntime) -> Result<(), Fail> {
-    let claims = claims(rt.alloc(), 4, 42)?;
-    assert!(rt; audited(rt.alloc(), &claims)? == (true, Some(3)));
+fn the_first_result_that_differs_is_named(rt: HostRuntime) -> Result<(), Fail> {
+    let refusal = refusal_of_the_reverse(rt.alloc())?;
+    assert!(rt; matches!(refusal, Some(AuditRefusal::Differs { entry: 0 })));
     Ok(())
 }
