@@ -186,6 +186,7 @@ ROWS = [
     ("items: `let`s, 30 deep", SOURCES, nested("(let ((x{0} 1)) ", "1", ")", 30)),
     ("items: a `let`, each names the one before", SOURCES, of_numbers("(y{0} y{1})", front="(let ((y 1)", back=") 1)")),
     ("items: a `let`, whose first is named", SOURCES, source(lambda size: numbered("(x{0} 1)", size // 2, "(let (", ")") + filled(" x0", size // 2, " (begin", "))"))),
+    ("a call: a `let`, each names the one before", SOURCES, ran(lambda size: [deploy("c", numbered("(y{0} y{1})", size - 64, "(define-read-only (f) (let ((y 1)", ") 1))")), call(DEPLOYER, "c", "f")], "f value 1")),
     ("items: calls of another contract", SOURCES, calls_across),
     ("items: a function of many parameters", SOURCES, of_numbers("(x{0} int)", front="(define-private (f ", back=") 1)")),
     ("items: a map of a type, 31 deep", SOURCES, of_numbers("(define-map m{0} " + "(optional " * 30 + "int" + ")" * 30 + " int)")),
