@@ -123,9 +123,9 @@ uint32_t clarity_node_peek(clarity_node *node, const uint8_t *bytes, size_t byte
 /* Checks a source of version 1 or 2 of the language as a contract, a principal in its wire form, that would be deployed on the node,
  * under the costs of its height. Nothing is evaluated, and the node stays as it is. It takes time for each function that is deployed.
  *
- * CLARITY_DONE: the contract is accepted. The numbers are five for its deployment and five for each function, in the order of the
- * dimensions: what it is charged at most, as limits (a bound above 2^64-1 as 2^64-1). The text has the names of the functions, in the
- * order of the source, each with a line feed behind it.
+ * CLARITY_DONE: the source is accepted; whether the contract's name is taken isn't looked at. The numbers are five for its deployment
+ * and five for each function, in the order of the dimensions: what it is charged at most, as limits (a bound above 2^64-1 as 2^64-1).
+ * The text has the names of the functions, in the order of the source, each with a line feed behind it.
  * CLARITY_REFUSED: the numbers are two, where the bytes begin and end that break a rule. The text has the rule with a line feed, as
  * "C7 Undetermined" (docs/RULES.md), and behind it the names of a cycle or the dimension of a bound, each with a line feed.
  * CLARITY_REQUEST: it is no principal of a contract, or another version. */

@@ -24,9 +24,9 @@ pub enum Status {
     Usage,
     /// A file that the words name isn't among those that were given.
     Read,
-    /// A file is too long, no cost file or no transaction file.
+    /// A file is too long, or not in its format.
     File,
-    /// A contract of `check` or the deployment of `call` is refused, or `verify` says no.
+    /// A contract of `check` or the deployment of `call` is refused, or `audit` or `verify` says no.
     Refused,
     /// The deployment of `call` aborts, or its call is an err, aborted or refused.
     Failed,
