@@ -3,3 +3,4 @@ pub mod Reached
 pub mod Taken
 pub mod Along
 pub mod Here
+pub mod Counted

@@ -77,3 +77,15 @@ IsAuditRefusal schedule file traces results (AtClaim entry claim) =
     (meant : List TxResult) (told : List (List Told)) → FileTraced schedule file meant told → FirstAt (ClaimDiffers claim) meant told results (claims_of traces) entry
 IsAuditRefusal schedule file traces results (Differs entry) =
     (meant : List TxResult) (told : List (List Told)) → FileTraced schedule file meant told → FirstAt ResultDiffers meant told results (claims_of traces) entry
+
+-- there are as many traces as entries, where the cause is another than their number
+abbrev pub HasTraces : FileSeen → List Trace → AuditRefusal → Type 0
+HasTraces file traces Count = Unit {0}
+HasTraces file traces (AtClaim entry claim) = length traces ≡ length file.entries
+HasTraces file traces (Differs entry) = length traces ≡ length file.entries
+
+-- and as many results
+abbrev pub HasResults : FileSeen → List TxResult → AuditRefusal → Type 0
+HasResults file results Count = Unit {0}
+HasResults file results (AtClaim entry claim) = length results ≡ length file.entries
+HasResults file results (Differs entry) = length results ≡ length file.entries

@@ -2,7 +2,7 @@
 ghost use Rattle.std.specs.Prelude.{◌≡◌, ◌<◌, ◌^◌, length, IfOk};
 ghost use Rattle.std.specs.List.{All};
 ghost use Rattle.cl_types.specs.Fault.{IfRefused};
-ghost use Rattle.cl_audit_results.specs.Audits.{AreAudited, IsAuditRefusal};
+ghost use Rattle.cl_audit_results.specs.Audits.{AreAudited, HasResults, HasTraces, IsAuditRefusal};
 
 use crate::refusal::AuditRefusal;
 use crate::results::{audit_at, first_node};
@@ -30,6 +30,8 @@ pub fn audit(
     ensures right { IfOk result (λ _. AreAudited costs.now file.now traces.now results.now) }
     ensures refused { IfRefused result
         (λ r. IsAuditRefusal costs.now file.now traces.now results.now r) }
+    ensures traced { IfRefused result (λ r. HasTraces file.now traces.now r) }
+    ensures counted { IfRefused result (λ r. HasResults file.now results.now r) }
 {
     nodes_are_known_in_one_way();
     entries_have_one_trace();

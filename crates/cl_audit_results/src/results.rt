@@ -4,7 +4,7 @@ ghost use Rattle.std.specs.List.{All};
 ghost use Rattle.cl_types.specs.Fault.{IfRefused};
 ghost use Rattle.cl_events.specs.State.{genesis};
 ghost use Rattle.cl_file.specs.Entries.{height_after};
-ghost use Rattle.cl_audit_results.specs.Audits.{AreAudited, IsRefusal};
+ghost use Rattle.cl_audit_results.specs.Audits.{AreAudited, HasTraces, IsRefusal};
 ghost use Rattle.cl_audit_results.specs.Turns.{IsAudited, IsAuditedAt, IsRefusedAt, IsRefusedFor, MayFollow};
 
 use crate::refusal::AuditRefusal;
@@ -89,6 +89,7 @@ pub fn audited(
     requires few { All (λ t. length t.claims.items < 2 ^ 32) traces.now }
     ensures results { IfOk result (λ rs. AreAudited costs.now file.now traces.now rs.items) }
     ensures refused { IfRefused result (λ r. IsRefusal costs.now file.now traces.now r) }
+    ensures traced { IfRefused result (λ r. HasTraces file.now traces.now r) }
 {
     nodes_are_known_in_one_way();
     entries_have_one_trace();

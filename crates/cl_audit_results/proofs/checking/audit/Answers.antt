@@ -3,6 +3,7 @@ use Rattle.cl_types.proofs.Faults.{passes}
 use Rattle.cl_file.specs.Entries.{NeverFall}
 use Rattle.cl_tx.specs.declared.outcome.TxResult.{TxResult}
 use Rattle.cl_audit_results.specs.Audits.{claims_of}
+use Rattle.cl_audit_results.proofs.Counted.{has_results, has_traces}
 use Rattle.cl_audit_results.proofs.Along.{along_next, beside_differs, beside_refused}
 use Rattle.cl_audit_results.proofs.Reached.{Reaches, may_follow, reaches_first}
 use Rattle.cl_audit_results.proofs.Taken.{all_taken, audited_taken, is_at, items_same, taken_next}
@@ -49,3 +50,27 @@ pub returns-clause-right : goal.returns-clause-right
 returns-clause-right c =
     let size = ap length c.entries-count.ensures.value in
     audited_taken c.args.costs.now c.args.file.now c.args.traces.now c.args.results.now (take c.loop-at.at c.args.results.now) c.loop-at.node c.loop-at.at (omega (arith, size)) (omega (arith, size)) (all_taken c.args.results.now c.loop-at.at (omega (arith, size))) c.loop-at.invariant
+
+pub returns-in_err-meant-clause-traced : goal.returns-in_err-meant-clause-traced
+returns-in_err-meant-clause-traced c =
+    let size = ap length c.entries-count.ensures.value in
+    passes c.from_residual-in_err-meant.result c.in_err-meant.field-0.0
+    (λ why h. has_traces c.args.file.now c.args.traces.now (omega (arith, size)) why)
+    c.from_residual-in_err-meant.ensures.1 c.in_err-meant.ensures.refused
+
+pub returns-then-not-equal_results-clause-traced : goal.returns-then-not-equal_results-clause-traced
+returns-then-not-equal_results-clause-traced c =
+    let size = ap length c.entries-count.ensures.value in
+    omega (arith, size)
+
+pub returns-in_err-meant-clause-counted : goal.returns-in_err-meant-clause-counted
+returns-in_err-meant-clause-counted c =
+    let size = ap length c.entries-count.ensures.value in
+    passes c.from_residual-in_err-meant.result c.in_err-meant.field-0.0
+    (λ why h. has_results c.args.file.now c.args.results.now (omega (arith, size)) why)
+    c.from_residual-in_err-meant.ensures.1 c.in_err-meant.ensures.refused
+
+pub returns-then-not-equal_results-clause-counted : goal.returns-then-not-equal_results-clause-counted
+returns-then-not-equal_results-clause-counted c =
+    let size = ap length c.entries-count.ensures.value in
+    omega (arith, size)

@@ -3,6 +3,7 @@ use Rattle.cl_types.proofs.Faults.{passes}
 use Rattle.cl_file.specs.Entries.{NeverFall}
 use Rattle.cl_tx.specs.declared.outcome.TxResult.{TxResult}
 use Rattle.cl_audit_results.specs.Audits.{claims_of}
+use Rattle.cl_audit_results.proofs.Counted.{has_traces}
 use Rattle.cl_audit_results.proofs.Along.{along_next, along_refused}
 use Rattle.cl_audit_results.proofs.Reached.{Reaches, may_follow, reaches_first}
 use Rattle.cl_audit_results.proofs.Taken.{audited_taken}
@@ -36,3 +37,10 @@ pub returns-clause-results : goal.returns-clause-results
 returns-clause-results c =
     let size = ap length c.entries-count.ensures.value in
     audited_taken c.args.costs.now c.args.file.now c.args.traces.now c.loop-at.results.items c.loop-at.results.items c.loop-at.node c.loop-at.at (omega (arith, size)) (omega (arith, size)) refl c.loop-at.invariant
+
+pub returns-in_err-given-clause-traced : goal.returns-in_err-given-clause-traced
+returns-in_err-given-clause-traced c =
+    let size = ap length c.entries-count.ensures.value in
+    passes c.from_residual-in_err-given.result c.in_err-given.field-0.0
+    (λ why h. has_traces c.args.file.now c.args.traces.now (omega (arith, size)) why)
+    c.from_residual-in_err-given.ensures.1 c.in_err-given.ensures.refused
