@@ -15,8 +15,16 @@
 #include <stddef.h>
 #include <stdint.h>
 
+/* The version of this header and of the library that comes with it. */
+#define CLARITY_VERSION "0.1.0"
+#define CLARITY_VERSION_MAJOR 0
+#define CLARITY_VERSION_MINOR 1
+#define CLARITY_VERSION_PATCH 0
+
 #ifdef __cplusplus
 extern "C" {
+#else
+#include <stdbool.h>
 #endif
 
 /* What a call returns. 0 to 9 are the statuses of the program clarity (docs/REPORT.md). */
@@ -64,10 +72,10 @@ uint32_t clarity_value_text(const uint8_t *bytes, size_t bytes_length, uint8_t *
 /* A handle. Begin with CLARITY_NO_COSTS; copy it nowhere, and change nothing in it. */
 typedef struct clarity_costs {
     uint8_t *at;
-    _Bool is_open;
+    bool is_open;
 } clarity_costs;
 
-#define CLARITY_NO_COSTS {0, 0}
+#define CLARITY_NO_COSTS {NULL, false}
 
 /* Reads the table of a cost file, or the unit table where file_length is 0. Read once, it serves any number of nodes. Close a table that
  * the handle has before: it is lost otherwise.
@@ -83,10 +91,10 @@ void clarity_costs_close(clarity_costs *costs);
 /* A handle. Begin with CLARITY_NO_NODE; copy it nowhere, and change nothing in it. */
 typedef struct clarity_node {
     uint8_t *at;
-    _Bool is_open;
+    bool is_open;
 } clarity_node;
 
-#define CLARITY_NO_NODE {0, 0}
+#define CLARITY_NO_NODE {NULL, false}
 
 /* Opens a node under a table of costs. Its holders and epochs are those of a transaction file, whose entries aren't done; where
  * file_length is 0 it has none. Close a node that the handle has before: it is lost otherwise.

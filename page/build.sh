@@ -1,11 +1,18 @@
 #!/usr/bin/env bash
 # Makes page/dist: the page, and the engine as a WebAssembly module. It proves clarity_c, keeps the LLVM code that the library is
-# compiled of, and compiles it for wasm64. Any server can hand page/dist out: cd page/dist && python3 -m http.server
-# `rt` and python3 have to be on PATH. Usage: page/build.sh [--code FILE], with FILE for trials: the LLVM code of an unproved build.
-set -eu
+# compiled of, and compiles it for wasm64. With --unproved it takes that code before any proof, in minutes, and the page says so. The
+# module is kept until a source changes. Any server can hand page/dist out: cd page/dist && python3 -m http.server
+# `rt` and python3 have to be on PATH. Usage: page/build.sh [--unproved]
+set -euo pipefail
 [ "${1-}" != --help ] || exec sed -n '2,/^[^#]/s/^# \{0,1\}//p' "$0"
 page=$(cd "$(dirname "${BASH_SOURCE[0]}")" && pwd)
 top=$(dirname "$page") crate=$(dirname "$page")/crates/clarity_c
+. "$top/bindings/common.sh"
+case "$*" in
+"") way=proved ;;
+--unproved) way=unproved ;;
+*) echo "page/build.sh --help shows the usage" >&2 && exit 2 ;;
+esac
 kit=$(dirname "$(rt doc)")
 work=$(mktemp -d)
 trap 'rm -rf "$work"' EXIT
@@ -39,12 +46,18 @@ END
     chmod +x "$work"/kit/toolchain/bin/*
 }
 
-# The LLVM code of the proved library, as $work/library.ll.
-prove() {
+# The LLVM code of the library, as $work/library.ll.
+proved() {
+    link_kit
     rm -f "$crate/out/libclarity_c.a"
     (cd "$crate" && "$work/kit/bin/rt" lib >"$work/log" 2>&1) || { tail -n 40 "$work/log" >&2 && exit 1; }
-    "$kit/toolchain/bin/clang" --target=x86_64-unknown-linux-gnu --no-default-config -w -x ir -S -emit-llvm -O0 -Xclang -disable-llvm-passes \
-        "$(ls -S "$work"/kept/*.bc | head -n 1)" -o "$work/library.ll"
+    as_text "$(ls -S "$work"/kept/*.bc | head -n 1)" >"$work/library.ll"
+}
+
+# Without the checks at run time: they take stack, which a browser has little of.
+unproved() {
+    write_unproved_code "$work/checked.ll"
+    grep -v 'call void @"rattle-llvm-checks::' "$work/checked.ll" >"$work/library.ll"
 }
 
 # The module, of the LLVM code under this path: it is lowered for x86-64, whose pointers and layout have the same sizes, and uses
@@ -71,12 +84,13 @@ compile() {
 
 # The examples, the rules and what the page says of its engine, as JSON.
 data() {
-    python3 - "$top" "$(git -C "$top" describe --always --dirty 2>/dev/null || echo unknown)" "$(rt version | head -n 1)" "$1" <<'END'
+    python3 - "$top" "$("$top/tools/build" commit || echo unknown)" "$(rt version | head -n 1)" "$1" <<'END'
 import json
 import pathlib
 import sys
 
-top, (commit, kit, proved) = pathlib.Path(sys.argv[1]), sys.argv[2:]
+SAYS = {"proved": "The engine is proved before it is built (docs/PROVED.md).", "unproved": "This build of the engine isn't proved."}
+top, (commit, kit, way) = pathlib.Path(sys.argv[1]), sys.argv[2:]
 sys.path.insert(0, str(top / "tools"))
 sys.dont_write_bytecode = True
 import advice  # noqa: E402
@@ -87,21 +101,21 @@ examples = {"token": {"name": "token", "source": token, "calls": calls}}
 for path in sorted(top.glob("examples/*.clar")):
     examples[path.stem] = {"name": path.stem, "source": path.read_text(), "calls": ""}
 rules = {rule: [text for _, text in says] for rule, says in advice.of_rules().items()}
-engine = f"Engine {commit}, {kit}. {proved} The way to WebAssembly, its heap and this page aren't proved."
+engine = f"Engine {commit}, {kit}. {SAYS[way]} The way to WebAssembly, its heap and this page aren't proved."
 print(json.dumps({"examples": examples, "rules": rules, "engine": engine}))
 END
 }
 
-rm -rf "$page/dist"
-mkdir -p "$page/dist"
-if [ "${1-}" = --code ]; then
-    compile "$2" "$page/dist/clarity.wasm"
-    data "This build of the engine isn't proved." >"$page/dist/data.json"
-else
-    link_kit
-    prove
-    compile "$work/library.ll" "$page/dist/clarity.wasm"
-    data "The engine is proved before it is built (docs/PROVED.md)." >"$page/dist/data.json"
+[ $way = proved ] || say_unproved
+dist=$page/dist
+mkdir -p "$dist"
+if ! is_kept "$dist" $way "$page/wasm" "$page/build.sh"; then
+    : >"$work/began"
+    $way
+    compile "$work/library.ll" "$work/clarity.wasm"
+    rm -f "$dist"/{un,}proved
+    mv "$work/clarity.wasm" "$dist/" && mv "$work/began" "$dist/$way"
 fi
-cp "$page"/{index.html,page.css,page.mjs,worker.mjs} "$top/examples/unit.json" "$page/dist/"
-ls -l "$page/dist/clarity.wasm"
+data $way >"$dist/data.json"
+cp "$page"/{index.html,page.css,page.mjs,worker.mjs} "$top/examples/unit.json" "$dist/"
+ls -l "$dist/clarity.wasm"

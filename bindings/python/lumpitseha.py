@@ -12,6 +12,8 @@ import enum
 import json
 import os
 
+__version__ = "0.1.0"
+
 
 class Status(enum.IntEnum):
     """What a call returns, as include/clarity.h says."""

@@ -15,6 +15,9 @@ use std::io::{self, Read};
 use std::marker::PhantomData;
 use std::ops::Range;
 
+/// The version of this crate, and of the library that it is made for.
+pub const VERSION: &str = env!("CARGO_PKG_VERSION");
+
 /// The status of a whole answer, as the program has it.
 #[derive(Clone, Copy, Debug, PartialEq, Eq)]
 pub enum Status {
