@@ -4,20 +4,11 @@
 # Usage: bench/report.sh
 set -eu
 [ "${1-}" != --help ] || exec sed -n '2,/^[^#]/s/^# \{0,1\}//p' "$0"
-report=$(cd "$(dirname "$0")/../tools" && pwd)/report
+tools=$(cd "$(dirname "$0")/../tools" && pwd)
+. "$tools/../bench/counts.sh"
 folder=$(mktemp -d)
 trap 'rm -rf "$folder"' EXIT
 cd "$folder"
-tried=0
-
-# Compares what `tools/report` with these words prints of the file `given`, and its status, with what standard input has.
-wanted() {
-    tried=$((tried + 1))
-    status=0
-    "$report" "$@" <given >shown 2>&1 || status=$?
-    echo "status $status" >>shown
-    diff shown - || { echo "differs: case $tried, tools/report $*"; exit 1; }
-}
 
 cat >tx.json <<'FILE'
 {"version": 1, "genesis": [{"principal": "SP000000000000000000002Q6VF78", "stx": "u9"}], "entries": [
@@ -64,9 +55,9 @@ cat >wanted <<'SHOWN'
  {"entry": 5, "kind": "deploy", "contract": "SP000000000000000000002Q6VF78.d", "outcome": "refused", "rule": "E7", "name": "ContractRefused", "broken": {"rule": "O1", "name": "Cycle", "start": 0, "end": 24, "names": ["a", "b"]}, "text": "refused E7 ContractRefused O1 Cycle 0..24 a b", "events": []}
 SHOWN
 cp honest given
-wanted tx.json < <(cat wanted && printf '], "state": null}\nstatus 0\n')
+wanted report tx.json < <(cat wanted && printf '], "state": null}\nstatus 0\n')
 cat honest state >given
-wanted tx.json < <(
+wanted report tx.json < <(
     cat wanted
     cat <<'SHOWN'
 ], "state": [
@@ -80,12 +71,12 @@ SHOWN
 # The report may be a file too.
 cp honest given
 : >empty
-wanted tx.json given < <(cat wanted && printf '], "state": null}\nstatus 0\n')
+wanted report tx.json given < <(cat wanted && printf '], "state": null}\nstatus 0\n')
 
 # Alterations of the honest report, each with the place that is named: a byte is counted from 0.
 altered() {
     sed "$1" honest >given
-    wanted tx.json < <(printf 'report: byte %s\nstatus 1\n' "$2")
+    wanted report tx.json < <(printf 'report: byte %s\nstatus 1\n' "$2")
 }
 altered 's/^0 block 7/0 block 8/' "8: expected the height of the file"
 altered 's/^2 call .* put ok/2 call '"'SP000000000000000000002Q6VF78.c"' get ok/' "304: expected the function of the file"
@@ -99,12 +90,12 @@ altered 's/ A8 CostLimit write_length/ A8 CostLimit time/' "787: expected a dime
 altered 's/refused E7.*/refused E2 NoFunction/' "875: expected why it ended so"
 altered 's/event stx-burn/event stx-melt/' "555: expected an event"
 (cat honest && tac state) >given
-wanted tx.json <<'SHOWN'
+wanted report tx.json <<'SHOWN'
 report: byte 955: expected a line above the one before
 status 1
 SHOWN
 (cat honest state && echo "var 'SP000000000000000000002Q6VF78.c n u1") >given
-wanted tx.json <<'SHOWN'
+wanted report tx.json <<'SHOWN'
 report: byte 1045: expected a line above the one before
 status 1
 SHOWN
@@ -127,7 +118,7 @@ stx 'SP000000000000000000002Q6VF78 u9
 var refused E1 NoContract
 FILE
 printf "2 call 'SP000000000000000000002Q6VF78.c  \303\251\000 refused E1 NoContract\n" >>given
-wanted forged.json <<'SHOWN'
+wanted report forged.json <<'SHOWN'
 {"entries": [
  {"entry": 0, "kind": "call", "contract": "SP000000000000000000002Q6VF78.c", "function": "pay ok true\n  cost 1 0 0 0 0\n  event stx-transfer 'SP000000000000000000002Q6VF78.c u9 'SP000000000000000000002Q6VF78 'SP000000000000000000002Q6VF78.c\n1 call 'SP000000000000000000002Q6VF78.c pay", "outcome": "refused", "rule": "E1", "name": "NoContract", "text": "refused E1 NoContract", "events": []},
  {"entry": 1, "kind": "call", "contract": "SP000000000000000000002Q6VF78.c", "function": "g refused E2 NoFunction\nstx 'SP000000000000000000002Q6VF78 u9\nvar", "outcome": "refused", "rule": "E1", "name": "NoContract", "text": "refused E1 NoContract", "events": []},
@@ -139,12 +130,12 @@ SHOWN
 head -n 3 given >pretended
 echo "1 call 'SP000000000000000000002Q6VF78.c pay ok true" >>pretended
 mv pretended given
-wanted forged.json <<'SHOWN'
+wanted report forged.json <<'SHOWN'
 report: byte 242: expected the cost
 status 1
 SHOWN
 printf "0 deploy 'SP000000000000000000002Q6VF78.main done\n  cost 2 0 0 2 41\n  deploy-bound 2 0 0 2 41\n1 call 'SP000000000000000000002Q6VF78.main f value 1\n  cost 1 0 0 0 0\n refused E2 NoFunction\n" >given
-wanted --call $'f value 1\n  cost 1 0 0 0 0\n' <<'SHOWN'
+wanted report --call $'f value 1\n  cost 1 0 0 0 0\n' <<'SHOWN'
 {"entries": [
  {"entry": 0, "kind": "deploy", "contract": "SP000000000000000000002Q6VF78.main", "outcome": "done", "text": "done", "cost": [2, 0, 0, 2, 41], "deploy_bound": [2, 0, 0, 2, 41], "bounds": [], "events": []},
  {"entry": 1, "kind": "call", "contract": "SP000000000000000000002Q6VF78.main", "function": "f value 1\n  cost 1 0 0 0 0\n", "outcome": "refused", "rule": "E2", "name": "NoFunction", "text": "refused E2 NoFunction", "events": []}
@@ -154,14 +145,14 @@ SHOWN
 
 # The other answers.
 printf "0 deploy 'SP000000000000000000002Q6VF78.main refused E7 ContractRefused B1 BoundTooLarge 483..541 runtime\n" >given
-wanted --call f <<'SHOWN'
+wanted report --call f <<'SHOWN'
 {"entries": [
  {"entry": 0, "kind": "deploy", "contract": "SP000000000000000000002Q6VF78.main", "outcome": "refused", "rule": "E7", "name": "ContractRefused", "broken": {"rule": "B1", "name": "BoundTooLarge", "start": 483, "end": 541, "dimension": "runtime"}, "text": "refused E7 ContractRefused B1 BoundTooLarge 483..541 runtime", "events": []}
 ]}
 status 0
 SHOWN
 printf "contract 'SP000000000000000000002Q6VF78.a\n  deploy-bound 1 0 0 1 0\ncontract 'SP000000000000000000002Q6VF78.b refused C7 Undetermined 22..41\n" >given
-wanted --check <<'SHOWN'
+wanted report --check <<'SHOWN'
 {"contracts": [
  {"contract": "SP000000000000000000002Q6VF78.a", "deploy_bound": [1, 0, 0, 1, 0], "bounds": []},
  {"contract": "SP000000000000000000002Q6VF78.b", "broken": {"rule": "C7", "name": "Undetermined", "start": 22, "end": 41}}
@@ -169,23 +160,23 @@ wanted --check <<'SHOWN'
 status 0
 SHOWN
 echo "contract 'SP000000000000000000002Q6VF78.c" >>given
-wanted --check <<'SHOWN'
+wanted report --check <<'SHOWN'
 report: byte 140: expected the end of the report
 status 1
 SHOWN
 echo 'bad file tx.json NotJson' >given
-wanted tx.json <<'SHOWN'
+wanted report tx.json <<'SHOWN'
 {"bad_file": "tx.json NotJson"}
 status 0
 SHOWN
 echo 'refused NotALiteral 0..3' >given
-wanted --call f <<'SHOWN'
+wanted report --call f <<'SHOWN'
 {"refused": "NotALiteral 0..3"}
 status 0
 SHOWN
 : >given
 echo '{"version": 1, "genesis": [], "entries": []}' >none.json
-wanted none.json <<'SHOWN'
+wanted report none.json <<'SHOWN'
 {"entries": [], "state": null}
 status 0
 SHOWN
@@ -199,7 +190,7 @@ cat >begun <<'FILE'
 1 call 'SP000000000000000000002Q6VF78.c g refused E8 NoBound write_length
 FILE
 cp begun given
-wanted epochs.json <<'SHOWN'
+wanted report epochs.json <<'SHOWN'
 {"entries": [
  {"entry": 0, "kind": "block", "height": 10, "rebounds": [{"contract": "SP000000000000000000002Q6VF78.c", "function": "f", "bound": [9, 0, 0, 0, 340282366920938463463374607431768211455], "type": "(list 2 (buff 4))"}, {"contract": "SP000000000000000000002Q6VF78.c", "function": "g", "over": "write_length"}]},
  {"entry": 1, "kind": "call", "contract": "SP000000000000000000002Q6VF78.c", "function": "g", "outcome": "refused", "rule": "E8", "name": "NoBound", "dimension": "write_length", "text": "refused E8 NoBound write_length", "events": []}
@@ -209,7 +200,7 @@ SHOWN
 # Each alteration, and what is said of it.
 unlike() {
     sed "$1" begun >given
-    wanted epochs.json < <(printf 'report: byte %s\nstatus 1\n' "$2")
+    wanted report epochs.json < <(printf 'report: byte %s\nstatus 1\n' "$2")
 }
 unlike 's/over write_length$/over time/' "172: expected a dimension"
 unlike 's/E8 NoBound.*/E8 NoBound/' "245: expected ' '"
@@ -217,17 +208,19 @@ unlike "s/^  rebound 'SP000000000000000000002Q6VF78.c g/  rebound g/" "132: expe
 unlike 's/ (list 2 (buff 4))$//' "103: expected ' '"
 
 # What can't be read.
-wanted absent.json <<'SHOWN'
+wanted report absent.json <<'SHOWN'
 report: absent.json: No such file or directory
 status 3
 SHOWN
 echo '{"entries": 7}' >number.json
-wanted number.json <<'SHOWN'
+wanted report number.json <<'SHOWN'
 report: number.json is no transaction file: it has no array `entries`
 status 3
 SHOWN
-tried=$((tried + 1))
-status=0
-"$report" --state >shown 2>&1 </dev/null || status=$?
-[ $status = 2 ] && grep -q '^usage: tools/report' shown || { echo "differs: usage"; exit 1; }
-echo "tools/report: $tried of $tried"
+misused report --state
+misused report
+misused report tx.json honest state
+misused report --call f honest state
+misused report --call
+misused report --check honest state
+summary

@@ -4,31 +4,30 @@
 # Usage: bench/scenario.sh
 set -eu
 [ "${1-}" != --help ] || exec sed -n '2,/^[^#]/s/^# \{0,1\}//p' "$0"
-top=$(cd "$(dirname "$0")/.." && pwd)
+tools=$(cd "$(dirname "$0")/../tools" && pwd)
+. "$tools/../bench/counts.sh"
 folder=$(mktemp -d)
 trap 'rm -rf "$folder"' EXIT
 cd "$folder"
-tried=0
-# The stub: `run` gives the file `answer`, with the status in `status`.
+: >given
+# The stub: `run` gives the file `answer`, with the status in `status`; but once the file `first`, with 5, if it is there.
 cat >program <<'PROGRAM'
 #!/usr/bin/env bash
 case $1 in
 wire) echo 0x03 ;;
-*) cat answer && exit "$(cat status)" ;;
+*)
+    if [ -e first ]; then
+        cat first
+        rm first
+        exit 5
+    fi
+    cat answer
+    exit "$(cat status)"
+    ;;
 esac
 PROGRAM
 chmod +x program
 export CLARITY=$folder/program
-
-# Compares what a tool prints, and its status, with what standard input has.
-wanted() {
-    tried=$((tried + 1))
-    ended=0
-    "$top/tools/$@" >shown 2>&1 || ended=$?
-    echo "status $ended" >>shown
-    sed -i "s#$folder#FOLDER#" shown
-    diff shown - || { echo "differs: case $tried, tools/$*"; exit 1; }
-}
 
 mkdir parts
 printf '(define-read-only (f) "1")\n' >parts/f.clar
@@ -73,38 +72,88 @@ wanted txfile empty.scenario <<'SHOWN'
 {"version": 1, "genesis": [], "entries": []}
 status 0
 SHOWN
-python3 - "$top" <<'PYTHON'
-import json, subprocess, sys
+"$tools/txfile" "$tools/../examples/coin.scenario" | python3 -m json.tool --sort-keys >shown
+compare "examples/coin.scenario" < <(python3 -m json.tool --sort-keys "$tools/../examples/coin.json")
 
-made = subprocess.run([f"{sys.argv[1]}/tools/txfile", f"{sys.argv[1]}/examples/coin.scenario"], stdout=subprocess.PIPE).stdout
-with open(f"{sys.argv[1]}/examples/coin.json") as file:
-    if json.loads(made) != json.load(file):
-        sys.exit("differs: examples/coin.scenario is no longer examples/coin.json")
-PYTHON
-
-# Lines that aren't of their form.
+# Lines that aren't of their form. Each scenario begins with two names.
 refused() {
-    printf '%b' "$1" >bad.scenario
-    wanted txfile bad.scenario < <(printf 'txfile: bad.scenario:%s\nstatus 3\n' "$2")
+    printf 'name a SP000000000000000000002Q6VF78\nname bank SP2J6ZY48GV1EZ5V2V5RB9MP66SW86PYKKNRV9EJ7\n%b' "$1" >bad.scenario
+    wanted txfile bad.scenario < <(printf 'txfile: bad.scenario:%s\n' "${@:2}" && echo 'status 3')
 }
-refused '\nfoo\n' '2: `foo` begins no line of a scenario: name, stx, epoch, block, deploy, call, state do'
-refused 'block 7\n mode deny' '2: `mode` belongs below a deployment or a call'
-refused 'mode deny' '1: `mode` begins no line of a scenario: name, stx, epoch, block, deploy, call, state do'
-refused 'deploy a b parts/f.clar\n rebound a.b f over runtime' '2: `rebound` belongs below a block'
-refused 'block 7\n rebound a.b f over time' '2: a line of this kind is: rebound CONTRACT NAME RUNTIME READ_COUNT READ_LENGTH WRITE_COUNT WRITE_LENGTH or rebound CONTRACT NAME over DIMENSION'
-refused 'epoch 5 parts/f.clar' "1: parts/f.clar isn't JSON"
-refused 'epoch -5 parts/free.json' '1: a line of this kind is: epoch HEIGHT PATH'
-refused 'epoch 5 no.json' '1: no.json: No such file or directory'
-refused 'block -1' '1: a line of this kind is: block HEIGHT'
-refused 'name a SP000000000000000000002Q6VF79' '1: `SP000000000000000000002Q6VF79` is no address: its last characters are a checksum, so copy it whole'
-refused 'deploy a b no.clar' '1: no.clar: No such file or directory'
-refused 'call a b f => maybe' '1: after `=>` comes one of ok, err, value, aborted, refused'
-refused 'call a b f => ok foo' '1: the value that is wanted is no literal: `foo` is no literal'
-refused 'call a b f\n limit 1 2' '2: a line of this kind is: limit RUNTIME READ_COUNT READ_LENGTH WRITE_COUNT WRITE_LENGTH'
-refused 'call a b f\n post stx a is u1' '2: a line of this kind is: post stx PRINCIPAL CODE AMOUNT, post ft PRINCIPAL CONTRACT TOKEN CODE AMOUNT or post nft PRINCIPAL CONTRACT TOKEN ID sent'
-refused '\xff' ' it isn'"'"'t UTF-8'
+refused '\nfoo\n' '4: `foo` begins no line of a scenario: include, name, stx, epoch, block, deploy, call, state do'
+refused 'block 7\n mode deny' '4: `mode` belongs below a deployment or a call'
+refused ' mode deny' '3: `mode` belongs below a deployment or a call'
+refused 'mode deny' '3: `mode` begins no line of a scenario: include, name, stx, epoch, block, deploy, call, state do'
+refused 'deploy a b parts/f.clar\n rebound a.b f over runtime' '4: `rebound` belongs below a block'
+refused 'block 7\n rebound a.b f over time' '4: a line of this kind is: rebound CONTRACT NAME RUNTIME READ_COUNT READ_LENGTH WRITE_COUNT WRITE_LENGTH or rebound CONTRACT NAME over DIMENSION'
+refused 'epoch 5 parts/f.clar' "3: parts/f.clar isn't JSON"
+refused 'epoch -5 parts/free.json' '3: a line of this kind is: epoch HEIGHT PATH'
+refused 'epoch 5 no.json' '3: no.json: No such file or directory'
+refused 'block -1' '3: a line of this kind is: block HEIGHT'
+refused 'name b SP000000000000000000002Q6VF79' '3: `SP000000000000000000002Q6VF79` is no address: its last characters are a checksum, so copy it whole'
+refused 'deploy a b no.clar' '3: no.clar: No such file or directory'
+refused 'call a a.b f => maybe' '3: after `=>` comes one of ok, err, value, aborted, refused'
+refused 'call a a.b f => ok foo' '3: the value that is wanted is no literal: `foo` is no literal'
+refused 'call a a.b f\n limit 1 2' '4: a line of this kind is: limit RUNTIME READ_COUNT READ_LENGTH WRITE_COUNT WRITE_LENGTH'
+refused 'call a a.b f\n post stx a is u1' '4: a line of this kind is: post stx PRINCIPAL CODE AMOUNT, post ft PRINCIPAL CONTRACT TOKEN CODE AMOUNT or post nft PRINCIPAL CONTRACT TOKEN ID sent'
+# Names, arrows, literals and amounts.
+refused 'call bnak a.b f' '3: `bnak` is no name of this scenario, and no address: did you mean `bank`?'
+refused 'call a zoe.b f' '3: `zoe` is no name of this scenario, and no address'
+refused "call a a.b f 'zoe" '3: `zoe` is no name of this scenario, and no address'
+refused "call a a.b f (list 'a 'bonk)" '3: `bonk` is no name of this scenario, and no address: did you mean `bank`?'
+refused 'call a a. f' '3: `a.` is no principal: behind the dot comes the name of a contract'
+refused 'call a a.b f = ok u1' '3: `=` is no literal: the outcome that is wanted comes after `=>`'
+refused 'call a a.b f -> ok' '3: `->` is no literal: the outcome that is wanted comes after `=>`'
+refused 'call a a.b f ok u1' '3: a value is no literal: `ok` is no literal'
+refused 'stx a 5' '3: `5` is no amount, such as u1000'
+refused 'call a a.b f\n post stx a le 5' '4: `5` is no amount, such as u1000'
+refused "state var 'a.b v foo" '3: a value is no literal: `foo` is no literal'
+# All are named; those below a line at fault aren't looked at.
+refused 'call zoe a.b f\n  limit 1\nblock x\ncall a a.b f\n  mode maybe\n  mode deny\n' '3: `zoe` is no name of this scenario, and no address' \
+    '5: a line of this kind is: block HEIGHT' '7: a line of this kind is: mode deny'
+printf '\xff' >bad.scenario
+wanted txfile bad.scenario <<'SHOWN'
+txfile: bad.scenario: it isn't UTF-8
+status 3
+SHOWN
 wanted txfile no.scenario <<'SHOWN'
 txfile: no.scenario: No such file or directory
+status 3
+SHOWN
+
+# Files that are included: their lines are as if they were written there, their paths are from their own folder.
+printf 'name owner SP000000000000000000002Q6VF78\ndeploy owner f f.clar\n' >parts/begin.scenario
+printf 'include parts/begin.scenario\nblock 7\ninclude parts/more.scenario\ncall owner owner.f go\n' >whole.scenario
+printf 'call owner owner.f on\n' >parts/more.scenario
+wanted txfile whole.scenario <<'SHOWN'
+{"version": 1, "genesis": [], "entries": [
+ {"deploy": {"sender": "SP000000000000000000002Q6VF78", "name": "f", "source": "(define-read-only (f) \"1\")\n"}},
+ {"block": {"height": 7}},
+ {"call": {"sender": "SP000000000000000000002Q6VF78", "contract": "SP000000000000000000002Q6VF78.f", "function": "on", "args": []}},
+ {"call": {"sender": "SP000000000000000000002Q6VF78", "contract": "SP000000000000000000002Q6VF78.f", "function": "go", "args": []}}
+]}
+status 0
+SHOWN
+printf '\ninclude ../ring.scenario\n' >parts/ring.scenario
+printf 'block 1\ninclude parts/ring.scenario\n' >ring.scenario
+wanted txfile ring.scenario <<'SHOWN'
+txfile: parts/ring.scenario:2: the files include each other in a ring: ring.scenario, parts/ring.scenario, ring.scenario
+status 3
+SHOWN
+printf 'include own.scenario\n' >own.scenario
+wanted txfile own.scenario <<'SHOWN'
+txfile: own.scenario:1: the files include each other in a ring: own.scenario, own.scenario
+status 3
+SHOWN
+printf 'block x\n' >parts/faulty.scenario
+printf 'include parts/faulty.scenario\ninclude parts/none.scenario\ninclude bad.scenario\ninclude\ninclude parts/more.scenario\n mode deny\n' >faulty.scenario
+wanted txfile faulty.scenario <<'SHOWN'
+txfile: parts/faulty.scenario:1: a line of this kind is: block HEIGHT
+txfile: faulty.scenario:2: parts/none.scenario: No such file or directory
+txfile: faulty.scenario:3: bad.scenario: it isn't UTF-8
+txfile: faulty.scenario:4: a line of this kind is: include PATH
+txfile: parts/more.scenario:1: `owner` is no name of this scenario, and no address
+txfile: faulty.scenario:6: `mode` belongs below a deployment or a call
 status 3
 SHOWN
 
@@ -208,38 +257,120 @@ epochs.scenario: 1 of 2 as wanted
 status 1
 SHOWN
 
-# A report that is cut off, a file that the program refuses, a program that doesn't run.
+# A deployment that is refused: where, in its source.
+printf '(define-read-only (f)\n  (+ 1 u1))\n' >parts/wrong.clar
+printf 'deploy SP000000000000000000002Q6VF78 wrong parts/wrong.clar\n' >wrong.scenario
+echo "0 deploy 'SP000000000000000000002Q6VF78.wrong refused E7 ContractRefused C3 ArgumentKind 24..32" >answer
+wanted expect wrong.scenario <<'SHOWN'
+wrong.scenario:1: entry 0, deploy wrong: wanted: done, ok or value; came: refused E7 ContractRefused C3 ArgumentKind 24..32
+wrong.scenario:1: entry 0, deploy wrong: parts/wrong.clar:2:8: C3 ArgumentKind: an argument isn't of the type that the native needs, or isn't admitted by a declared type
+wrong.scenario: 0 of 1 as wanted
+status 1
+SHOWN
+
+# Lines at fault are left out, and the others run, also where the program finds the fault; so are files.
+cat >left.scenario <<'FILE'
+name owner SP000000000000000000002Q6VF78
+deploy owner f parts/f.clar
+call bob owner.f go => ok
+  mode deny
+call owner owner.f go = ok u1
+call owner owner.f pay u1 => ok
+call owner owner.f stop => ok
+FILE
+echo 'bad file tx.json BadValue /entries/1/call/args' >first
+cat >answer <<'FILE'
+0 deploy 'SP000000000000000000002Q6VF78.f done
+  cost 2 0 0 2 41
+  deploy-bound 2 0 0 2 41
+1 call 'SP000000000000000000002Q6VF78.f stop err u2
+  cost 7 2 34 1 61
+FILE
+wanted expect left.scenario no.scenario bad.scenario empty.scenario <<'SHOWN'
+left.scenario:3: `bob` is no name of this scenario, and no address
+left.scenario:5: `=` is no literal: the outcome that is wanted comes after `=>`
+left.scenario:6: the program ended with status 5: bad file tx.json BadValue /entries/1/call/args
+left.scenario:7: entry 1, call f stop: wanted: ok; came: err u2
+left.scenario: 1 of 5 as wanted
+no.scenario: No such file or directory
+no.scenario: 0 of 1 as wanted
+bad.scenario: it isn't UTF-8
+bad.scenario: 0 of 1 as wanted
+empty.scenario: the report can't be read: byte 0: expected a line of the state
+empty.scenario: 0 of 1 as wanted
+status 3
+SHOWN
+printf 'name owner SP000000000000000000002Q6VF78\nstx owner u1\nstx owner u2\nepoch 5 parts/free.json\nepoch 4 parts/free.json\n' >others.scenario
+: >answer
+for fault in genesis/1/principal:3 epochs/1/height:5; do
+    echo "bad file tx.json BadValue /${fault%:*}" >first
+    wanted expect others.scenario <<SHOWN
+others.scenario:${fault#*:}: the program ended with status 5: bad file tx.json BadValue /${fault%:*}
+others.scenario: 0 of 1 as wanted
+status 3
+SHOWN
+done
+
+# As JSON and as JUnit.
+cat >two.scenario <<'FILE'
+name owner SP000000000000000000002Q6VF78
+deploy owner f parts/f.clar
+call owner owner.f stop => err "<&"
+call owner owner.f
+FILE
+sed 's/err u2/err "\\0"/' >answer <<'FILE'
+0 deploy 'SP000000000000000000002Q6VF78.f done
+  cost 2 0 0 2 41
+  deploy-bound 2 0 0 2 41
+1 call 'SP000000000000000000002Q6VF78.f stop err u2
+  cost 7 2 34 1 61
+FILE
+wanted expect two.scenario --json <<'SHOWN'
+{"scenarios": [
+ {"path": "two.scenario", "tests": [
+  {"place": "two.scenario:4", "name": "", "as_wanted": false, "is_fault": true, "says": ["a line of this kind is: call SENDER CONTRACT FUNCTION LITERAL.. [=> OUTCOME]"]},
+  {"place": "two.scenario:2", "name": "entry 0, deploy f", "as_wanted": true, "is_fault": false, "says": []},
+  {"place": "two.scenario:3", "name": "entry 1, call f stop", "as_wanted": false, "is_fault": false, "says": ["wanted: err \"<&\"; came: err \"\\0\""]}
+ ]}
+]}
+status 3
+SHOWN
+"$tools/expect" --junit results.xml two.scenario >shown || true
+cp results.xml shown
+compare 'tools/expect --junit' <<'SHOWN'
+<?xml version="1.0" encoding="UTF-8"?>
+<testsuites><testsuite name="two.scenario" tests="3" failures="1" errors="1"><testcase classname="two.scenario" name="two.scenario:4"><error message="a line of this kind is: call SENDER CONTRACT FUNCTION LITERAL.. [=&gt; OUTCOME]">a line of this kind is: call SENDER CONTRACT FUNCTION LITERAL.. [=&gt; OUTCOME]</error></testcase><testcase classname="two.scenario" name="two.scenario:2 entry 0, deploy f" /><testcase classname="two.scenario" name="two.scenario:3 entry 1, call f stop"><failure message="wanted: err &quot;&lt;&amp;&quot;; came: err &quot;\0&quot;">wanted: err "&lt;&amp;"; came: err "\0"</failure></testcase></testsuite></testsuites>
+SHOWN
+wanted expect --junit absent/results.xml two.scenario <<'SHOWN'
+two.scenario:4: a line of this kind is: call SENDER CONTRACT FUNCTION LITERAL.. [=> OUTCOME]
+two.scenario:3: entry 1, call f stop: wanted: err "<&"; came: err "\0"
+two.scenario: 1 of 3 as wanted
+expect: absent/results.xml can't be written: No such file or directory
+status 4
+SHOWN
+
+# A report that is cut off, a program that ends otherwise, one that doesn't run.
 head -n 3 report >answer
 wanted expect good.scenario <<'SHOWN'
 good.scenario: the report can't be read: byte 91: expected entry 1, a call
 good.scenario: 0 of 1 as wanted
-status 1
+status 3
 SHOWN
-echo 'bad file tx.json BadValue /entries/2/call/args' >answer
-echo 5 >status
+echo 9 >status
+: >answer
 wanted expect good.scenario <<'SHOWN'
-good.scenario:6: the program ended with status 5: bad file tx.json BadValue /entries/2/call/args
+good.scenario: the program ended with status 9: 
 good.scenario: 0 of 1 as wanted
-status 1
-SHOWN
-echo 'bad file tx.json BadValue /epochs/0/costs' >answer
-wanted expect epochs.scenario <<'SHOWN'
-epochs.scenario:1: the program ended with status 5: bad file tx.json BadValue /epochs/0/costs
-epochs.scenario: 0 of 1 as wanted
-status 1
+status 3
 SHOWN
 CLARITY=$folder/absent wanted expect good.scenario <<'SHOWN'
 expect: FOLDER/absent doesn't run
 status 3
 SHOWN
-wanted expect bad.scenario <<'SHOWN'
-expect: bad.scenario: it isn't UTF-8
-status 3
-SHOWN
 for tool in txfile expect; do
-    tried=$((tried + 1))
-    ended=0
-    "$top/tools/$tool" --no >shown 2>&1 || ended=$?
-    [ $ended = 2 ] && grep -q "^usage: tools/$tool" shown || { echo "differs: usage of $tool"; exit 1; }
+    misused "$tool" --no
+    misused "$tool"
 done
-echo "tools/txfile and tools/expect: $tried of $tried"
+misused txfile good.scenario good.scenario
+misused expect --costs
+summary

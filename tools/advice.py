@@ -5,6 +5,9 @@ import pathlib
 import re
 
 DOCS = pathlib.Path(__file__).resolve().parent.parent / "docs"
+# The head of an item of the language's lists, and names in it that share the marks behind them.
+NATIVES = re.compile(r"- `[^`]*`[*²]*(?:,? `[^`]*`[*²]*)*(?:, a literal)?: ")
+GROUP = re.compile(r"`[^`]*`[*²]*(?: `[^`]*`[*²]*)*")
 
 
 def quoted(found):
@@ -81,37 +84,84 @@ def of_value(refusal):
     word = refusal.split(" ")[0]
     if re.fullmatch(r"T\d+", word):
         return of_rules().get(word, [])
-    for page in ("TEXT.md", "WIRE.md"):
-        for words, cells in rows(page):
-            if words == [word] and len(cells) in (2, 3):
-                return [("why", cells[0]), ("do", cells[-1])]
+    # A text is refused at a span, a wire form at a byte or nowhere.
+    for words, cells in rows("TEXT.md" if ".." in refusal else "WIRE.md"):
+        if words == [word] and len(cells) in (2, 3):
+            return [("why", cells[0]), ("do", cells[-1])]
     return []
+
+
+class Row:
+    """What the language's lists say of a native, a keyword or a define word: the heading above, which has its charge, its items, and
+    whether it is of version 2 alone, and can be given by name."""
+
+    def __init__(self, heading, marks):
+        self.heading, self.items, self.is_of_version_2, self.is_given_by_name = heading, [], "²" in marks, "*" in marks
+
+
+@functools.cache
+def natives():
+    """The rows of the natives, the keywords and the define words, by their names."""
+    found, heading = {}, ""
+    for line in text_of("LANGUAGE.md").splitlines():
+        line = re.sub(r"\[([^\]]*)\]\([^)]*\)", r"\1", line)
+        heading = line.lstrip("# ") if line.startswith("#") else heading
+        head = NATIVES.match(line)
+        for group in GROUP.findall(head[0]) if head else []:
+            for code in re.findall(r"`\(?([^` )]*)[^`]*`", group):
+                if code != "name" and re.fullmatch(r"[a-z][a-z0-9!?/-]*|[-+*/<>]=?", code):
+                    row = found.setdefault(code, Row(heading, group.rpartition("`")[2]))
+                    row.items += [line[2:]] if line[2:] not in row.items else []
+    return found
 
 
 @functools.cache
 def reserved():
-    """The natives, from the heads of the items of the language's lists, and the names that `F4` refuses."""
+    """The natives, and the names that `F4` refuses."""
     names = list(missing())
-    left_out = names[: names.index("<trait>")] if "<trait>" in names else []
-    heads = re.findall(r"^- (`.*?):(?: |$)", text_of("LANGUAGE.md"), re.M)
-    words = {word for head in heads for word in re.findall(r"`([^`]*)`", head)}
-    return {word for word in words if re.fullmatch(r"[a-z][a-z0-9!?/-]*|[-+*/<>]=?", word)} | set(left_out)
+    return set(natives()) | set(names[: names.index("<trait>")] if "<trait>" in names else [])
+
+
+@functools.cache
+def left_out():
+    """The items of MISSING: the names and forms of each, what they are, and what to write instead. The head of a form may have other
+    words behind it."""
+    items = re.findall(r"^- (.*?): (.*); instead: (.*)$", text_of("MISSING.md"), re.M)
+    found = [(re.findall(r"`([^`]*)`", head) or [head], what, instead) for head, what, instead in items]
+    return [(words[:1] if " " in words[0] else words, what, instead) for words, what, instead in found]
 
 
 @functools.cache
 def missing():
     """The names and forms of Clarity that this engine leaves out, each with what it is and what to write instead. The names of an
-    item share its texts; the head of a form may have other words behind it."""
-    items = re.findall(r"^- (`.*?): (.*); instead: (.*)$", text_of("MISSING.md"), re.M)
-    found = [(re.findall(r"`([^`]*)`", head), [plain(what), plain(instead)]) for head, what, instead in items]
-    return {word: cells for words, cells in found for word in (words[:1] if " " in words[0] else words)}
+    item share its texts."""
+    return {word: [plain(what), plain(instead)] for words, what, instead in left_out() for word in words}
+
+
+@functools.cache
+def replacements():
+    """For each name of Clarity that is left out, what may be written in its place: natives and expressions with which its remedy
+    begins; of a line that is left out nothing."""
+    found = {}
+    for words, _, instead in left_out():
+        codes = re.findall(r"`([^`]*)`", re.match(r"(?:`[^`]*`(?:,? or |, )?)*", instead)[0])
+        known = [code for code in codes if all(word in natives() for word in re.findall(r"[^() ]+", code))]
+        found.update(dict.fromkeys(words, [""] if re.match("leave (?:it|the line) out", instead) else known))
+    return found
+
+
+def is_of_version_2(said):
+    """Whether what is said of a missing name is that version 2 has it."""
+    return any(word == "instead" and text.startswith("--clarity2") for word, text in said)
 
 
 def of_missing(rule, piece):
     """What is said of a piece of a source in place of the advice of its rule, where it is of Clarity and left out here."""
     first = re.match(r"\(?\s*([^\s(){},:\";]+)", piece)
     name = first[1] if first else ""
-    if rule == "T2" and re.match(r"<[A-Za-z]", name) or rule in ("T2", "T9") and name.count(".") > 1:
+    if rule == "T1" and piece >= "\x80":
+        name = said = next((head for head in missing() if head.startswith("characters beyond ASCII")), "")
+    elif rule == "T2" and re.match(r"<[A-Za-z]", name) or rule in ("T2", "T9") and name.count(".") > 1:
         said = "<trait>"
     elif rule == "C20" and re.match(r"\(\s*\(\s*[A-Za-z]", piece) or rule == "F2" and re.search(r"\(\s*\(\s*[A-Za-z]", piece):
         said = name = "((k v))"

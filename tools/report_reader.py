@@ -58,6 +58,12 @@ STATES = {
 }
 
 
+def line_of(kind, parts, table, first=()):
+    """The text of an event or of a line of the state."""
+    names = (*first, *table[parts[kind]])
+    return " ".join([parts[kind], *("'" * (name in PRINCIPALS) + parts[name] for name in names)])
+
+
 class Unreadable(ValueError):
     """The bytes aren't a report of that file: at the place of a byte something else was expected."""
 

@@ -1,4 +1,5 @@
 """Scenarios: readable descriptions of transaction files, with the outcome that is wanted beside each entry (docs/SCENARIOS.md)."""
+import difflib
 import json
 import pathlib
 import re
@@ -10,6 +11,7 @@ CODES = ("eq", "gt", "ge", "lt", "le")
 OUTCOMES = {"deploy": ("done", "aborted", "refused"), "call": ("ok", "err", "value", "aborted", "refused")}
 # What the words of an entry and of a line below one are called.
 SHAPES = {
+    "include": "include PATH",
     "name": "name WORD ADDRESS",
     "stx": "stx PRINCIPAL AMOUNT",
     "epoch": "epoch HEIGHT PATH",
@@ -30,14 +32,15 @@ QUOTED = re.compile(r"""u?"(?:[^"\\]|\\.)*"?|'([A-Za-z][A-Za-z0-9_-]*)""")
 
 
 class NoScenario(ValueError):
-    """A line of a scenario isn't of its form."""
+    """A file isn't a scenario, or a line of it isn't of its form."""
 
 
 class Entry:
-    """An entry of a scenario: its kind and its members in the transaction file, its place, and what is wanted of it."""
+    """An entry of a scenario: its kind and its members in the transaction file, its place, and what is wanted of it; of a deployment
+    the path of the source."""
 
-    def __init__(self, kind, members, place, outcome):
-        self.kind, self.members, self.place, self.outcome = kind, members, place, outcome
+    def __init__(self, kind, members, place, outcome, path=None):
+        self.kind, self.members, self.place, self.outcome, self.path = kind, members, place, outcome, path
         self.cost, self.events, self.rebounds = None, None, []
 
     def json(self):
@@ -45,16 +48,26 @@ class Entry:
 
 
 class Scenario:
-    """A scenario: the holders of STX, the epochs and their places, the entries, and lines that are wanted of the state, each with
-    its place."""
+    """A scenario: the holders of STX, the epochs, both with their places, the entries, lines that are wanted of the state, each with
+    its place, and the faults of lines that aren't of their form, each with its place."""
 
     def __init__(self):
-        self.names, self.genesis, self.epochs, self.epoch_places, self.entries, self.state = {}, [], [], [], [], []
+        self.names, self.entries, self.state, self.faults = {}, [], [], []
+        self.genesis, self.genesis_places, self.epochs, self.epoch_places = [], [], [], []
 
     def json(self):
         epochs = {"epochs": self.epochs} if self.epochs else {}
         entries = [entry.json() for entry in self.entries]
         return {"version": 2 if epochs else 1, "genesis": self.genesis, **epochs, "entries": entries}
+
+    def leave_out(self, member, number):
+        """Leaves out a holder, an epoch or an entry, by the member of the transaction file that has it, and gives its place; nothing
+        where there is none."""
+        lists = {"genesis": (self.genesis, self.genesis_places), "epochs": (self.epochs, self.epoch_places)}.get(member, (self.entries,))
+        if number >= len(lists[0]):
+            return None
+        left = [held.pop(number) for held in lists]
+        return left[0].place if member == "entries" else left[1]
 
 
 def words_of(line):
@@ -75,32 +88,50 @@ def words_of(line):
 
 
 class _Reader:
-    def __init__(self, path, text):
-        self.path, self.folder, self.lines = path, pathlib.Path(path).parent, text.split("\n")
-        self.made, self.number = Scenario(), 0
+    """Reads the lines of a file into a scenario. `above` has the files that include this one, the last of them directly."""
+
+    def __init__(self, path, made, above=()):
+        self.path, self.folder, self.made, self.above = str(path), pathlib.Path(path).parent, made, above
+        # The entry that indented lines belong to, and whether they are passed over, because the line above them is faulty.
+        self.number, self.entry, self.passes = 0, None, False
 
     def place(self):
         return f"{self.path}:{self.number}"
 
     def fail(self, why):
-        raise NoScenario(f"{self.place()}: {why}")
+        raise NoScenario(why)
 
-    def whole(self):
-        for line in self.lines:
+    def read(self):
+        try:
+            text = pathlib.Path(self.path).read_bytes().decode("utf-8")
+        except UnicodeDecodeError:
+            self.fail("it isn't UTF-8")
+        for line in text.split("\n"):
             self.number += 1
-            line = line.rstrip("\r")
-            words = words_of(line)
-            if not words:
-                continue
-            kind, words = words[0], words[1:]
-            is_below = line[0] in " \t"
-            if kind not in SHAPES or is_below != (kind in BELOW):
-                self.fail(f"`{kind}` begins no line {'below an entry: ' if is_below else 'of a scenario: '}"
-                          + ", ".join(k for k in SHAPES if (k in BELOW) == is_below) + " do")  # fmt: skip
-            if is_below and not (self.made.entries and (self.made.entries[-1].kind in OUTCOMES) == (kind != "rebound")):
-                self.fail(f"`{kind}` belongs below {'a block' if kind == 'rebound' else 'a deployment or a call'}")
-            getattr(self, "add_" + kind)(words)
-        return self.made
+            try:
+                self.add(line.rstrip("\r"))
+            except NoScenario as fault:
+                self.made.faults.append((self.place(), str(fault)))
+                self.passes = self.passes or line[0] not in " \t"
+
+    def add(self, line):
+        words = words_of(line)
+        is_below = line[:1] in (" ", "\t")
+        if not words or is_below and self.passes:
+            return
+        kind, words = words[0], words[1:]
+        if not is_below:
+            self.entry, self.passes = None, False
+        if kind not in SHAPES or is_below != (kind in BELOW):
+            self.fail(f"`{kind}` begins no line {'below an entry: ' if is_below else 'of a scenario: '}"
+                      + ", ".join(k for k in SHAPES if (k in BELOW) == is_below) + " do")  # fmt: skip
+        if is_below and not (self.entry and (self.entry.kind in OUTCOMES) == (kind != "rebound")):
+            self.fail(f"`{kind}` belongs below {'a block' if kind == 'rebound' else 'a deployment or a call'}")
+        getattr(self, "add_" + kind)(words)
+
+    def put(self, entry):
+        self.made.entries.append(entry)
+        self.entry = entry
 
     # Words.
 
@@ -111,7 +142,17 @@ class _Reader:
     def principal(self, word):
         """The principal of a word, which is an address or a name of the scenario, and perhaps a contract's name behind a dot."""
         first, dot, last = word.lstrip("'").partition(".")
-        return self.made.names.get(first, first) + dot + last
+        found = self.made.names.get(first, first) + dot + last
+        if not values.is_principal(found):
+            self.fail(self.no_principal(first, word))
+        return found
+
+    def no_principal(self, first, word):
+        """Why a word is no principal."""
+        if first in self.made.names or values.is_address(first):
+            return f"`{word}` is no principal: behind the dot comes the name of a contract"
+        near = difflib.get_close_matches(first, self.made.names, 1)
+        return f"`{first}` is no name of this scenario, and no address" + (f": did you mean `{near[0]}`?" if near else "")
 
     def literal(self, text):
         """A literal with the names of the scenario behind `'` replaced."""
@@ -121,6 +162,25 @@ class _Reader:
             return "'" + self.made.names[name] if name in self.made.names else found.group()
 
         return QUOTED.sub(replaced, text)
+
+    def value(self, text, called="a value"):
+        """The literal of a word that has to be one."""
+        literal = self.literal(text)
+        try:
+            values.only(literal)
+        except values.NoLiteral as fault:
+            unknown = [name for name in QUOTED.findall(text) if name and name not in self.made.names and not values.is_address(name)]
+            if re.fullmatch(r"[-=~<>]+", text):
+                self.fail(f"`{text}` is no literal: the outcome that is wanted comes after `=>`")
+            if unknown:
+                self.fail(self.no_principal(unknown[0], unknown[0]))
+            self.fail(f"{called} is no literal: {fault.why}")
+        return literal
+
+    def amount(self, word):
+        if not re.fullmatch(r"u[0-9]+", word):
+            self.fail(f"`{word}` is no amount, such as u1000")
+        return word
 
     def printed(self, text):
         """A literal as the program prints it; another word unchanged."""
@@ -140,10 +200,7 @@ class _Reader:
         if wanted[0] in ("done", "ok", "err", "value"):
             self.need(len(wanted) <= (1 if wanted[0] == "done" else 2), kind)
             for literal in wanted[1:]:
-                try:
-                    values.only(self.literal(literal))
-                except values.NoLiteral as fault:
-                    self.fail(f"the value that is wanted is no literal: {fault.why}")
+                self.value(literal, "the value that is wanted")
         return words, " ".join([wanted[0], *map(self.printed, wanted[1:])])
 
     def numbers(self, kind, words):
@@ -155,8 +212,8 @@ class _Reader:
         self.need(bool(words) and words[0] in table, kind)
         names = (*first, *table[words[0]])
         self.need(len(words) == 1 + len(names), kind)
-        read = {name: self.principal if name in PRINCIPALS else self.printed for name in names}
-        return {kind: words[0]} | {name: read[name](word) for name, word in zip(names, words[1:])}
+        read = {"amount": self.amount, **dict.fromkeys(("value", "key", "id"), self.value), **dict.fromkeys(PRINCIPALS, self.principal)}
+        return {kind: words[0]} | {name: self.printed(read.get(name, str)(word)) for name, word in zip(names, words[1:])}
 
     def held(self, path):
         """The text of a file, looked for from the folder of the scenario."""
@@ -169,6 +226,19 @@ class _Reader:
 
     # Lines of a scenario.
 
+    def add_include(self, words):
+        self.need(len(words) == 1, "include")
+        path, files = self.folder / words[0], [*self.above, self.path]
+        ring = [file for file in files if pathlib.Path(file).resolve() == path.resolve()]
+        if ring:
+            self.fail("the files include each other in a ring: " + ", ".join([*files[files.index(ring[0]) :], ring[0]]))
+        try:
+            _Reader(path, self.made, files).read()
+        except NoScenario as fault:
+            self.fail(f"{path}: {fault}")
+        except OSError as fault:
+            self.fail(f"{path}: {fault.strerror}")
+
     def add_name(self, words):
         self.need(len(words) == 2 and re.fullmatch(r"[A-Za-z][A-Za-z0-9_-]*", words[0]), "name")
         if not values.is_principal(words[1].lstrip("'")):
@@ -177,7 +247,8 @@ class _Reader:
 
     def add_stx(self, words):
         self.need(len(words) == 2, "stx")
-        self.made.genesis.append({"principal": self.principal(words[0]), "stx": words[1]})
+        self.made.genesis.append({"principal": self.principal(words[0]), "stx": self.amount(words[1])})
+        self.made.genesis_places.append(self.place())
 
     def add_epoch(self, words):
         self.need(len(words) == 2 and re.fullmatch(r"[0-9]{1,20}", words[0]), "epoch")
@@ -191,19 +262,19 @@ class _Reader:
 
     def add_block(self, words):
         self.need(len(words) == 1 and re.fullmatch(r"[0-9]{1,20}", words[0]), "block")
-        self.made.entries.append(Entry("block", {"height": int(words[0])}, self.place(), None))
+        self.put(Entry("block", {"height": int(words[0])}, self.place(), None))
 
     def add_deploy(self, words):
         words, outcome = self.outcome("deploy", words)
         self.need(len(words) == 3, "deploy")
         members = {"sender": self.principal(words[0]), "name": words[1], "source": self.held(words[2])}
-        self.made.entries.append(Entry("deploy", members, self.place(), outcome))
+        self.put(Entry("deploy", members, self.place(), outcome, str(self.folder / words[2])))
 
     def add_call(self, words):
         words, outcome = self.outcome("call", words)
         self.need(len(words) >= 3, "call")
         members = {"sender": self.principal(words[0]), "contract": self.principal(words[1]), "function": words[2]}
-        self.made.entries.append(Entry("call", members | {"args": list(map(self.literal, words[3:]))}, self.place(), outcome))
+        self.put(Entry("call", members | {"args": list(map(self.value, words[3:]))}, self.place(), outcome))
 
     def add_state(self, words):
         self.made.state.append((self.place(), self.parts("state", words, STATES, ())))
@@ -211,15 +282,15 @@ class _Reader:
     # Lines below an entry.
 
     def add_limit(self, words):
-        self.made.entries[-1].members["limit"] = self.numbers("limit", words)
+        self.entry.members["limit"] = self.numbers("limit", words)
 
     def add_mode(self, words):
         self.need(words in (["deny"], ["allow"]), "mode")
-        self.made.entries[-1].members["mode"] = words[0]
+        self.entry.members["mode"] = words[0]
 
     def add_clarity(self, words):
-        self.need(words in (["1"], ["2"]) and self.made.entries[-1].kind == "deploy", "clarity")
-        self.made.entries[-1].members["clarity"] = int(words[0])
+        self.need(words in (["1"], ["2"]) and self.entry.kind == "deploy", "clarity")
+        self.entry.members["clarity"] = int(words[0])
 
     def add_post(self, words):
         count = {"stx": 4, "ft": 6, "nft": 6}.get(words[0] if words else None)
@@ -229,30 +300,39 @@ class _Reader:
             found |= {"contract": self.principal(words[2]), "token": words[3]}
         if words[0] == "nft":
             self.need(words[5] in ("sent", "kept"), "post")
-            found |= {"id": self.literal(words[4]), "sent": words[5] == "sent"}
+            found |= {"id": self.value(words[4], "the ID"), "sent": words[5] == "sent"}
         else:
             self.need(words[-2] in CODES, "post")
-            found |= {"code": words[-2], "amount": words[-1]}
-        self.made.entries[-1].members.setdefault("post", []).append({words[0]: found})
+            found |= {"code": words[-2], "amount": self.amount(words[-1])}
+        self.entry.members.setdefault("post", []).append({words[0]: found})
 
     def add_cost(self, words):
-        self.made.entries[-1].cost = self.numbers("cost", words)
+        self.entry.cost = self.numbers("cost", words)
 
     def add_event(self, words):
-        entry = self.made.entries[-1]
+        entry = self.entry
         entry.events = (entry.events or []) + [self.parts("event", words, EVENTS, ("contract",))]
 
     def add_rebound(self, words):
         is_over = len(words) == 4 and words[2] == "over" and words[3] in DIMENSIONS
         self.need(is_over or len(words) == 7, "rebound")
         reach = {"over": words[3]} if is_over else {"bound": self.numbers("rebound", words[2:])}
-        self.made.entries[-1].rebounds.append({"contract": self.principal(words[0]), "function": words[1]} | reach)
+        self.entry.rebounds.append({"contract": self.principal(words[0]), "function": words[1]} | reach)
 
 
 def read(path):
-    """The scenario in the file under this path. Raises NoScenario, and OSError where it can't be read."""
+    """The scenario in the file under this path, with the faults of its lines. Raises NoScenario, and OSError where it can't be read."""
+    made = Scenario()
+    _Reader(path, made).read()
+    return made
+
+
+def whole(path):
+    """The scenario in the file under this path. Raises NoScenario with a line for each fault, and OSError where it can't be read."""
     try:
-        text = pathlib.Path(path).read_bytes().decode("utf-8")
-    except UnicodeDecodeError:
-        raise NoScenario(f"{path}: it isn't UTF-8") from None
-    return _Reader(path, text).whole()
+        made = read(path)
+    except NoScenario as fault:
+        raise NoScenario(f"{path}: {fault}") from None
+    if made.faults:
+        raise NoScenario("\n".join(f"{place}: {why}" for place, why in made.faults))
+    return made

@@ -1,13 +1,11 @@
-"""Items of a source with their places, and what its text alone says of an expression: where its part is that breaks a rule.
+"""What the text of a source alone says of an expression: where its part is that breaks a rule.
 
-The texts of sources are taken byte by byte, one character each, so places are those that the program prints. The reader is for texts
-that the program could read; what it can't read has no items. What is known here of types is their kind alone ("uint", "response"),
-or nothing.
+What is known here of types is their kind alone ("uint", "response"), or nothing.
 """
 import re
 
-BLANK = re.compile(r"(?:[ \t\r\n]|;;[^\r\n]*)*")
-TOKEN = re.compile(r'u?"(?:[^"\\]|\\.)*"|[(){},:]|[^ \t\r\n(){},:";]+', re.S)
+from items import FUNCTIONS
+
 NUMBERS = ("int", "uint")
 SEQUENCES = ("list", "buff", "string-ascii", "string-utf8")
 TEXTS = ("buff", "string-ascii", "string-utf8")
@@ -107,65 +105,8 @@ ONE_NUMBER = ("+", "-", "*", "/", "mod", "pow", "xor", "bit-and", "bit-or", "bit
 LITERALS = (
     ("0x", "buff"), (r"-?[0-9]", "int"), (r"u[0-9]+\Z", "uint"), ('"', "string-ascii"), ('u"', "string-utf8"), (r"['.]", "principal"),
 )  # fmt: skip
-FUNCTIONS = ("define-public", "define-read-only", "define-private")
 # Natives whose value is that of their last expression, and those whose value is of the kind of one argument.
 LAST = ("let", "begin", "as-contract", "print")
-
-
-class Item:
-    """An item of a source: a token with its text; a list with its items; or a tuple, whose items are its values."""
-
-    def __init__(self, start, text=None, items=None, opening=None):
-        self.start, self.end, self.text, self.items, self.opening = start, None, text, items, opening
-
-    def is_list(self):
-        return self.opening == "("
-
-    def head(self):
-        """The operator of a list, or nothing."""
-        return self.items[0].text if self.is_list() and self.items else None
-
-
-def items_of(text):
-    """The items of a source, or nothing where its text can't be read."""
-    top = Item(0, items=[])
-    open_items, at = [top], BLANK.match(text).end()
-    while at < len(text):
-        found = TOKEN.match(text, at)
-        if not found:
-            return None
-        token, begin = found.group(), at
-        at = found.end()
-        if token in "({":
-            item = Item(begin, items=[], opening=token)
-            open_items[-1].items.append(item)
-            open_items.append(item)
-        elif token in ")}":
-            if open_items[-1].opening != {")": "(", "}": "{"}[token]:
-                return None
-            open_items.pop().end = at
-        elif token == ":":
-            # What comes before it is a key, and no part that is evaluated.
-            if open_items[-1].items:
-                open_items[-1].items.pop()
-        elif token != ",":
-            item = Item(begin, text=token)
-            item.end = at
-            open_items[-1].items.append(item)
-        at = BLANK.match(text, at).end()
-    return top.items if len(open_items) == 1 else None
-
-
-def path_to(items, start, end):
-    """The items from the top down to the one with this span; none where there is no such item."""
-    for item in items or []:
-        if (item.start, item.end) == (start, end):
-            return [item]
-        if item.start <= start and end <= item.end and item.items:
-            below = path_to(item.items, start, end)
-            if below:
-                return [item, *below]
-    return []
 
 
 class Contract:
@@ -265,26 +206,30 @@ class Contract:
             return [item.items[place] for place in ((2,) if len(item.items) == 5 else (2, 4)) if place < len(item.items)]
         return []
 
-    def bound_above(self, path):
-        """The names that are bound at the last item of a path, with the kinds of their values."""
-        bound = self.bound_by_params(path[0]) if path else {}
+    def binders_above(self, path):
+        """The names that are bound at the last item of a path, as items, each with its type, its expression or nothing, and by what it
+        is bound: a parameter, a `let` or a `match`."""
+        found = [(name, given, "parameter") for name, given in self.params(path[0])] if path else []
         for place, (item, below) in enumerate(zip(path, path[1:])):
+            names = self.names_of(item)
             if item.head() == "let":
-                names = self.bound_by(item, bound)
+                pairs = [pair for pair in item.items[1].items if pair.items and pair.items[0] in names] if names else []
                 if below is item.items[1]:
-                    names = self.bound_before(below, path[place + 2 :], names)
-                bound = bound | names
+                    # In a binding those before it are bound.
+                    pairs = [pair for pair in pairs if path[place + 2 :] and pair.end <= path[place + 2].start]
+                found += [(pair.items[0], pair.items[1], "let") for pair in pairs]
             elif item.head() == "match":
                 # A name is bound in the expression right after it.
                 here = item.items.index(below)
-                bound = bound | {name.text: None for name in self.names_of(item) if item.items.index(name) == here - 1}
-        return bound
+                found += [(name, None, "match") for name in names if item.items.index(name) == here - 1]
+        return found
 
-    def bound_before(self, bindings, path, names):
-        """Of the names that a `let` binds those that are bound in its binding at the head of the path: those before it."""
-        before = bindings.items[: bindings.items.index(path[0])] if path else []
-        earlier = {pair.items[0].text for pair in before if pair.items}
-        return {name: kind for name, kind in names.items() if name in earlier}
+    def bound_above(self, path):
+        """The names that are bound at the last item of a path, with the kinds of their values."""
+        bound = {}
+        for name, given, by in self.binders_above(path):
+            bound[name.text] = kind_of_type(given) if by == "parameter" else self.kind(given, bound) if by == "let" else None
+        return bound
 
 
 def kind_of_type(item):

@@ -27,6 +27,12 @@ def entries_of(held):
     return found
 
 
+def laid_out(file):
+    """The text of a file, with a line for each holder, each epoch and each entry."""
+    rows = {name: ",\n ".join(map(json.dumps, members)) for name, members in file.items() if name != "version"}
+    return f'{{"version": {file["version"]}, ' + ", ".join(f'"{name}": [\n {row}\n]' if row else f'"{name}": []' for name, row in rows.items()) + "}"
+
+
 def contract_of(kind, members):
     """The contract that an entry deploys or calls."""
     return f"{members['sender']}.{members['name']}" if kind == "deploy" else members["contract"]

@@ -10,7 +10,7 @@ import re
 ALPHABET = "0123456789ABCDEFGHJKMNPQRSTVWXYZ"
 NAME = re.compile(r"(?:[A-Za-z][A-Za-z0-9\-_!?+<>=/*]*|[-+=/*]|<=|>=|<|>)\Z")
 CONTRACT_NAME = re.compile(r"[A-Za-z][A-Za-z0-9\-_]{0,127}\Z")
-BLANK = re.compile(r"(?:[ \t\r\n]|;;[^\r\n]*)*")
+BLANK = re.compile(r"(?:[ \t\r\n]|;;[^\n]*)*")
 RUN = re.compile(r'[^ \t\r\n(){},:";]+')
 STRING = re.compile(r'"(?:[^"\\]|\\.)*"', re.S)
 ESCAPES = {'"': '"', "\\": "\\", "n": "\n", "r": "\r", "t": "\t", "0": "\0"}
